@@ -1,7 +1,7 @@
 -- cases: proofs/Cases/Look.antt
 -- How far past its tokens a lexer reads, mode by mode.
 use Rattle.std.specs.Prelude.{◌≡◌, ◌⊎◌, ℕ, ◌<◌, ◌≤◌, Option, Some, None, Result, Ok, Err}
-use Rattle.lalrpop_book.specs.Winners.{Matched}
+use Rattle.lalrpop_hir.specs.Winners.{Matched}
 use Rattle.lalrpop_dfa.specs.Lookahead.{IsLookahead}
 use Rattle.lalrpop_modes.specs.Modes.{ModeRules, trees_in}
 use Rattle.bajofeki_c.specs.declared.held.BuildError.{BuildError}

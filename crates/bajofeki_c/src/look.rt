@@ -1,6 +1,6 @@
 //! How far past its tokens a lexer reads, mode by mode.
 ghost use Rattle.std.specs.Prelude.{◌≡◌, ◌<◌};
-ghost use Rattle.lalrpop_book.specs.Winners.{Matched};
+ghost use Rattle.lalrpop_hir.specs.Winners.{Matched};
 ghost use Rattle.lalrpop_dfa.specs.Lookahead.{IsLookahead};
 ghost use Rattle.lalrpop_modes.specs.Modes.{trees_in};
 ghost use Rattle.bajofeki_c.specs.Look.{IsLookOf, mode_count};

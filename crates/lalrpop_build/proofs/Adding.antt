@@ -14,24 +14,24 @@ use Rattle.std.proofs.lemmas.Option.{slice_get_within}
 use Rattle.lalrpop_nfa.specs.Graph.{Graph}
 use Rattle.lalrpop_dfa.specs.Automata.{Item}
 use Rattle.lalrpop_dfa.specs.Kernels.{Kernels, IsNumberOf, added}
-use Rattle.lalrpop_book.proofs.Pushed.{pushed_cases, pushed_keeps, pushed_last}
+use Rattle.lalrpop_hir.proofs.Pushed.{pushed_cases, pushed_keeps, pushed_last}
 use Rattle.lalrpop_nfa.specs.Compiled.{start_state}
 use Rattle.lalrpop_build.specs.Internal.Subsets.{starts_from, no_graph}
 use Rattle.std.specs.Cmp.Lexicographic.{slice_cmp}
-use Rattle.lalrpop_dfa.specs.Internal.Ascending.{item_cmp}
+use Rattle.lalrpop_dfa.specs.Ascending.{item_cmp}
 use Rattle.lalrpop_build.specs.Internal.Transitions.{transition_cmp}
 use Rattle.lalrpop_build.specs.Internal.ClassTransitions.{transitions_cmp}
 use Rattle.lalrpop_build.specs.declared.transitions.Transition.{Transition}
 use Rattle.lalrpop_build.specs.declared.build.scratch.Transitions.{Transitions}
-use Rattle.lalrpop_dfa.specs.Internal.ItemOrder.{rejects_cmp, hash_of, items_cmp, set_cmp}
+use Rattle.lalrpop_dfa.specs.ItemOrder.{rejects_cmp, hash_of, items_cmp, set_cmp}
 use Rattle.lalrpop_dfa.specs.Internal.OrderLaws.{item_total, set_total}
-use Rattle.lalrpop_dfa.specs.Internal.LiveItems.{live_of}
+use Rattle.lalrpop_dfa.specs.LiveItems.{live_of}
 use Rattle.lalrpop_build.specs.Internal.Stage.{Extends}
 use Rattle.lalrpop_build.specs.Internal.Expansion.{AddedTo}
 use Rattle.lalrpop_build.specs.Internal.Given.{AreAutomata, AreItemsOf}
-use Rattle.lalrpop_book.proofs.Members.{Has, has_from}
+use Rattle.lalrpop_hir.proofs.Members.{Has, has_from}
 use Rattle.lalrpop_build.proofs.Targets.{compiled_at}
-use Rattle.lalrpop_book.proofs.Orders.{then_equal, nat_exact, lists_exact}
+use Rattle.lalrpop_hir.proofs.Orders.{then_equal, nat_exact, lists_exact}
 use Rattle.lalrpop_dfa.proofs.ItemTies.{item_exact}
 
 pub set_exact : CmpEqualImpliesEq set_cmp

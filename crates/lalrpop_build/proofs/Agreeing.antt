@@ -5,11 +5,11 @@ use Rattle.std.specs.List.{slice_get}
 use Rattle.std.specs.Str.{chars}
 use Rattle.std.proofs.lemmas.List.{take_at, nil_from_length}
 use Rattle.std.proofs.lemmas.Option.{same_Some, none-some}
-use Rattle.lalrpop_book.specs.Tree.{Tree}
-use Rattle.lalrpop_book.specs.Language.{Matches}
-use Rattle.lalrpop_book.specs.Prefix.{IsPrefix, IsLongestOf}
-use Rattle.lalrpop_book.specs.Winners.{TreeMatches, Matched}
-use Rattle.lalrpop_book.specs.Longest.{IsLongest}
+use Rattle.lalrpop_hir.specs.Tree.{Tree}
+use Rattle.lalrpop_hir.specs.Language.{Matches}
+use Rattle.lalrpop_hir.specs.Prefix.{IsPrefix, IsLongestOf}
+use Rattle.lalrpop_hir.specs.Winners.{TreeMatches, Matched}
+use Rattle.lalrpop_hir.specs.Longest.{IsLongest}
 use Rattle.lalrpop_build.specs.Agree.{Agree}
 
 -- a list of one tree has it at the index 0, and no other

@@ -5,25 +5,25 @@ use Rattle.std.specs.List.{Contains}
 use Rattle.std.proofs.lemmas.Option.{slice_get_within}
 use Rattle.std.proofs.lemmas.List.{length_push, get_or_push, get_or_append_left}
 use Rattle.std.proofs.lemmas.Bool.{cases_lt}
-use Rattle.lalrpop_book.specs.Tree.{Tree}
+use Rattle.lalrpop_hir.specs.Tree.{Tree}
 use Rattle.lalrpop_nfa.specs.Graph.{Graph}
-use Rattle.lalrpop_book.specs.Clash.{NoClash}
-use Rattle.lalrpop_book.specs.Clashes.{Entry, AreTied, AreClashes}
+use Rattle.lalrpop_hir.specs.Clash.{NoClash}
+use Rattle.lalrpop_hir.specs.Clashes.{Entry, AreTied, AreClashes}
 use Rattle.lalrpop_dfa.specs.Automata.{Item, AreCompiled}
-use Rattle.lalrpop_dfa.specs.Internal.Ascending.{AreAscendingItems}
+use Rattle.lalrpop_dfa.specs.Ascending.{AreAscendingItems}
 use Rattle.lalrpop_build.specs.Internal.Given.{AreItemsOf}
 use Rattle.lalrpop_build.proofs.Builds.{nth_holds}
 use Rattle.lalrpop_dfa.specs.Dfa.{Row}
 use Rattle.lalrpop_build.specs.Internal.BreadthFirst.{IsBreadthFirst, nth, value_of, word}
 use Rattle.lalrpop_build.specs.Internal.Expansion.{IsBuiltTo, IsClashOf}
-use Rattle.lalrpop_book.specs.Report.{IsFaultOf}
-use Rattle.lalrpop_book.specs.declared.error.DfaConstructionError.{DfaConstructionError}
-use Rattle.lalrpop_book.specs.declared.error.DfaConstructionError.TheVariants.{NfaConstructionError as Refused, Ambiguity, OutOfMemory}
+use Rattle.lalrpop_hir.specs.Report.{IsFaultOf}
+use Rattle.lalrpop_hir.specs.declared.error.DfaConstructionError.{DfaConstructionError}
+use Rattle.lalrpop_hir.specs.declared.error.DfaConstructionError.TheVariants.{NfaConstructionError as Refused, Ambiguity, OutOfMemory}
 use Rattle.lalrpop_build.specs.Internal.Built.{subset_automaton, IsStrongestIn}
 use Rattle.lalrpop_build.proofs.Origins.{word_is_word}
 use Rattle.lalrpop_build.proofs.Dead.{dead_stays}
 use Rattle.lalrpop_build.proofs.SetWinners.{dead_accepts_none, strongest_iff}
-use Rattle.lalrpop_book.proofs.Members.{has_from, contains_from, has_at, at_has, has_cases}
+use Rattle.lalrpop_hir.proofs.Members.{has_from, contains_from, has_at, at_has, has_cases}
 use Rattle.lalrpop_build.specs.Internal.Ties.{AreAscending, AreTiesTo, HasTiesTo, AreOwn}
 use Rattle.lalrpop_build.proofs.ClashListLaws.{order_from, clashes_from}
 use Rattle.lalrpop_build.proofs.ClashLists.{AreClashesOf, AreListedTo, AreNew, listed_all, listed_more}

@@ -12,7 +12,7 @@ use Rattle.std.proofs.lemmas.List.Elements.{Contains-append_left, Contains-push,
 use Rattle.std.proofs.lemmas.Map.Keys.{Less-from_sorted}
 use Rattle.lalrpop_nfa.specs.Graph.{Graph}
 use Rattle.lalrpop_dfa.specs.Automata.{Item}
-use Rattle.lalrpop_dfa.specs.Internal.Ascending.{item_cmp, AreAscendingItems}
+use Rattle.lalrpop_dfa.specs.Ascending.{item_cmp, AreAscendingItems}
 use Rattle.lalrpop_build.specs.Internal.Given.{IsItemOf, AreAutomata, AreItemsOf}
 use Rattle.lalrpop_nfa.specs.Compiled.{accept_state}
 use Rattle.lalrpop_build.specs.Internal.Subsets.{is_dead}
@@ -22,8 +22,8 @@ use Rattle.lalrpop_build.specs.Internal.Built.{IsStrongestIn, IsKindOf, IsTied}
 use Rattle.lalrpop_dfa.specs.declared.Kind.TheVariants.{Accepts, Neither}
 use Rattle.lalrpop_build.specs.declared.build.best.Best.{Best}
 use Rattle.lalrpop_nfa.specs.declared.edge.StateKind.TheVariants.{Accept}
-use Rattle.lalrpop_book.proofs.Contained.{contains_none}
-use Rattle.lalrpop_book.proofs.Members.{Has, has_from, contains_from, has_filter, filter_has, has_map, map_has, has_cases, has_at}
+use Rattle.lalrpop_hir.proofs.Contained.{contains_none}
+use Rattle.lalrpop_hir.proofs.Members.{Has, has_from, contains_from, has_filter, filter_has, has_map, map_has, has_cases, has_at}
 use Rattle.lalrpop_build.specs.Internal.Ties.{AreAscending}
 use Rattle.lalrpop_build.proofs.Targets.{compiled_at}
 

@@ -7,13 +7,13 @@ use Rattle.std.proofs.lemmas.Bool.{cases_lt, cases_Bool, lt-ltb, le-ltb, ltb-tru
 use Rattle.std.proofs.lemmas.List.{get_or_default, map-append, append-nil}
 use Rattle.std.proofs.lemmas.List.Elements.{Contains-get_or, Contains-append_cases}
 use Rattle.std.proofs.lemmas.Option.{slice_get-get_or, slice_get_cases, get_or_from_slice_get}
-use Rattle.lalrpop_book.specs.Range.{Range}
+use Rattle.lalrpop_hir.specs.Range.{Range}
 use Rattle.lalrpop_nfa.specs.Graph.{Graph}
 use Rattle.lalrpop_nfa.specs.Partition.{IsCovered, IsPartition}
 use Rattle.lalrpop_nfa.proofs.Cells.{BlocksBelow, IsBoundary, parts_none, parts_kept, parts_passed, zero_is_boundary}
 use Rattle.lalrpop_nfa.proofs.Partition.{IsPartition-from_parts}
-use Rattle.lalrpop_alphabet.specs.Internal.Alphabet.{AreCells, IsInCell, IsFirstOf}
-use Rattle.lalrpop_alphabet.specs.declared.Cell.{Cell}
+use Rattle.lalrpop_build.specs.Internal.Alphabet.{AreCells, IsInCell, IsFirstOf}
+use Rattle.lalrpop_build.specs.declared.alphabet.Cell.{Cell}
 use Rattle.lalrpop_dfa.specs.Automata.{Item}
 use Rattle.lalrpop_build.specs.Items.{IsLeaving}
 use Rattle.lalrpop_build.specs.Internal.Scratch.{IsTaken, AreTaken}
@@ -22,7 +22,7 @@ use Rattle.lalrpop_build.specs.Internal.Transitions.{IsTransition, AreTransition
 use Rattle.lalrpop_build.specs.declared.transitions.Transition.{Transition}
 use Rattle.lalrpop_build.specs.declared.build.scratch.Transitions.{Transitions}
 use Rattle.lalrpop_build.specs.Internal.Blocks.{Block, no_cell, cell_at, first_of, has_edges, between, block_to, blocks_to, blocks_of}
-use Rattle.lalrpop_book.proofs.Contained.{contains_none, contains_only}
+use Rattle.lalrpop_hir.proofs.Contained.{contains_none, contains_only}
 use Rattle.lalrpop_build.proofs.WorklistSteps.{nil_from}
 
 -- a cell that is read at a boundary

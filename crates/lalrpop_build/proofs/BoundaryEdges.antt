@@ -4,11 +4,11 @@ use Rattle.std.specs.Prelude.{slice_get, Bool, IsTrue, ◌↔◌}
 use Rattle.std.specs.List.{Contains}
 use Rattle.std.proofs.lemmas.Bool.{cases_lt}
 use Rattle.std.proofs.lemmas.List.{length_push}
-use Rattle.lalrpop_book.specs.Range.{Range}
+use Rattle.lalrpop_hir.specs.Range.{Range}
 use Rattle.lalrpop_nfa.specs.Graph.{Graph}
 use Rattle.lalrpop_nfa.specs.Partition.{IsPartition}
-use Rattle.lalrpop_alphabet.specs.Internal.Alphabet.{AreCells}
-use Rattle.lalrpop_alphabet.specs.declared.Cell.{Cell}
+use Rattle.lalrpop_build.specs.Internal.Alphabet.{AreCells}
+use Rattle.lalrpop_build.specs.declared.alphabet.Cell.{Cell}
 use Rattle.lalrpop_dfa.specs.Automata.{Item}
 use Rattle.lalrpop_build.specs.Internal.Given.{AreAutomata}
 use Rattle.lalrpop_build.specs.Internal.Subsets.{move}
@@ -18,7 +18,7 @@ use Rattle.lalrpop_build.specs.Internal.Blocks.{Block, has_edges, blocks_to, blo
 use Rattle.lalrpop_build.specs.Internal.Expansion.{AddedTo, IsEdging}
 use Rattle.lalrpop_build.specs.Internal.ClassTransitions.{HaveTransitions}
 use Rattle.lalrpop_build.specs.declared.build.scratch.Transitions.{Transitions}
-use Rattle.lalrpop_book.proofs.Members.{has_at, contains_from}
+use Rattle.lalrpop_hir.proofs.Members.{has_at, contains_from}
 use Rattle.lalrpop_build.proofs.Builds.{edging_more}
 use Rattle.lalrpop_build.proofs.BoundaryBlocks.{IsBefore, block, block_kept, block_passed, block_stands}
 use Rattle.lalrpop_build.proofs.ClassCache.{range_at}

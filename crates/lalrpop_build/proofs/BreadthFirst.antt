@@ -1,8 +1,8 @@
 -- Laws of a breadth-first numbering.
 use Rattle.std.proofs.Common.{◌≡◌, ℕ, ◌<◌, ◌≤◌, ◌⊎◌, inl, inr, ⊎_elim, List, [], ◌∷◌, ◌++◌, length, refl, sym, ap, ◌∙◌, arith, Bool, true, zero, suc}
 use Rattle.std.proofs.lemmas.Bool.{cases_order, cases_lt}
-use Rattle.lalrpop_book.specs.Word.{Shortlex}
-use Rattle.lalrpop_book.proofs.Words.{Shortlex-irreflexive, Shortlex-transitive}
+use Rattle.lalrpop_hir.specs.Word.{Shortlex}
+use Rattle.lalrpop_hir.proofs.Words.{Shortlex-irreflexive, Shortlex-transitive}
 use Rattle.lalrpop_build.specs.Internal.BreadthFirst.{ShortlexAtMost, Automaton, after, DeadStays, nth, from_of, value_of, NotAfter, Covered, IsBreadthFirst, word_of, word, Settled, IsLeast}
 use Rattle.lalrpop_build.proofs.WordOrder.{less_push, less_last, less_longer, nil_less, at_most_push, at_most_less, less_at_most, from_the_end}
 use Rattle.lalrpop_build.proofs.Origins.{fuel_enough, word_step}

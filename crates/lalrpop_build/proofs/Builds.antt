@@ -5,30 +5,30 @@ use Rattle.std.specs.List.{Contains}
 use Rattle.std.proofs.lemmas.List.{take_more, take_all, length_push, map-append}
 use Rattle.std.proofs.Math.Pow.{pow_mono}
 use Rattle.std.proofs.lemmas.Option.{slice_get_cases, slice_get_within, slice_get-get_or, get_or_from_slice_get}
-use Rattle.lalrpop_book.specs.Range.{Range}
-use Rattle.lalrpop_book.specs.Tree.{Tree}
+use Rattle.lalrpop_hir.specs.Range.{Range}
+use Rattle.lalrpop_hir.specs.Tree.{Tree}
 use Rattle.lalrpop_hir.specs.Size.{size}
 use Rattle.lalrpop_nfa.specs.Graph.{Graph}
 use Rattle.lalrpop_nfa.specs.Partition.{IsPartition}
 use Rattle.lalrpop_dfa.specs.Dfa.{Row, RecognizesAll, IsWellFormed}
-use Rattle.lalrpop_book.specs.Clash.{NoClash, IsClash}
+use Rattle.lalrpop_hir.specs.Clash.{NoClash, IsClash}
 use Rattle.lalrpop_dfa.specs.Automata.{Item, AreCompiled}
 use Rattle.lalrpop_build.specs.Items.{IsLeaving, HoldsItems, OthersReject, IsInWordOrder}
-use Rattle.lalrpop_dfa.specs.Internal.Ascending.{AreAscendingItems}
+use Rattle.lalrpop_dfa.specs.Ascending.{AreAscendingItems}
 use Rattle.lalrpop_build.specs.Internal.Subsets.{move, all_items}
 use Rattle.lalrpop_build.specs.Internal.BreadthFirst.{AreEarlier, Automaton, IsBreadthFirst, Added, nth, value_of, from_of, word}
 use Rattle.lalrpop_build.specs.Internal.Built.{subset_automaton, IsKindOf, IsRowOf, IsTied}
 use Rattle.lalrpop_build.specs.Internal.Given.{AreAutomata, AreItemsOf}
 use Rattle.lalrpop_build.specs.Internal.Expansion.{AddedTo, AreSmall, AreTested, Keep, IsEdging, IsEdged, IsBuiltTo, IsTieOf, IsClashAt, IsClashOf}
-use Rattle.lalrpop_book.specs.declared.error.DfaConstructionError.{DfaConstructionError}
-use Rattle.lalrpop_book.specs.declared.error.DfaConstructionError.TheVariants.{NfaConstructionError as Refused, Ambiguity, OutOfMemory}
+use Rattle.lalrpop_hir.specs.declared.error.DfaConstructionError.{DfaConstructionError}
+use Rattle.lalrpop_hir.specs.declared.error.DfaConstructionError.TheVariants.{NfaConstructionError as Refused, Ambiguity, OutOfMemory}
 use Rattle.lalrpop_build.proofs.Sets.{first_set_ascends, first_set_items, move_ascends, move_items}
 use Rattle.lalrpop_build.proofs.RowSteps.{added_keeps, added_is, taken_range, taken_other, tests_lead_more, tests_lead_kept, run_small}
 use Rattle.lalrpop_build.proofs.BuiltTable.{built_stands}
 use Rattle.lalrpop_build.proofs.TiedClash.{tied_is_clash_after_rows}
 use Rattle.lalrpop_dfa.specs.Counts.{state_bound}
 use Rattle.lalrpop_build.proofs.StateCount.{states_bound, items_bound}
-use Rattle.lalrpop_book.proofs.Pushed.{pushed_cases}
+use Rattle.lalrpop_hir.proofs.Pushed.{pushed_cases}
 
 pub added_from : (m : Automaton (List Item)) (sets : List (List Item)) (origins : List (ℕ × ℕ)) (n v : ℕ) (t : List Item) (j : ℕ) (sets2 : List (List Item)) (origins2 : List (ℕ × ℕ))
     → AddedTo sets origins n v t j sets2 origins2 → Added m sets origins n v t j sets2 origins2

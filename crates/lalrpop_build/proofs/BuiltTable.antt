@@ -3,20 +3,20 @@ use Rattle.std.proofs.Common.{◌≡◌, ℕ, ◌<◌, ◌≤◌, ◌↔◌, ◌
 use Rattle.std.specs.List.{Contains, slice_get}
 use Rattle.std.proofs.lemmas.Bool.{and_parts, and_from}
 use Rattle.std.proofs.lemmas.Option.{slice_get_cases, slice_get_within}
-use Rattle.lalrpop_book.specs.Range.{Range, Covers}
-use Rattle.lalrpop_book.specs.Tree.{Tree}
+use Rattle.lalrpop_hir.specs.Range.{Range, Covers}
+use Rattle.lalrpop_hir.specs.Tree.{Tree}
 use Rattle.lalrpop_nfa.specs.Graph.{Graph}
 use Rattle.lalrpop_nfa.specs.Partition.{IsCovered, AreAscending, IsPartition}
-use Rattle.lalrpop_book.specs.Clash.{NoClash}
+use Rattle.lalrpop_hir.specs.Clash.{NoClash}
 use Rattle.lalrpop_dfa.specs.Dfa.{Row, edge_target, step, run, after as state_after, IsRightKind, IsReject, RecognizesAll, AreAscendingTests, IsWellFormed}
 use Rattle.lalrpop_dfa.specs.Automata.{Item, AreCompiled}
 use Rattle.lalrpop_build.specs.Items.{IsReached, IsLeaving, HoldsItems, OthersReject, IsInWordOrder}
-use Rattle.lalrpop_dfa.specs.Internal.Ascending.{AreAscendingItems}
+use Rattle.lalrpop_dfa.specs.Ascending.{AreAscendingItems}
 use Rattle.lalrpop_build.specs.Internal.Subsets.{first_set_of, move, is_dead}
 use Rattle.lalrpop_build.specs.Internal.BreadthFirst.{IsBreadthFirst, nth, value_of, after, word}
 use Rattle.lalrpop_build.specs.Internal.Built.{subset_automaton, IsKindOf, IsRowOf}
 use Rattle.lalrpop_dfa.specs.declared.Kind.TheVariants.{Reject}
-use Rattle.lalrpop_book.proofs.Members.{Has, has_from, contains_from, has_map, map_has}
+use Rattle.lalrpop_hir.proofs.Members.{Has, has_from, contains_from, has_map, map_has}
 use Rattle.lalrpop_build.proofs.Origins.{word_is_word}
 use Rattle.lalrpop_build.proofs.BreadthFirst.{word_reaches, in_order}
 use Rattle.lalrpop_build.proofs.Sets.{same_items}

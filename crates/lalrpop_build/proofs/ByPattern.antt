@@ -8,13 +8,13 @@ use Rattle.std.proofs.lemmas.Bool.Decides.{nat_tests}
 use Rattle.std.proofs.lemmas.Option.{slice_get_within}
 use Rattle.lalrpop_nfa.specs.Graph.{Graph}
 use Rattle.lalrpop_dfa.specs.Automata.{Item}
-use Rattle.lalrpop_dfa.specs.Internal.Ascending.{item_cmp, AreByPattern}
+use Rattle.lalrpop_dfa.specs.Ascending.{item_cmp, AreByPattern}
 use Rattle.lalrpop_dfa.proofs.FullSets.{less_place}
 use Rattle.lalrpop_build.specs.Internal.Given.{AreItemsOf}
 use Rattle.lalrpop_build.specs.Internal.Subsets.{closed, starts_from}
 use Rattle.lalrpop_build.specs.Internal.Worklist.{pattern_at}
-use Rattle.lalrpop_book.proofs.Members.{Has, has_from, contains_from, has_left, has_right, has_cases}
-use Rattle.lalrpop_book.proofs.SortedLists.{sorted_append, sorted_same}
+use Rattle.lalrpop_hir.proofs.Members.{Has, has_from, contains_from, has_left, has_right, has_cases}
+use Rattle.lalrpop_hir.proofs.SortedLists.{sorted_append, sorted_same}
 use Rattle.lalrpop_build.proofs.Follows.{follows_place}
 use Rattle.lalrpop_build.proofs.Sets.{nothing, item_total, closed_ascends, closed_parts, closed_has}
 

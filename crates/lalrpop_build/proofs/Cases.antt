@@ -4,3 +4,4 @@ mod Agree
 mod Given
 mod Subsets
 mod Transitions
+mod Alphabet

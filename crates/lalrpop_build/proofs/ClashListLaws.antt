@@ -2,12 +2,12 @@
 use Rattle.std.proofs.Common.{◌≡◌, ℕ, zero, suc, ◌<◌, ◌≤◌, ◌⊎◌, inl, inr, ⊎_elim, List, [], ◌∷◌, refl, subst, arith}
 use Rattle.std.specs.Prelude.{Some, slice_get, ◌↔◌}
 use Rattle.std.proofs.lemmas.Bool.{cases_lt}
-use Rattle.lalrpop_book.specs.Word.{Shortlex}
-use Rattle.lalrpop_book.specs.Tree.{Tree}
-use Rattle.lalrpop_book.specs.Winners.{IsStrongest}
-use Rattle.lalrpop_book.specs.Clash.{IsClash, NoClash}
-use Rattle.lalrpop_book.specs.Clashes.{Entry, AreTied, AreClashes, AreInOrder}
-use Rattle.lalrpop_book.proofs.Members.{has_from, contains_from, has_at, at_has}
+use Rattle.lalrpop_hir.specs.Word.{Shortlex}
+use Rattle.lalrpop_hir.specs.Tree.{Tree}
+use Rattle.lalrpop_hir.specs.Winners.{IsStrongest}
+use Rattle.lalrpop_hir.specs.Clash.{IsClash, NoClash}
+use Rattle.lalrpop_hir.specs.Clashes.{Entry, AreTied, AreClashes, AreInOrder}
+use Rattle.lalrpop_hir.proofs.Members.{has_from, contains_from, has_at, at_has}
 use Rattle.lalrpop_build.proofs.ClashLists.{IsOrdered, IsFirstTieOf, AreClashesOf, head_is_clash, empty-from_none, none-from_empty, clashes-unique as unique}
 
 -- ---- with membership by recursion

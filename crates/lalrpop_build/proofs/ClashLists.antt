@@ -1,11 +1,11 @@
 -- The list of clashes, with membership by recursion and any tie T: it is unique, and it is found number by number.
 use Rattle.std.proofs.Common.{◌≡◌, ℕ, ◌+◌, ◌<◌, ◌≤◌, ◌⊎◌, ◌↔◌, inl, inr, ⊎_elim, List, [], ◌∷◌, ◌++◌, length, refl, sym, ap, ◌∙◌, subst, arith, true}
 use Rattle.std.proofs.lemmas.Bool.{cases_lt}
-use Rattle.lalrpop_book.specs.Word.{IsWord, Shortlex}
+use Rattle.lalrpop_hir.specs.Word.{IsWord, Shortlex}
 use Rattle.lalrpop_build.specs.Internal.BreadthFirst.{Automaton, after, DeadStays, nth, IsBreadthFirst, word}
-use Rattle.lalrpop_book.specs.Clashes.{Entry, StandsBefore}
-use Rattle.lalrpop_book.proofs.Members.{Has, has_left, has_right, has_cases}
-use Rattle.lalrpop_book.proofs.Words.{Shortlex-irreflexive, Shortlex-transitive, Shortlex-total}
+use Rattle.lalrpop_hir.specs.Clashes.{Entry, StandsBefore}
+use Rattle.lalrpop_hir.proofs.Members.{Has, has_left, has_right, has_cases}
+use Rattle.lalrpop_hir.proofs.Words.{Shortlex-irreflexive, Shortlex-transitive, Shortlex-total}
 use Rattle.lalrpop_build.proofs.BreadthFirst.{words_ascend}
 use Rattle.lalrpop_build.proofs.Firsts.{number_of, own_word, first_least}
 

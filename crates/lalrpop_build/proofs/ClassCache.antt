@@ -3,7 +3,7 @@ use Rattle.std.proofs.Common.{◌≡◌, ℕ, ◌<◌, inl, inr, List, length, s
 use Rattle.std.specs.Prelude.{slice_get, Option, None}
 use Rattle.std.proofs.lemmas.Option.{slice_get_read, slice_get_within, get_or_from_slice_get}
 use Rattle.std.proofs.lemmas.List.{get_or-map, length-map}
-use Rattle.lalrpop_book.specs.Range.{Range}
+use Rattle.lalrpop_hir.specs.Range.{Range}
 use Rattle.lalrpop_build.specs.Internal.Blocks.{Block}
 use Rattle.lalrpop_nfa.specs.Graph.{Graph}
 use Rattle.lalrpop_dfa.specs.Automata.{Item}
@@ -13,8 +13,8 @@ use Rattle.lalrpop_build.specs.Internal.Transitions.{AreTransitions}
 use Rattle.lalrpop_build.specs.declared.transitions.Transition.{Transition}
 use Rattle.lalrpop_build.specs.declared.build.scratch.Transitions.{Transitions}
 use Rattle.lalrpop_build.proofs.Adding.{added_stays, added_at}
-use Rattle.lalrpop_book.proofs.Pushed.{pushed_cases}
-use Rattle.lalrpop_alphabet.proofs.Marking.{set_at}
+use Rattle.lalrpop_hir.proofs.Pushed.{pushed_cases}
+use Rattle.lalrpop_build.proofs.Marking.{set_at}
 use Rattle.lalrpop_build.proofs.TransitionMoves.{leads_move}
 
 -- a class that is read from the list has the edges that its values take

@@ -1,8 +1,8 @@
 -- Dead sets, and values that the labels treat alike.
 use Rattle.std.proofs.Common.{◌≡◌, ℕ, ◌<◌, ◌≤◌, inl, inr, List, [], refl, arith, true, Some}
 use Rattle.std.specs.List.{Contains, slice_get}
-use Rattle.lalrpop_book.specs.Range.{Range, Covers}
-use Rattle.lalrpop_book.specs.Tree.{Tree}
+use Rattle.lalrpop_hir.specs.Range.{Range, Covers}
+use Rattle.lalrpop_hir.specs.Tree.{Tree}
 use Rattle.lalrpop_nfa.specs.Graph.{Graph}
 use Rattle.lalrpop_nfa.specs.Path.{test, other}
 use Rattle.lalrpop_nfa.specs.Internal.Reads.{Reads}
@@ -13,11 +13,11 @@ use Rattle.lalrpop_build.specs.Items.{IsLeaving}
 use Rattle.lalrpop_build.specs.Internal.Given.{AreAutomata}
 use Rattle.lalrpop_build.specs.Internal.Transitions.{AreTransitions}
 use Rattle.lalrpop_build.specs.declared.transitions.Transition.{Transition}
-use Rattle.lalrpop_book.proofs.Contained.{contains_none}
+use Rattle.lalrpop_hir.proofs.Contained.{contains_none}
 use Rattle.lalrpop_build.specs.Internal.Subsets.{move, is_dead}
 use Rattle.lalrpop_build.specs.Internal.BreadthFirst.{DeadStays}
 use Rattle.lalrpop_build.specs.Internal.Built.{subset_automaton}
-use Rattle.lalrpop_book.proofs.Members.{Has, contains_from}
+use Rattle.lalrpop_hir.proofs.Members.{Has, contains_from}
 use Rattle.lalrpop_build.proofs.Targets.{compiled_at}
 use Rattle.lalrpop_build.proofs.Moved.{dead_states, dead_from, reject_path, IsMoved, moved, TakeAlso, reads_moves}
 

@@ -7,7 +7,7 @@ use Rattle.lalrpop_nfa.specs.declared.edge.Noop.{Noop}
 use Rattle.lalrpop_nfa.specs.Graph.{Graph}
 use Rattle.lalrpop_nfa.specs.Path.{Path, here, epsilon, read, otherwise, noop}
 use Rattle.lalrpop_build.specs.Internal.Subsets.{has_noop, joins, is_epsilon_path}
-use Rattle.lalrpop_book.proofs.Members.{has_from, contains_from, any_from_has, has_from_any}
+use Rattle.lalrpop_hir.proofs.Members.{has_from, contains_from, any_from_has, has_from_any}
 use Rattle.lalrpop_nfa.proofs.PathLemmas.{path_join}
 
 module _ (g : Graph) where

@@ -1,9 +1,9 @@
 -- The first number with a property, once all numbers are expanded.
 use Rattle.std.proofs.Common.{◌≡◌, ℕ, ◌<◌, ◌≤◌, ⊎_elim, List, length, sym, subst, arith, true}
 use Rattle.std.proofs.lemmas.Bool.{cases_lt}
-use Rattle.lalrpop_book.specs.Word.{Shortlex}
+use Rattle.lalrpop_hir.specs.Word.{Shortlex}
 use Rattle.lalrpop_build.specs.Internal.BreadthFirst.{ShortlexAtMost, Automaton, after, DeadStays, nth, IsBreadthFirst, word}
-use Rattle.lalrpop_book.proofs.Words.{Shortlex-irreflexive, Shortlex-transitive}
+use Rattle.lalrpop_hir.proofs.Words.{Shortlex-irreflexive, Shortlex-transitive}
 use Rattle.lalrpop_build.proofs.WordOrder.{at_most_less}
 use Rattle.lalrpop_build.proofs.BreadthFirst.{words_ascend, word_reaches, settled_all}
 

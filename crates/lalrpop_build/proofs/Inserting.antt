@@ -5,18 +5,18 @@ use Rattle.std.specs.List.{Contains, filter}
 use Rattle.std.specs.BTreeSet.{BTreeSet, contains, Updates, IsOrdered}
 use Rattle.std.proofs.lemmas.Map.Views.{btree_set_contains_iff}
 use Rattle.std.proofs.lemmas.List.Elements.{Contains-append_left, Contains-append_right, Contains-append_cases, Contains-push, Contains-push_cases}
-use Rattle.lalrpop_book.proofs.Orders.{set_come, set_has, set_kept}
+use Rattle.lalrpop_hir.proofs.Orders.{set_come, set_has, set_kept}
 use Rattle.lalrpop_dfa.specs.Automata.{Item}
-use Rattle.lalrpop_dfa.specs.Internal.Ascending.{item_cmp}
+use Rattle.lalrpop_dfa.specs.Ascending.{item_cmp}
 use Rattle.lalrpop_dfa.specs.Internal.OrderLaws.{item_total}
 use Rattle.lalrpop_nfa.specs.Graph.{Graph}
 use Rattle.lalrpop_dfa.proofs.ItemTies.{item_exact}
 use Rattle.lalrpop_nfa.specs.Walk.{leaves}
 use Rattle.lalrpop_nfa.specs.declared.edge.Edge.{Edge}
 use Rattle.lalrpop_nfa.specs.declared.edge.Noop.{Noop}
-use Rattle.lalrpop_book.proofs.Contained.{contains_none, contains_only}
+use Rattle.lalrpop_hir.proofs.Contained.{contains_none, contains_only}
 use Rattle.lalrpop_build.specs.Internal.Worklist.{IsAdded, IsInserted, epsilon_targets}
-use Rattle.lalrpop_book.proofs.Members.{contains_from}
+use Rattle.lalrpop_hir.proofs.Members.{contains_from}
 use Rattle.lalrpop_build.proofs.Targets.{graph_is}
 
 -- no items

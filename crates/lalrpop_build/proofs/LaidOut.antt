@@ -2,10 +2,10 @@
 use Rattle.std.proofs.Common.{◌≡◌, ℕ, List, length, subst, sym, ◌∙◌}
 use Rattle.std.specs.Prelude.{slice_get, Some}
 use Rattle.std.specs.List.{Contains}
-use Rattle.lalrpop_book.specs.Range.{Range}
+use Rattle.lalrpop_hir.specs.Range.{Range}
 use Rattle.lalrpop_nfa.specs.Graph.{Graph}
 use Rattle.lalrpop_nfa.specs.Path.{test}
-use Rattle.lalrpop_alphabet.specs.Internal.Alphabet.{Classes, HasState, IsInCell, IsEndOf, IsFirstOf, IsSound, IsAlphabetOf}
+use Rattle.lalrpop_build.specs.Internal.Alphabet.{Classes, HasState, IsInCell, IsEndOf, IsFirstOf, IsSound, IsAlphabetOf}
 use Rattle.lalrpop_dfa.specs.Automata.{Item}
 use Rattle.lalrpop_build.specs.Items.{IsLeaving}
 use Rattle.lalrpop_build.specs.Internal.Given.{AreItemsOf}

@@ -3,7 +3,7 @@ use Rattle.std.proofs.Common.{◌≡◌, ℕ, ◌↔◌, inl, inr, List, map, fi
 use Rattle.std.specs.List.{Contains, slice_get, flat_map}
 use Rattle.std.proofs.lemmas.Option.{slice_get_cases}
 use Rattle.std.proofs.lemmas.List.{get_or_past}
-use Rattle.lalrpop_book.specs.Range.{Range, Covers}
+use Rattle.lalrpop_hir.specs.Range.{Range, Covers}
 use Rattle.lalrpop_nfa.specs.Partition.{IsCovered, IsPartition}
 use Rattle.lalrpop_nfa.proofs.BlockCover.{block_of_covered}
 use Rattle.lalrpop_nfa.specs.declared.edge.Edge.{Edge}
@@ -12,7 +12,7 @@ use Rattle.lalrpop_nfa.specs.Path.{test}
 use Rattle.lalrpop_dfa.specs.Automata.{Item}
 use Rattle.lalrpop_build.specs.Items.{IsLeaving}
 use Rattle.lalrpop_build.specs.Internal.Subsets.{no_graph, graph_at, move}
-use Rattle.lalrpop_book.proofs.Members.{Has, has_from, contains_from, has_filter, filter_has, has_map, map_has, has_flat_map, flat_map_has}
+use Rattle.lalrpop_hir.proofs.Members.{Has, has_from, contains_from, has_filter, filter_has, has_map, map_has, has_flat_map, flat_map_has}
 use Rattle.lalrpop_build.proofs.Targets.{graph_is}
 use Rattle.lalrpop_build.proofs.Dead.{alike_moves}
 

@@ -5,19 +5,19 @@ use Rattle.std.specs.List.{Contains}
 use Rattle.std.proofs.lemmas.Option.{slice_get_read, slice_get_within, slice_get-get_or}
 use Rattle.std.proofs.lemmas.List.{get_or_default, length-set}
 use Rattle.std.proofs.lemmas.List.Elements.{Contains-append_left, Contains-append_right, Contains-append_cases}
-use Rattle.lalrpop_alphabet.specs.Internal.Alphabet.{Classes, AreEdgeGroupsOf, IsEdgeGroupOf, HasClass, HasBoundary, LeadsBy, HasBoundaryAt}
-use Rattle.lalrpop_alphabet.specs.declared.Group.{Group}
-use Rattle.lalrpop_alphabet.specs.declared.EdgeGroup.{EdgeGroup}
-use Rattle.lalrpop_alphabet.specs.declared.NfaEdgeGroups.{NfaEdgeGroups}
-use Rattle.lalrpop_alphabet.specs.declared.StateEdgeGroups.{StateEdgeGroups}
+use Rattle.lalrpop_build.specs.Internal.Alphabet.{Classes, AreEdgeGroupsOf, IsEdgeGroupOf, HasClass, HasBoundary, LeadsBy, HasBoundaryAt}
+use Rattle.lalrpop_build.specs.declared.alphabet.Group.{Group}
+use Rattle.lalrpop_build.specs.declared.alphabet.EdgeGroup.{EdgeGroup}
+use Rattle.lalrpop_build.specs.declared.alphabet.NfaEdgeGroups.{NfaEdgeGroups}
+use Rattle.lalrpop_build.specs.declared.alphabet.StateEdgeGroups.{StateEdgeGroups}
 use Rattle.lalrpop_dfa.specs.Automata.{Item}
 use Rattle.lalrpop_build.specs.Internal.ClassTransitions.{HaveNoEdges, Gained, AreGathered, AreBoundariesOf}
 use Rattle.lalrpop_build.specs.declared.transitions.Transition.{Transition}
 use Rattle.lalrpop_build.specs.declared.build.scratch.Transitions.{Transitions}
-use Rattle.lalrpop_book.proofs.Contained.{contains_only, contains_none}
-use Rattle.lalrpop_alphabet.proofs.Marking.{set_at}
-use Rattle.lalrpop_book.proofs.Pushed.{pushed_cases}
-use Rattle.lalrpop_book.proofs.Members.{taken_more}
+use Rattle.lalrpop_hir.proofs.Contained.{contains_only, contains_none}
+use Rattle.lalrpop_build.proofs.Marking.{set_at}
+use Rattle.lalrpop_hir.proofs.Pushed.{pushed_cases}
+use Rattle.lalrpop_hir.proofs.Members.{taken_more}
 
 pub gained_none : {E : ℕ → Transition → Type 0} → (old : List Transitions) → ((c : ℕ) (l : Transition) → E c l → ⊥) → Gained old old E
 gained_none old none = (refl, λ c t t2 was will l. (let e : t2 ≡ t = cc in (λ h. inl (rw (← e) h), λ h. elim h [ inl x ↦ rw e x | inr x ↦ absurd (none c l x) ])))

@@ -48,3 +48,12 @@ pub mod TransitionMoves
 pub mod TakenEdges
 pub mod Follows
 pub mod Moved
+-- the alphabet
+mod Assembling
+pub mod LabelOrder
+pub mod Boundaries
+pub mod BoundaryLabels
+pub mod EdgeGroupLaws
+mod Classing
+pub mod Marking
+mod Numbering

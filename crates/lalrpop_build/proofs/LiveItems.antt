@@ -3,7 +3,7 @@ use Rattle.std.proofs.Common.{◌≡◌, ℕ, ◌<◌, inl, inr, ◌↔◌, List
 use Rattle.std.specs.List.{Contains, slice_get}
 use Rattle.std.proofs.lemmas.Bool.{cases_Bool}
 use Rattle.std.proofs.lemmas.List.Kept.{IsStrictlySortedBy-filter}
-use Rattle.lalrpop_book.specs.Range.{Range}
+use Rattle.lalrpop_hir.specs.Range.{Range}
 use Rattle.lalrpop_nfa.specs.Graph.{Graph}
 use Rattle.lalrpop_nfa.specs.Path.{test}
 use Rattle.lalrpop_nfa.specs.Compiled.{accept_state, reject_state}
@@ -11,14 +11,14 @@ use Rattle.lalrpop_nfa.specs.Partition.{IsPartition}
 use Rattle.lalrpop_nfa.proofs.BlockCover.{partition_like}
 use Rattle.lalrpop_dfa.specs.Automata.{Item}
 use Rattle.lalrpop_build.specs.Internal.Given.{AreAutomata, IsItemOf, AreItemsOf}
-use Rattle.lalrpop_dfa.specs.Internal.Ascending.{item_cmp, AreAscendingItems}
-use Rattle.lalrpop_dfa.specs.Internal.LiveItems.{is_live, live_of}
+use Rattle.lalrpop_dfa.specs.Ascending.{item_cmp, AreAscendingItems}
+use Rattle.lalrpop_dfa.specs.LiveItems.{is_live, live_of}
 use Rattle.lalrpop_build.specs.Internal.Subsets.{is_dead}
 use Rattle.lalrpop_build.specs.Internal.Transitions.{AreTransitions}
 use Rattle.lalrpop_dfa.specs.Internal.OrderLaws.{item_total}
 use Rattle.lalrpop_build.specs.declared.transitions.Transition.{Transition}
-use Rattle.lalrpop_book.proofs.Members.{Has, has_from, contains_from, has_filter, filter_has}
-use Rattle.lalrpop_book.proofs.SortedLists.{sorted_same}
+use Rattle.lalrpop_hir.proofs.Members.{Has, has_from, contains_from, has_filter, filter_has}
+use Rattle.lalrpop_hir.proofs.SortedLists.{sorted_same}
 use Rattle.lalrpop_dfa.proofs.FullSets.{live_is, is_live_from}
 use Rattle.lalrpop_build.proofs.LiveSets.{same_bool}
 use Rattle.lalrpop_build.proofs.Targets.{compiled_at}

@@ -8,23 +8,23 @@ use Rattle.std.proofs.lemmas.Bool.Decides.{nat_tests}
 use Rattle.std.proofs.lemmas.List.Elements.{filter_more}
 use Rattle.std.proofs.lemmas.List.Kept.{IsStrictlySortedBy-filter}
 use Rattle.std.proofs.lemmas.Option.{slice_get_within}
-use Rattle.lalrpop_book.specs.Range.{Range}
+use Rattle.lalrpop_hir.specs.Range.{Range}
 use Rattle.lalrpop_nfa.specs.Graph.{Graph}
 use Rattle.lalrpop_nfa.specs.Path.{test, other}
 use Rattle.lalrpop_nfa.specs.Internal.Reads.{Reads}
 use Rattle.lalrpop_nfa.specs.Walk.{leaves}
 use Rattle.lalrpop_nfa.specs.Compiled.{reject_state}
 use Rattle.lalrpop_dfa.specs.Automata.{Item}
-use Rattle.lalrpop_dfa.specs.Internal.Ascending.{item_cmp, AreAscendingItems}
+use Rattle.lalrpop_dfa.specs.Ascending.{item_cmp, AreAscendingItems}
 use Rattle.lalrpop_build.specs.Internal.Given.{IsItemOf, AreAutomata, AreItemsOf}
-use Rattle.lalrpop_dfa.specs.Internal.LiveItems.{is_live, live_of}
-use Rattle.lalrpop_dfa.specs.Internal.Split.{full, still_live, AreWithin, AreLivePatterns, IsSplit}
+use Rattle.lalrpop_dfa.specs.LiveItems.{is_live, live_of}
+use Rattle.lalrpop_dfa.specs.Split.{full, still_live, AreWithin, AreLivePatterns, IsSplit}
 use Rattle.lalrpop_build.specs.Internal.Subsets.{graph_at, is_epsilon_path, follows_by_epsilon, closed, item_targets, move}
 use Rattle.lalrpop_build.specs.Internal.Transitions.{AreTransitions}
 use Rattle.lalrpop_build.specs.Internal.Taken.{AreTargetsBy}
 use Rattle.lalrpop_build.specs.declared.transitions.Transition.{Transition}
-use Rattle.lalrpop_book.proofs.Members.{Has, has_from, contains_from, has_filter, filter_has, any_from_has, has_from_any, has_flat_map, flat_map_has}
-use Rattle.lalrpop_book.proofs.SortedLists.{sorted_nil, sorted_cons}
+use Rattle.lalrpop_hir.proofs.Members.{Has, has_from, contains_from, has_filter, filter_has, any_from_has, has_from_any, has_flat_map, flat_map_has}
+use Rattle.lalrpop_hir.proofs.SortedLists.{sorted_nil, sorted_cons}
 use Rattle.lalrpop_build.proofs.Epsilon.{epsilon_self}
 use Rattle.lalrpop_build.proofs.Targets.{compiled_at, item_targets_have}
 use Rattle.lalrpop_build.proofs.Sets.{cmp_less, closed_ascends, closed_parts, closed_has, move_ascends, move_has}

@@ -4,10 +4,10 @@ use Rattle.std.specs.Prelude.{slice_get, Some, replicate, ◌↔◌}
 use Rattle.std.specs.List.{Contains}
 use Rattle.std.proofs.lemmas.List.{length-set}
 use Rattle.std.proofs.lemmas.List.Elements.{Contains-append_left, Contains-append_right, Contains-append_cases, Contains-push, Contains-push_cases}
-use Rattle.lalrpop_book.proofs.Contained.{contains_none}
-use Rattle.lalrpop_alphabet.specs.Internal.Alphabet.{HasBoundary}
-use Rattle.lalrpop_alphabet.specs.declared.Group.{Group}
-use Rattle.lalrpop_alphabet.proofs.Marking.{set_at}
+use Rattle.lalrpop_hir.proofs.Contained.{contains_none}
+use Rattle.lalrpop_build.specs.Internal.Alphabet.{HasBoundary}
+use Rattle.lalrpop_build.specs.declared.alphabet.Group.{Group}
+use Rattle.lalrpop_build.proofs.Marking.{set_at}
 use Rattle.lalrpop_build.specs.Internal.Scratch.{AreMarked, AreUnmarked, HoldMarked}
 use Rattle.lalrpop_build.specs.declared.build.scratch.Boundaries.{Boundaries}
 

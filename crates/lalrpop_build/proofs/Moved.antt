@@ -1,7 +1,7 @@
 -- Where an item of a moved set comes from, and values by which the items of a set take the same edges.
 use Rattle.std.proofs.Common.{◌≡◌, ℕ, List, [], sym, subst, ◌∙◌, true, ◌==◌, Some, eqb-true, eq-eqb}
 use Rattle.std.specs.List.{slice_get}
-use Rattle.lalrpop_book.specs.Tree.{Tree}
+use Rattle.lalrpop_hir.specs.Tree.{Tree}
 use Rattle.lalrpop_nfa.specs.Graph.{Graph}
 use Rattle.lalrpop_nfa.specs.Path.{Path, here, epsilon, read, otherwise, noop}
 use Rattle.lalrpop_nfa.specs.Internal.Reads.{Reads}
@@ -9,7 +9,7 @@ use Rattle.lalrpop_nfa.specs.Compiled.{IsCompiled, reject_state}
 use Rattle.lalrpop_dfa.specs.Automata.{Item}
 use Rattle.lalrpop_build.specs.Internal.Given.{IsItemOf}
 use Rattle.lalrpop_build.specs.Internal.Subsets.{follows_by_epsilon, item_targets, move, is_dead}
-use Rattle.lalrpop_book.proofs.Members.{Has, has_from, contains_from, all_has, all_from_has}
+use Rattle.lalrpop_hir.proofs.Members.{Has, has_from, contains_from, all_has, all_from_has}
 use Rattle.lalrpop_build.proofs.Targets.{item_targets_place, item_targets_parts, item_targets_have}
 use Rattle.lalrpop_build.proofs.Sets.{move_parts, move_has, move_ascends, same_items}
 use Rattle.lalrpop_build.proofs.Follows.{follows_place, follows_path}

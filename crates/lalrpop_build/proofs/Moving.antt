@@ -11,7 +11,7 @@ use Rattle.lalrpop_build.specs.declared.transitions.Transition.{Transition}
 use Rattle.lalrpop_nfa.specs.declared.edge.Edge.{Edge}
 use Rattle.lalrpop_nfa.specs.Path.{test, other}
 use Rattle.lalrpop_build.specs.Internal.Given.{AreAutomata, AreItemsOf}
-use Rattle.lalrpop_book.proofs.Members.{has_from, contains_from, flat_map_has}
+use Rattle.lalrpop_hir.proofs.Members.{has_from, contains_from, flat_map_has}
 use Rattle.lalrpop_build.proofs.Targets.{compiled_at, graph_is, item_targets_parts}
 
 module _ {L : Type 0} (i p : ℕ) where

@@ -6,7 +6,7 @@ use Rattle.std.proofs.lemmas.List.{length-set}
 use Rattle.std.proofs.lemmas.List.Elements.{Contains-append_left, Contains-push, Contains-push_cases}
 use Rattle.lalrpop_build.specs.Internal.Scratch.{AreNoted}
 use Rattle.lalrpop_build.specs.declared.build.scratch.Transitions.{Transitions}
-use Rattle.lalrpop_alphabet.proofs.Marking.{set_at}
+use Rattle.lalrpop_build.proofs.Marking.{set_at}
 
 -- another edge is added to a class that is noted
 pub noted_again : (by_class : List Transitions) (used : List ℕ) (i : ℕ) (more : Transitions) → AreNoted by_class used → i < length by_class → Contains used i → AreNoted (slice_set by_class i more) used

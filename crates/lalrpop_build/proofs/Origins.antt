@@ -4,7 +4,7 @@ use Rattle.std.proofs.lemmas.List.{reverse-append}
 use Rattle.std.proofs.lemmas.Option.{slice_get-get_or}
 use Rattle.std.specs.List.{All, AllByRecursion}
 use Rattle.std.proofs.lemmas.List.Elements.{All-nil, All-push, recursion_from_All}
-use Rattle.lalrpop_book.specs.Word.{IsWord}
+use Rattle.lalrpop_hir.specs.Word.{IsWord}
 use Rattle.lalrpop_build.specs.Internal.BreadthFirst.{AreEarlier, from_of, value_of, word_of, word}
 
 module _ (origins : List (ℕ × ℕ)) (size : ℕ) (earlier : (k : ℕ) → 0 < k → k < size → from_of origins k < k) where

@@ -1,19 +1,19 @@
 -- The set after a word holds the items that the word leads to.
 use Rattle.std.proofs.Common.{◌≡◌, ℕ, zero, suc, ◌+◌, ◌↔◌, inl, inr, List, [], ◌∷◌, ◌++◌, refl, ap, sym, subst, ◌∙◌, arith, true, Some}
 use Rattle.std.specs.List.{Contains, slice_get}
-use Rattle.lalrpop_book.specs.Tree.{Tree}
+use Rattle.lalrpop_hir.specs.Tree.{Tree}
 use Rattle.lalrpop_nfa.specs.Graph.{Graph}
 use Rattle.lalrpop_nfa.specs.Path.{Path}
 use Rattle.lalrpop_nfa.specs.Internal.Reads.{Reads}
 use Rattle.lalrpop_nfa.specs.Compiled.{IsCompiled, start_state}
 use Rattle.lalrpop_dfa.specs.Automata.{Item, AreCompiled}
 use Rattle.lalrpop_build.specs.Items.{IsReached}
-use Rattle.lalrpop_dfa.specs.Internal.Ascending.{AreAscendingItems}
+use Rattle.lalrpop_dfa.specs.Ascending.{AreAscendingItems}
 use Rattle.lalrpop_build.specs.Internal.Given.{IsItemOf}
 use Rattle.lalrpop_build.specs.Internal.Subsets.{follows_by_epsilon, item_targets, move, starts_from, first_set_of}
 use Rattle.lalrpop_build.specs.Internal.BreadthFirst.{after}
 use Rattle.lalrpop_build.specs.Internal.Built.{subset_automaton}
-use Rattle.lalrpop_book.proofs.Members.{Has, has_from, contains_from}
+use Rattle.lalrpop_hir.proofs.Members.{Has, has_from, contains_from}
 use Rattle.lalrpop_build.proofs.WordOrder.{from_the_end}
 use Rattle.lalrpop_build.proofs.BreadthFirst.{after_push}
 use Rattle.lalrpop_nfa.proofs.PathLemmas.{path_join, path_split, path_edge, path_inside}

@@ -4,8 +4,8 @@ use Rattle.std.specs.List.{Contains, slice_get}
 use Rattle.std.proofs.lemmas.Bool.{cases_lt}
 use Rattle.std.proofs.lemmas.List.{length_push, get_or_append_left, get_or_push}
 use Rattle.std.proofs.lemmas.Option.{slice_get_within, slice_get_cases}
-use Rattle.lalrpop_book.specs.Range.{Range, Covers}
-use Rattle.lalrpop_book.specs.Tree.{Tree}
+use Rattle.lalrpop_hir.specs.Range.{Range, Covers}
+use Rattle.lalrpop_hir.specs.Tree.{Tree}
 use Rattle.lalrpop_nfa.specs.Graph.{Graph}
 use Rattle.lalrpop_nfa.specs.Partition.{AreAscending, IsPartition}
 use Rattle.lalrpop_nfa.proofs.PartitionUnique.{ascends_later}
@@ -15,7 +15,7 @@ use Rattle.lalrpop_build.specs.Internal.Subsets.{move, is_dead}
 use Rattle.lalrpop_build.specs.Internal.BreadthFirst.{Automaton, IsBreadthFirst, Added, nth}
 use Rattle.lalrpop_build.specs.Internal.Built.{subset_automaton}
 use Rattle.lalrpop_build.specs.Internal.Expansion.{past}
-use Rattle.lalrpop_book.proofs.Members.{Has, has_from, contains_from, has_at, at_has, has_cases}
+use Rattle.lalrpop_hir.proofs.Members.{Has, has_from, contains_from, has_at, at_has, has_cases}
 use Rattle.lalrpop_build.proofs.Steps.{breadth_first_gap, breadth_first_added, breadth_first_spread, breadth_first_next}
 use Rattle.lalrpop_build.proofs.Dead.{uncovered_dead, covered_small}
 use Rattle.lalrpop_build.proofs.LeavingBlocks.{outside_blocks, inside_block}

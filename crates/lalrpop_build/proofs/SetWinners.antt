@@ -1,10 +1,10 @@
 -- What a set of items says of the words that lead to it.
 use Rattle.std.proofs.Common.{◌≡◌, ℕ, ◌↔◌, List, refl, ap, sym, subst, ◌∙◌, arith, true, false, Some}
 use Rattle.std.specs.List.{Contains, slice_get}
-use Rattle.lalrpop_book.specs.Tree.{Tree}
+use Rattle.lalrpop_hir.specs.Tree.{Tree}
 use Rattle.lalrpop_nfa.specs.Graph.{Graph}
 use Rattle.lalrpop_nfa.specs.Compiled.{IsCompiled, accept_state, reject_state}
-use Rattle.lalrpop_book.specs.Winners.{TreeMatches, IsStrongest, Ambiguous}
+use Rattle.lalrpop_hir.specs.Winners.{TreeMatches, IsStrongest, Ambiguous}
 use Rattle.lalrpop_dfa.specs.Dfa.{IsRightKind}
 use Rattle.lalrpop_dfa.specs.Automata.{Item, AreCompiled}
 use Rattle.lalrpop_build.specs.Items.{IsReached}
@@ -13,7 +13,7 @@ use Rattle.lalrpop_build.specs.Internal.BreadthFirst.{after}
 use Rattle.lalrpop_build.specs.Internal.Built.{subset_automaton, IsStrongestIn, IsKindOf}
 use Rattle.lalrpop_dfa.specs.declared.Kind.{Kind}
 use Rattle.lalrpop_dfa.specs.declared.Kind.TheVariants.{Accepts, Reject, Neither}
-use Rattle.lalrpop_book.proofs.Members.{has_from}
+use Rattle.lalrpop_hir.proofs.Members.{has_from}
 use Rattle.lalrpop_build.proofs.Targets.{compiled_at, compiled_of}
 use Rattle.lalrpop_build.proofs.ReachedItems.{reached_items}
 use Rattle.lalrpop_build.proofs.Moved.{dead_states}

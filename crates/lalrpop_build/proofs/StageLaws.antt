@@ -1,15 +1,14 @@
 -- The construction of an automaton, while sets are added and numbers are found.
 use Rattle.std.proofs.Common.{◌≡◌, ℕ, ◌+◌, ◌<◌, ◌≤◌, ◌⊎◌, map, false, inl, inr, List, [], ◌∷◌, ◌++◌, ◌-◌, length, get_or, slice_set, refl, sym, ap, ◌∙◌, subst, arith, Option, Some, None, true}
-use Rattle.std.specs.Prelude.{slice_get}
+use Rattle.std.specs.Prelude.{slice_get, Result}
 use Rattle.std.proofs.lemmas.List.{length-set}
 use Rattle.std.proofs.lemmas.Option.{slice_get_within, slice_get_read}
 use Rattle.std.specs.Result.{IfOk}
-use Rattle.std.specs.Prelude.{Result}
 use Rattle.std.specs.declared.alloc.AllocError.{AllocError}
 use Rattle.std.proofs.lemmas.Result.{IfOk-weaker}
 use Rattle.lalrpop_dfa.specs.Internal.Written.{Written}
-use Rattle.lalrpop_alphabet.specs.declared.Cell.{Cell}
-use Rattle.lalrpop_alphabet.proofs.Marking.{set_at}
+use Rattle.lalrpop_build.specs.declared.alphabet.Cell.{Cell}
+use Rattle.lalrpop_build.proofs.Marking.{set_at}
 use Rattle.lalrpop_dfa.specs.Automata.{Item}
 use Rattle.lalrpop_build.specs.Internal.Subsets.{move}
 use Rattle.lalrpop_build.specs.Internal.Transitions.{AreTransitions}
@@ -17,16 +16,15 @@ use Rattle.lalrpop_build.specs.Internal.Blocks.{has_edges, blocks_to, blocks_of}
 use Rattle.lalrpop_build.specs.Internal.Labelled.{Labelled}
 use Rattle.lalrpop_build.specs.Internal.TargetCache.{AreNumbersIn, OnlyAdds, IsCacheOf}
 use Rattle.lalrpop_build.specs.Internal.Stage.{Stage, stage, IsExpansion, Extends, IsSameRow, IsTarget, IsBlockDone}
-use Rattle.lalrpop_build.specs.Internal.Expansion.{AddedTo, IsAdded}
+use Rattle.lalrpop_build.specs.Internal.Expansion.{AddedTo, IsAdded, IsEdging}
 use Rattle.lalrpop_build.specs.declared.build.sets.Sets.{Sets}
 use Rattle.lalrpop_build.specs.declared.build.target_cache.TargetCache.{TargetCache}
 use Rattle.lalrpop_build.specs.declared.build.scratch.Scratch.{Scratch}
 use Rattle.lalrpop_build.specs.declared.build.scratch.Transitions.{Transitions}
-use Rattle.lalrpop_alphabet.specs.Internal.Alphabet.{AreCells}
+use Rattle.lalrpop_build.specs.Internal.Alphabet.{AreCells}
 use Rattle.lalrpop_build.specs.Internal.Given.{AreAutomata}
 use Rattle.lalrpop_nfa.specs.Partition.{IsPartition}
 use Rattle.lalrpop_build.specs.Items.{IsLeaving}
-use Rattle.lalrpop_build.specs.Internal.Expansion.{IsEdging}
 use Rattle.lalrpop_build.proofs.Adding.{added_stays}
 use Rattle.lalrpop_build.proofs.Noted.{has_noted}
 use Rattle.lalrpop_build.proofs.BoundaryBlocks.{IsBefore}

@@ -7,17 +7,17 @@ use Rattle.std.proofs.lemmas.List.Sums.{sum_by-cons}
 use Rattle.std.proofs.lemmas.Map.Steps.{length-le_from_distinct_below}
 use Rattle.std.proofs.lemmas.Map.Keys.{IsDistinct-from_apart}
 use Rattle.std.proofs.lemmas.Map.Views.{Contains-from_any}
-use Rattle.lalrpop_book.specs.Tree.{Tree}
+use Rattle.lalrpop_hir.specs.Tree.{Tree}
 use Rattle.lalrpop_hir.specs.Size.{size}
 use Rattle.lalrpop_nfa.specs.Graph.{Graph}
 use Rattle.lalrpop_nfa.specs.Compiled.{IsCompiled}
 use Rattle.lalrpop_dfa.specs.Automata.{Item, AreCompiled}
-use Rattle.lalrpop_dfa.specs.Internal.Ascending.{AreAscendingItems}
+use Rattle.lalrpop_dfa.specs.Ascending.{AreAscendingItems}
 use Rattle.lalrpop_build.specs.Internal.Given.{IsItemOf}
 use Rattle.lalrpop_build.specs.Internal.Subsets.{items_below, items_from, all_items, first_set_of}
 use Rattle.lalrpop_build.specs.Internal.BreadthFirst.{IsBreadthFirst, after, word}
 use Rattle.lalrpop_build.specs.Internal.Built.{subset_automaton}
-use Rattle.lalrpop_book.proofs.Members.{Has, has_from, contains_from, any_from_has, has_from_any}
+use Rattle.lalrpop_hir.proofs.Members.{Has, has_from, contains_from, any_from_has, has_from_any}
 use Rattle.lalrpop_build.proofs.WordOrder.{from_the_end}
 use Rattle.lalrpop_build.proofs.BreadthFirst.{after_push, word_reaches}
 use Rattle.lalrpop_build.proofs.Sets.{all_items_have, first_set_items, move_items, same_items}

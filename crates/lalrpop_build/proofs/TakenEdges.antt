@@ -14,24 +14,24 @@ use Rattle.std.proofs.lemmas.List.MinMax.{ranks_by}
 use Rattle.std.proofs.lemmas.List.Sorted.{sorted_far}
 use Rattle.std.proofs.lemmas.Map.Keys.{Less-from_sorted}
 use Rattle.std.proofs.lemmas.Option.{slice_get_within, slice_get_read, get_or_from_slice_get, slice_get-get_or}
-use Rattle.lalrpop_book.specs.Range.{Range, Covers}
+use Rattle.lalrpop_hir.specs.Range.{Range, Covers}
 use Rattle.lalrpop_nfa.specs.Graph.{Graph}
 use Rattle.lalrpop_nfa.specs.Path.{test}
 use Rattle.lalrpop_dfa.specs.Automata.{Item}
-use Rattle.lalrpop_dfa.specs.Internal.Ascending.{item_cmp, AreAscendingItems, AreByPattern}
+use Rattle.lalrpop_dfa.specs.Ascending.{item_cmp, AreAscendingItems, AreByPattern}
 use Rattle.lalrpop_build.specs.Internal.Given.{AreItemsOf}
-use Rattle.lalrpop_dfa.specs.Internal.ItemOrder.{item_eq}
+use Rattle.lalrpop_dfa.specs.ItemOrder.{item_eq}
 use Rattle.lalrpop_dfa.specs.Internal.OrderLaws.{item_equiv, item_total}
 use Rattle.lalrpop_build.specs.Internal.Subsets.{graph_at, default_targets, or_instead, item_targets, closed}
 use Rattle.lalrpop_build.specs.Internal.Transitions.{transition_cmp, AreTransitions}
 use Rattle.lalrpop_build.specs.Internal.Taken.{IsRunOf, targets_of_run, IsTargetBy, AreTargetsBy}
 use Rattle.lalrpop_build.specs.declared.transitions.Transition.{Transition}
-use Rattle.lalrpop_book.proofs.Contained.{contains_none}
+use Rattle.lalrpop_hir.proofs.Contained.{contains_none}
 use Rattle.lalrpop_build.proofs.ByPattern.{by_append, of_one, less_at_most, take_parts, drop_parts}
 use Rattle.lalrpop_dfa.proofs.FullSets.{item_is}
-use Rattle.lalrpop_book.proofs.Members.{taken_more, Has, has_from, contains_from, has_map, map_has, has_flat_map, flat_map_has, at_has, has_at}
+use Rattle.lalrpop_hir.proofs.Members.{taken_more, Has, has_from, contains_from, has_map, map_has, has_flat_map, flat_map_has, at_has, has_at}
 use Rattle.lalrpop_build.proofs.Sets.{closed_ascends, closed_parts, closed_has}
-use Rattle.lalrpop_book.proofs.SortedLists.{never_less, sorted_same}
+use Rattle.lalrpop_hir.proofs.SortedLists.{never_less, sorted_same}
 use Rattle.lalrpop_build.proofs.Targets.{instead_cases, instead_first, graph_is, item_targets_parts, item_targets_have, default_has, default_parts}
 
 -- ---- a part of a list

@@ -7,14 +7,14 @@ use Rattle.std.proofs.lemmas.Map.Views.{btree_set_contains_iff}
 use Rattle.std.proofs.lemmas.List.Elements.{Contains-append_left, Contains-push, Contains-push_cases}
 use Rattle.std.proofs.lemmas.Option.{slice_get_within, slice_get-get_or}
 use Rattle.std.proofs.lemmas.Bool.{cases_lt}
-use Rattle.lalrpop_book.proofs.Pushed.{pushed_cases}
-use Rattle.lalrpop_book.proofs.Orders.{set_come, set_has, set_kept}
-use Rattle.lalrpop_book.proofs.Contained.{contains_none}
-use Rattle.lalrpop_dfa.specs.Internal.Ascending.{item_cmp}
+use Rattle.lalrpop_hir.proofs.Pushed.{pushed_cases}
+use Rattle.lalrpop_hir.proofs.Orders.{set_come, set_has, set_kept}
+use Rattle.lalrpop_hir.proofs.Contained.{contains_none}
+use Rattle.lalrpop_dfa.specs.Ascending.{item_cmp}
 use Rattle.lalrpop_dfa.specs.Internal.OrderLaws.{item_total}
 use Rattle.lalrpop_dfa.proofs.ItemTies.{item_exact}
-use Rattle.lalrpop_book.proofs.Members.{contains_from, has_at}
-use Rattle.lalrpop_book.specs.Clashes.{Entry, AreInOrder, StandsBefore}
+use Rattle.lalrpop_hir.proofs.Members.{contains_from, has_at}
+use Rattle.lalrpop_hir.specs.Clashes.{Entry, AreInOrder, StandsBefore}
 use Rattle.lalrpop_build.specs.Internal.Ties.{HasPair, ArePairsOf, IsAddedOnce, AreAscending, IsReached, AreTiesTo, HasTiesTo}
 
 -- ---- pairs of a list

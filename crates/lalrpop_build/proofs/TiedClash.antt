@@ -3,18 +3,18 @@ use Rattle.std.proofs.Common.{◌≡◌, ℕ, ◌<◌, ◌≤◌, inl, inr, List
 use Rattle.std.specs.List.{Contains, slice_get, list_any, list_all}
 use Rattle.std.proofs.lemmas.Bool.{and_parts, and_from}
 use Rattle.std.proofs.lemmas.Option.{slice_get_cases}
-use Rattle.lalrpop_book.specs.Tree.{Tree}
+use Rattle.lalrpop_hir.specs.Tree.{Tree}
 use Rattle.lalrpop_nfa.specs.Graph.{Graph}
 use Rattle.lalrpop_nfa.specs.Compiled.{accept_state}
-use Rattle.lalrpop_book.specs.Winners.{IsStrongest}
-use Rattle.lalrpop_book.specs.Clash.{IsClash}
+use Rattle.lalrpop_hir.specs.Winners.{IsStrongest}
+use Rattle.lalrpop_hir.specs.Clash.{IsClash}
 use Rattle.lalrpop_dfa.specs.Dfa.{Row}
 use Rattle.lalrpop_dfa.specs.Automata.{Item, AreCompiled}
 use Rattle.lalrpop_build.specs.Internal.Subsets.{first_set_of, is_dead}
 use Rattle.lalrpop_build.specs.Internal.BreadthFirst.{IsBreadthFirst, IsLeast, nth, after, word, value_of}
 use Rattle.lalrpop_build.specs.Internal.Built.{subset_automaton, IsStrongestIn, IsKindOf, IsTied, IsRowOf}
 use Rattle.lalrpop_dfa.specs.declared.Kind.{Kind}
-use Rattle.lalrpop_book.proofs.Members.{Has, has_from, contains_from, has_map, map_has, has_filter, filter_has, all_has, all_from_has, any_from_has, has_from_any}
+use Rattle.lalrpop_hir.proofs.Members.{Has, has_from, contains_from, has_map, map_has, has_filter, filter_has, all_has, all_from_has, any_from_has, has_from_any}
 use Rattle.lalrpop_build.proofs.Origins.{word_is_word}
 use Rattle.lalrpop_build.proofs.BreadthFirst.{word_reaches, first_is_least}
 use Rattle.lalrpop_build.proofs.Dead.{dead_stays}

@@ -9,7 +9,7 @@ use Rattle.lalrpop_dfa.specs.Automata.{Item}
 use Rattle.lalrpop_build.specs.Internal.Subsets.{move}
 use Rattle.lalrpop_build.specs.Internal.Transitions.{IsTransition, AreTransitions}
 use Rattle.lalrpop_build.specs.declared.transitions.Transition.{Transition}
-use Rattle.lalrpop_book.proofs.Members.{contains_from}
+use Rattle.lalrpop_hir.proofs.Members.{contains_from}
 use Rattle.lalrpop_build.proofs.Moved.{TakeAlso, reads_moves}
 
 module _ (ns : List Graph) (s : List Item) (leads : List Transition) where

@@ -2,8 +2,8 @@
 use Rattle.std.proofs.Common.{◌≡◌, ℕ, ◌<◌, ◌≤◌, inl, inr, ⊎_elim, List, [], ◌∷◌, ◌++◌, refl, arith, append_assoc}
 use Rattle.std.proofs.lemmas.List.{length_push, append-nil}
 use Rattle.std.proofs.lemmas.Bool.{cases_order}
-use Rattle.lalrpop_book.specs.Word.{FirstDifferenceLess, Shortlex}
-use Rattle.lalrpop_book.proofs.Words.{Shortlex-transitive}
+use Rattle.lalrpop_hir.specs.Word.{FirstDifferenceLess, Shortlex}
+use Rattle.lalrpop_hir.proofs.Words.{Shortlex-transitive}
 use Rattle.lalrpop_build.specs.Internal.BreadthFirst.{ShortlexAtMost}
 
 pub lex_push : (v w : List ℕ) (a b : ℕ) → FirstDifferenceLess v w → FirstDifferenceLess (v ++ a ∷ []) (w ++ b ∷ [])

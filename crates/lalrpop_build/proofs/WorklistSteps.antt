@@ -6,16 +6,16 @@ use Rattle.std.proofs.lemmas.List.Elements.{Contains-append_left, Contains-push_
 use Rattle.lalrpop_nfa.specs.Graph.{Graph}
 use Rattle.lalrpop_dfa.specs.Automata.{Item}
 use Rattle.lalrpop_nfa.specs.Walk.{leaves}
-use Rattle.lalrpop_dfa.specs.Internal.Ascending.{item_cmp, AreAscendingItems}
+use Rattle.lalrpop_dfa.specs.Ascending.{item_cmp, AreAscendingItems}
 use Rattle.lalrpop_build.specs.Internal.Given.{IsItemOf, AreAutomata, AreItemsOf}
 use Rattle.lalrpop_nfa.specs.Path.{noop}
 use Rattle.lalrpop_build.specs.Internal.Subsets.{graph_at, has_noop, joins, is_epsilon_path, follows_by_epsilon, closed, all_items}
 use Rattle.lalrpop_build.specs.Internal.Worklist.{IsInserted, epsilon_targets, AreOfPattern}
 use Rattle.lalrpop_nfa.specs.declared.edge.Edge.{Edge}
 use Rattle.lalrpop_nfa.specs.declared.edge.Noop.{Noop}
-use Rattle.lalrpop_book.proofs.Members.{Has, has_from, contains_from, has_map, map_has, has_filter, filter_has, any_from_has, has_from_any}
-use Rattle.lalrpop_book.proofs.Contained.{contains_none, contains_only}
-use Rattle.lalrpop_book.proofs.SortedLists.{sorted_nil, sorted_cons, sorted_same}
+use Rattle.lalrpop_hir.proofs.Members.{Has, has_from, contains_from, has_map, map_has, has_filter, filter_has, any_from_has, has_from_any}
+use Rattle.lalrpop_hir.proofs.Contained.{contains_none, contains_only}
+use Rattle.lalrpop_hir.proofs.SortedLists.{sorted_nil, sorted_cons, sorted_same}
 use Rattle.std.specs.Prelude.{slice_get, Some}
 use Rattle.std.proofs.lemmas.Option.{slice_get-get_or}
 use Rattle.lalrpop_build.proofs.Follows.{follows_place}

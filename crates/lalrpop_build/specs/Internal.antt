@@ -15,3 +15,10 @@ pub mod Subsets
 pub mod Transitions
 pub mod Worklist
 pub mod Taken
+-- the alphabet: its cells, classes and edge groups
+pub mod Alphabet
+pub mod Grouped
+pub mod Boundaries
+pub mod EdgeGroups
+pub mod Signatures
+pub mod Numbered

@@ -2,7 +2,7 @@
 -- What the states of an automaton of a list of trees hold: the states of the trees' own automata that a word leads to.
 use Rattle.std.specs.Prelude.{◌≡◌, ◌≢◌, ℕ, ◌<◌, ◌↔◌, List, length, map, slice_get, Some}
 use Rattle.std.specs.List.{Contains}
-use Rattle.lalrpop_book.specs.Word.{IsWord, Shortlex}
+use Rattle.lalrpop_hir.specs.Word.{IsWord, Shortlex}
 use Rattle.lalrpop_nfa.specs.Graph.{Graph}
 use Rattle.lalrpop_nfa.specs.Path.{Path, test}
 use Rattle.lalrpop_nfa.specs.Compiled.{start_state, reject_state}

@@ -1,14 +1,14 @@
 -- from the book: what this crate's contracts name
-pub use Rattle.lalrpop_book.specs.Word
-pub use Rattle.lalrpop_book.specs.Tree
-pub use Rattle.lalrpop_book.specs.Language
-pub use Rattle.lalrpop_book.specs.Fault
-pub use Rattle.lalrpop_book.specs.Prefix
-pub use Rattle.lalrpop_book.specs.Winners
-pub use Rattle.lalrpop_book.specs.Longest
-pub use Rattle.lalrpop_book.specs.Clash
-pub use Rattle.lalrpop_book.specs.Clashes
-pub use Rattle.lalrpop_book.specs.Report
+pub use Rattle.lalrpop_hir.specs.Word
+pub use Rattle.lalrpop_hir.specs.Tree
+pub use Rattle.lalrpop_hir.specs.Language
+pub use Rattle.lalrpop_hir.specs.Fault
+pub use Rattle.lalrpop_hir.specs.Prefix
+pub use Rattle.lalrpop_hir.specs.Winners
+pub use Rattle.lalrpop_hir.specs.Longest
+pub use Rattle.lalrpop_hir.specs.Clash
+pub use Rattle.lalrpop_hir.specs.Clashes
+pub use Rattle.lalrpop_hir.specs.Report
 -- from the crates below: what this crate's contracts name
 pub use Rattle.lalrpop_dfa.specs.Kernels
 pub use Rattle.lalrpop_dfa.specs.Automata

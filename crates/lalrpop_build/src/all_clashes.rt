@@ -1,13 +1,13 @@
 //! All clashes of a list of patterns.
 ghost use Rattle.std.specs.Prelude.{◌≡◌, ℕ, ◌↔◌, [], List, Some, map, length, slice_get, IfOk, IfErr};
-ghost use Rattle.lalrpop_book.specs.Tree.{Tree};
+ghost use Rattle.lalrpop_hir.specs.Tree.{Tree};
 ghost use Rattle.lalrpop_dfa.specs.Automata.{AreCompiled};
 ghost use Rattle.lalrpop_build.specs.Internal.Given.{AreAutomata};
-ghost use Rattle.lalrpop_book.specs.Clash.{IsClash, NoClash};
-ghost use Rattle.lalrpop_book.specs.Clashes.{AreClashes, Entry};
+ghost use Rattle.lalrpop_hir.specs.Clash.{IsClash, NoClash};
+ghost use Rattle.lalrpop_hir.specs.Clashes.{AreClashes, Entry};
 ghost use Rattle.lalrpop_build.specs.Internal.Expansion.{IsBuiltTo};
 ghost use Rattle.lalrpop_build.specs.Internal.Ties.{AreOwn};
-ghost use Rattle.lalrpop_book.specs.Report.{NoFault, IsFaultOf};
+ghost use Rattle.lalrpop_hir.specs.Report.{NoFault, IsFaultOf};
 
 use crate::build::compile::compile_all;
 use crate::build::{Expansion, expanded};
@@ -38,7 +38,7 @@ pub struct Clash {
 }
 
 impl Model for Clash {
-    ghost use Rattle.lalrpop_book.specs.Clashes.{Entry};
+    ghost use Rattle.lalrpop_hir.specs.Clashes.{Entry};
 
     ghost Value = { Entry };
 

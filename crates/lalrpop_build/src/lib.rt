@@ -6,6 +6,7 @@
 #![tactic(auto)]
 
 mod all_clashes;
+mod alphabet;
 mod build;
 pub mod closure;
 mod moves;
@@ -15,6 +16,6 @@ mod worklist;
 
 pub use all_clashes::{Clash, clashes};
 pub use build::build_dfa;
-pub use lalrpop_book::{DfaConstructionError, NfaIndex, Precedence};
+pub use lalrpop_hir::{DfaConstructionError, NfaIndex, Precedence};
 use lalrpop_dfa::{Dfa, DfaStateIndex, Kind};
 pub use transitions::Transition;

@@ -3,7 +3,7 @@
 ghost use Rattle.std.specs.Prelude.{◌≡◌, ◌<◌, ◌≤◌, ◌++◌, length, map, OnOk};
 ghost use Rattle.std.specs.List.{Contains};
 ghost use Rattle.std.specs.List.Sorted.{IsSorted};
-ghost use Rattle.lalrpop_dfa.specs.Internal.Ascending.{AreAscendingItems, AreByPattern};
+ghost use Rattle.lalrpop_dfa.specs.Ascending.{AreAscendingItems, AreByPattern};
 ghost use Rattle.lalrpop_build.specs.Internal.Given.{IsItemOf, AreItemsOf};
 ghost use Rattle.lalrpop_build.specs.Internal.Subsets.{default_targets};
 ghost use Rattle.lalrpop_build.specs.Internal.Transitions.{transition_cmp};

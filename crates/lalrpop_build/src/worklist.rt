@@ -7,7 +7,7 @@ ghost use Rattle.lalrpop_build.specs.Internal.Given.{IsItemOf, AreAutomata, AreI
 ghost use Rattle.lalrpop_build.specs.Internal.Subsets.{closed};
 ghost use Rattle.lalrpop_build.specs.Internal.Worklist.{IsAdded, IsInserted, epsilon_targets, marked};
 
-use lalrpop_book::NfaIndex;
+use lalrpop_hir::NfaIndex;
 use lalrpop_dfa::Item;
 use lalrpop_nfa::{Nfa, Noop};
 use std::alloc::AllocError;

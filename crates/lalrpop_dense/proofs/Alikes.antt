@@ -1,10 +1,10 @@
 -- States that lead most values where an earlier state leads them.
 use Rattle.std.proofs.Common.{◌≡◌, ℕ, zero, suc, ◌+◌, ◌-◌, ◌<◌, ◌≤◌, ⊎_elim, List, [], ◌∷◌, length, drop, get_or, refl, sym, ap, ap₂, ◌∙◌, arith, drop-cons}
 use Rattle.std.specs.Prelude.{slice_get, Some}
-use Rattle.lalrpop_book.specs.Range.{Range}
+use Rattle.lalrpop_hir.specs.Range.{Range}
 use Rattle.std.proofs.lemmas.Bool.{cases_lt}
 use Rattle.lalrpop_dfa.specs.Dfa.{edge_target, AreAscendingTests}
-use Rattle.lalrpop_dfa.specs.Internal.Stored.{EndBefore}
+use Rattle.lalrpop_dfa.specs.Stored.{EndBefore}
 use Rattle.lalrpop_dfa.proofs.EdgeTargets.{leads_later, before_at, has_value_at}
 use Rattle.lalrpop_dense.specs.Internal.Alikes.{SameEnd}
 

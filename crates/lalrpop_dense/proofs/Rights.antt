@@ -5,7 +5,7 @@ use Rattle.std.proofs.lemmas.Bool.{cases_lt}
 use Rattle.std.proofs.lemmas.List.{get_or-set_same, get_or-set_other}
 use Rattle.std.proofs.lemmas.Option.{slice_get_within}
 use Rattle.std.proofs.Math.ListN.{set}
-use Rattle.lalrpop_book.specs.Range.{Range}
+use Rattle.lalrpop_hir.specs.Range.{Range}
 use Rattle.lalrpop_dfa.specs.Dfa.{Row, StoredState, IsStored, step, edge_target, AreAscendingTests}
 use Rattle.lalrpop_dfa.proofs.EdgeTargets.{the_some, step_of, tests_of, leads_between}
 use Rattle.lalrpop_dense.specs.Internal.Alikes.{IsAlike}

@@ -2,8 +2,8 @@
 -- Matches that lead from one place of a text to another.
 use Rattle.std.specs.Prelude.{ℕ, ◌-◌, ◌<◌, List, [], ◌∷◌, take, drop, Some}
 use Rattle.std.specs.Str.{IsCharBoundary}
-use Rattle.lalrpop_book.specs.Tree.{Tree}
-use Rattle.lalrpop_book.specs.Longest.{IsLongest}
+use Rattle.lalrpop_hir.specs.Tree.{Tree}
+use Rattle.lalrpop_hir.specs.Longest.{IsLongest}
 use Rattle.lalrpop_dfa.specs.Dfa.{Row, Recognizes}
 
 -- the longest match of the text from the place on is by this pattern, and ends there

@@ -5,7 +5,7 @@
 
 ghost use Rattle.std.specs.Prelude.{◌≡◌, ℕ, ◌<◌, ◌≤◌, length, IfOk, IfSome};
 ghost use Rattle.lalrpop_dfa.specs.Dfa.{AreAscendingTests};
-ghost use Rattle.lalrpop_dfa.specs.Internal.Stored.{EndBefore};
+ghost use Rattle.lalrpop_dfa.specs.Stored.{EndBefore};
 ghost use Rattle.lalrpop_dense.specs.Internal.Alikes.{AreAlikes, IsAlike, SameEnd};
 
 use lalrpop_dfa::{Dfa, DfaStateIndex};

@@ -3,7 +3,7 @@
 ghost use Rattle.std.specs.Prelude.{◌≡◌, ℕ, ◌+◌, ◌*◌, ◌<◌, ◌≤◌, length, slice_index, EachIndex, IsTrue, IfOk};
 ghost use Rattle.std.specs.List.{All};
 ghost use Rattle.lalrpop_dfa.specs.Dfa.{edge_target, AreAscendingTests};
-ghost use Rattle.lalrpop_dfa.specs.Internal.Stored.{EndBefore};
+ghost use Rattle.lalrpop_dfa.specs.Stored.{EndBefore};
 ghost use Rattle.lalrpop_dense.specs.Internal.Table.{HasClasses, IsRowOfKind, IsTableOf, LeadsRight};
 ghost use Rattle.lalrpop_dense.specs.Internal.Runs.{IsRun, AreRuns, IsPageAgain, LeadsRightBelow, LeadsOn, LeadOnAlike};
 ghost use Rattle.lalrpop_dense.specs.Internal.Alikes.{AreAlikes, IsAlike};

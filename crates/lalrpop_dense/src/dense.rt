@@ -3,11 +3,11 @@
 ghost use Rattle.std.specs.Prelude.{◌≡◌, ◌≢◌, ℕ, ◌+◌, ◌≤◌, [], length, List, IfOk, IfSome, MatchOption};
 ghost use Rattle.std.specs.Option.{option_map};
 ghost use Rattle.std.specs.Str.{IsCharBoundary, chars};
-ghost use Rattle.lalrpop_book.specs.Tree.{Tree};
-ghost use Rattle.lalrpop_book.specs.Prefix.{IsPrefix};
+ghost use Rattle.lalrpop_hir.specs.Tree.{Tree};
+ghost use Rattle.lalrpop_hir.specs.Prefix.{IsPrefix};
 ghost use Rattle.lalrpop_dfa.specs.Dfa.{Recognizes};
 ghost use Rattle.lalrpop_dfa.specs.Lookahead.{ReadsAtMost};
-ghost use Rattle.lalrpop_book.specs.Longest.{IsLongest};
+ghost use Rattle.lalrpop_hir.specs.Longest.{IsLongest};
 ghost use Rattle.lalrpop_dense.specs.Leading.{AreAhead, last_end};
 ghost use Rattle.lalrpop_dense.specs.DenseTable.{IsTableFor, table_numbers};
 ghost use Rattle.lalrpop_dense.specs.Internal.Fused.{IsFusedOf, IsTable};

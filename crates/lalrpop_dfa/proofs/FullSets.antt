@@ -10,12 +10,12 @@ use Rattle.std.proofs.lemmas.List.Kept.{IsStrictlySortedBy-filter}
 use Rattle.std.proofs.lemmas.Map.Keys.{sorted_tail}
 use Rattle.lalrpop_nfa.specs.Compiled.{accept_state, reject_state}
 use Rattle.lalrpop_dfa.specs.Automata.{Item}
-use Rattle.lalrpop_dfa.specs.Internal.Ascending.{item_cmp, AreAscendingItems}
+use Rattle.lalrpop_dfa.specs.Ascending.{item_cmp, AreAscendingItems}
 use Rattle.lalrpop_dfa.specs.Internal.OrderLaws.{item_total}
-use Rattle.lalrpop_dfa.specs.Internal.LiveItems.{is_live, live_of, rejects_of}
-use Rattle.lalrpop_dfa.specs.Internal.Split.{reject_of, items_of, full, IsSplit}
-use Rattle.lalrpop_book.proofs.Members.{Has, has_from, contains_from, has_left, has_right, has_cases, has_filter, filter_has, any_from_has, has_from_any, has_map, map_has}
-use Rattle.lalrpop_book.proofs.SortedLists.{sorted_nil, sorted_cons, sorted_append, sorted_below, sorted_same}
+use Rattle.lalrpop_dfa.specs.LiveItems.{is_live, live_of, rejects_of}
+use Rattle.lalrpop_dfa.specs.Split.{reject_of, items_of, full, IsSplit}
+use Rattle.lalrpop_hir.proofs.Members.{Has, has_from, contains_from, has_left, has_right, has_cases, has_filter, filter_has, any_from_has, has_from_any, has_map, map_has}
+use Rattle.lalrpop_hir.proofs.SortedLists.{sorted_nil, sorted_cons, sorted_append, sorted_below, sorted_same}
 
 -- ---- tests
 not_true : (b : Bool) → b ≡ false → not b ≡ true

@@ -1,7 +1,7 @@
 -- Words that are read off, each value the least that leads on: the least words.
 use Rattle.std.proofs.Common.{◌≡◌, ◌≢◌, ℕ, zero, suc, inl, inr, ◌<◌, ◌≤◌, List, [], ◌∷◌, ◌++◌, length, refl, ap, ◌∙◌, subst, arith, append_assoc}
 use Rattle.std.specs.Prelude.{Some}
-use Rattle.lalrpop_book.specs.Word.{IsWord, FirstDifferenceLess, Shortlex}
+use Rattle.lalrpop_hir.specs.Word.{IsWord, FirstDifferenceLess, Shortlex}
 use Rattle.lalrpop_dfa.specs.Dfa.{Row, step, run, after, IsWellFormed}
 use Rattle.lalrpop_dfa.specs.Lookahead.{Accepted}
 use Rattle.lalrpop_dfa.specs.Witness.{IsOpenMatch, IsWitness}

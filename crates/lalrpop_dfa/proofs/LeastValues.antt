@@ -4,9 +4,9 @@ use Rattle.std.specs.Prelude.{slice_get, Option, Some, None, Result, Ok, Err}
 use Rattle.std.specs.Result.{OkIff, result_ok}
 use Rattle.std.proofs.lemmas.Bool.{cases_lt}
 use Rattle.std.proofs.lemmas.Option.{slice_get_within}
-use Rattle.lalrpop_book.specs.Range.{Range}
+use Rattle.lalrpop_hir.specs.Range.{Range}
 use Rattle.lalrpop_dfa.specs.Dfa.{Row, step, AreAscendingTests}
-use Rattle.lalrpop_dfa.specs.Internal.Stored.{EndBefore}
+use Rattle.lalrpop_dfa.specs.Stored.{EndBefore}
 use Rattle.lalrpop_dfa.proofs.EdgeTargets.{before_at, has_value_at, leads_at, leads_between, step_of}
 use Rattle.lalrpop_dfa.specs.Internal.Ranks.{IsLeastInto}
 

@@ -6,13 +6,13 @@ use Rattle.std.specs.Str.{chars}
 use Rattle.std.proofs.lemmas.Bool.{cases_lt}
 use Rattle.std.proofs.lemmas.List.{nil_from_length}
 use Rattle.std.proofs.lemmas.Str.{chars-nil, chars-append}
-use Rattle.lalrpop_book.specs.Tree.{Tree}
-use Rattle.lalrpop_book.specs.Prefix.{IsPrefix}
+use Rattle.lalrpop_hir.specs.Tree.{Tree}
+use Rattle.lalrpop_hir.specs.Prefix.{IsPrefix}
 use Rattle.lalrpop_nfa.proofs.Cuts.{IsCut, cut_within, word_after, goes_on, ends_there}
 use Rattle.lalrpop_dfa.specs.Dfa.{Row, step, run, after, Recognizes, IsRightKind, IsReject}
-use Rattle.lalrpop_book.specs.Longest.{IsMatch, IsLongest}
-use Rattle.lalrpop_book.specs.Word.{IsWord}
-use Rattle.lalrpop_book.specs.Winners.{Matched, IsOnlyStrongest, IsHighestStrongest}
+use Rattle.lalrpop_hir.specs.Longest.{IsMatch, IsLongest}
+use Rattle.lalrpop_hir.specs.Word.{IsWord}
+use Rattle.lalrpop_hir.specs.Winners.{Matched, IsOnlyStrongest, IsHighestStrongest}
 use Rattle.lalrpop_dfa.specs.declared.Kind.{Kind}
 use Rattle.lalrpop_dfa.specs.declared.Kind.TheVariants.{Reject}
 use Rattle.lalrpop_dfa.proofs.AfterLaws.{run_append, after_push}

@@ -12,7 +12,7 @@ use Rattle.std.proofs.lemmas.Bool.{cases_Bool}
 use Rattle.std.proofs.lemmas.Bool.Decides.{nat_tests}
 use Rattle.std.proofs.lemmas.List.{drop-append-le}
 use Rattle.std.proofs.lemmas.Map.Views.{All-values-insert_entry}
-use Rattle.lalrpop_book.proofs.Pushed.{pushed_cases, pushed_keeps, pushed_last}
+use Rattle.lalrpop_hir.proofs.Pushed.{pushed_cases, pushed_keeps, pushed_last}
 use Rattle.lalrpop_dfa.specs.Kernels.{IsNumberOf, AreDistinct, added}
 use Rattle.lalrpop_dfa.specs.Internal.Numbered.{key_with, by_number, in_order, IsNumbered, IsKernelSet}
 

@@ -8,7 +8,7 @@ use Rattle.std.proofs.lemmas.List.{length_push, get_or_append_left, get_or_push}
 use Rattle.lalrpop_dfa.specs.declared.Kind.{Kind}
 use Rattle.lalrpop_dfa.specs.declared.Kind.TheVariants.{Accepts}
 use Rattle.std.proofs.lemmas.List.Sums.{sum_by-set}
-use Rattle.lalrpop_book.specs.Word.{IsWord}
+use Rattle.lalrpop_hir.specs.Word.{IsWord}
 use Rattle.lalrpop_dfa.specs.Dfa.{Row, step, run, IsWellFormed}
 use Rattle.lalrpop_dfa.specs.Lookahead.{IsAccepting}
 use Rattle.lalrpop_dfa.specs.Internal.Marks.{IsWaiting, WaitsAlong, WaitsFor, Marked, AreWaitingFor}

@@ -6,7 +6,7 @@ use Rattle.std.proofs.Math.Bool.{beq}
 use lib.Pointwise.{pointwise}
 use Rattle.std.proofs.lemmas.Bool.{cases_lt}
 use Rattle.std.proofs.lemmas.Option.{slice_get_within}
-use Rattle.lalrpop_book.specs.Range.{Range}
+use Rattle.lalrpop_hir.specs.Range.{Range}
 use Rattle.lalrpop_dfa.specs.Dfa.{Row, step, run, after, AreAscendingTests, IsWellFormed}
 use Rattle.lalrpop_dfa.specs.Lookahead.{IsAccepting}
 use Rattle.lalrpop_dfa.specs.Internal.Marks.{AreAccepting, AreLive, AreMarked, AreMarkedBack, AreMarkedOn, AreReached, IsReached, LeadsInto, LeadsOnTo, LeadsTo, Marked, WaitsFor}

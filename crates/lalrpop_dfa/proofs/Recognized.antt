@@ -1,8 +1,8 @@
 -- What the states of an automaton say of the words that lead to them, if it recognizes some trees.
 use Rattle.std.proofs.Common.{◌≡◌, ℕ, ◌⊎◌, ◌↔◌, inl, inr, List, refl, sym, ap, ◌∙◌, subst}
 use Rattle.std.specs.Prelude.{slice_get, Option, Some, None, IsSomeAnd}
-use Rattle.lalrpop_book.specs.Tree.{Tree}
-use Rattle.lalrpop_book.specs.Winners.{IsOnlyStrongest, Matched}
+use Rattle.lalrpop_hir.specs.Tree.{Tree}
+use Rattle.lalrpop_hir.specs.Winners.{IsOnlyStrongest, Matched}
 use Rattle.lalrpop_dfa.specs.Dfa.{Row, after, Recognizes, RecognizesAll, IsRightKind}
 use Rattle.lalrpop_dfa.specs.Lookahead.{Accepted, AcceptedAs, IsAccepting}
 use Rattle.lalrpop_dfa.proofs.EdgeTargets.{the_some}

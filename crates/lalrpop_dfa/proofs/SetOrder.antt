@@ -14,14 +14,14 @@ use Rattle.std.proofs.lemmas.List.{get_or-take, get_or_default}
 use Rattle.std.proofs.lemmas.Map.Keys.{sorted_tail, Less-from_sorted}
 use Rattle.lalrpop_nfa.specs.Compiled.{reject_state}
 use Rattle.lalrpop_dfa.specs.Automata.{Item}
-use Rattle.lalrpop_dfa.specs.Internal.Ascending.{item_cmp, AreAscendingItems}
+use Rattle.lalrpop_dfa.specs.Ascending.{item_cmp, AreAscendingItems}
 use Rattle.lalrpop_dfa.specs.Internal.OrderLaws.{item_total, rejects_total}
-use Rattle.lalrpop_dfa.specs.Internal.ItemOrder.{rejects_cmp, hash_of, items_cmp, set_cmp}
-use Rattle.lalrpop_dfa.specs.Internal.LiveItems.{live_of, rejects_of}
-use Rattle.lalrpop_dfa.specs.Internal.Split.{full, IsSplit, AreAlikeBelow}
-use Rattle.lalrpop_book.proofs.Members.{Has, has_from, contains_from}
-use Rattle.lalrpop_book.proofs.SortedLists.{sorted_below, sorted_same}
-use Rattle.lalrpop_book.proofs.Orders.{then_equal, nat_exact, lists_exact}
+use Rattle.lalrpop_dfa.specs.ItemOrder.{rejects_cmp, hash_of, items_cmp, set_cmp}
+use Rattle.lalrpop_dfa.specs.LiveItems.{live_of, rejects_of}
+use Rattle.lalrpop_dfa.specs.Split.{full, IsSplit, AreAlikeBelow}
+use Rattle.lalrpop_hir.proofs.Members.{Has, has_from, contains_from}
+use Rattle.lalrpop_hir.proofs.SortedLists.{sorted_below, sorted_same}
+use Rattle.lalrpop_hir.proofs.Orders.{then_equal, nat_exact, lists_exact}
 use Rattle.lalrpop_dfa.proofs.ItemTies.{item_exact}
 use Rattle.lalrpop_dfa.proofs.FullSets.{split_ascends, split_live, full_parts, full_reject, reject_parts, live_is_of, rejects_have, rejects_held, rejects_rise}
 

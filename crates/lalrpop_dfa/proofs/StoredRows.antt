@@ -2,10 +2,10 @@
 use Rattle.std.proofs.Common.{◌≡◌, ◌≢◌, ℕ, zero, suc, ◌+◌, ◌≤◌, List, [], ◌∷◌, ◌++◌, length, take, drop, get_or, slice_set, refl, ap, ap₂, ◌∙◌, arith}
 use Rattle.std.specs.Prelude.{slice_get, Some, None}
 use Rattle.std.proofs.lemmas.List.{take-append-le, drop-append-le, length-drop}
-use Rattle.lalrpop_book.specs.Range.{Range}
+use Rattle.lalrpop_hir.specs.Range.{Range}
 use Rattle.lalrpop_dfa.specs.Dfa.{Row, StoredState}
 use Rattle.lalrpop_dfa.specs.declared.Kind.TheVariants.{Reject}
-use Rattle.lalrpop_dfa.specs.Internal.Stored.{row_of, rows_of, AreWithin, IsRejecting}
+use Rattle.lalrpop_dfa.specs.Stored.{row_of, rows_of, AreWithin, IsRejecting}
 
 -- edges after those of a state make no difference to it
 part_kept : (edges more : List (Range × ℕ)) (first count : ℕ) → first + count ≤ length edges → take count (drop first (edges ++ more)) ≡ take count (drop first edges)

@@ -5,7 +5,7 @@ use Rattle.std.specs.Str.{chars, IsUtf8, all_scalars}
 use Rattle.std.proofs.lemmas.Bool.{and_parts}
 use Rattle.std.proofs.lemmas.Bool.Decides.{nat_tests}
 use Rattle.std.proofs.lemmas.Str.{scalars-chars}
-use Rattle.lalrpop_book.specs.Word.{IsWord}
+use Rattle.lalrpop_hir.specs.Word.{IsWord}
 
 pub IsWord-append : (v w : List ℕ) → IsWord v → IsWord w → IsWord (v ++ w)
 IsWord-append [] w before behind = behind

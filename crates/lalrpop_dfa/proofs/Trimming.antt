@@ -4,12 +4,12 @@ use Rattle.std.specs.Prelude.{slice_get, Option, Some, IsSomeAnd}
 use Rattle.std.specs.List.{Contains}
 use Rattle.std.proofs.lemmas.Bool.{cases_lt}
 use Rattle.std.proofs.lemmas.Option.{slice_get_cases, slice_get_within}
-use Rattle.lalrpop_book.specs.Tree.{Tree}
+use Rattle.lalrpop_hir.specs.Tree.{Tree}
 use Rattle.lalrpop_dfa.specs.declared.Kind.TheVariants.{Reject, Neither}
 use Rattle.lalrpop_dfa.specs.Dfa.{Row, step, run, after, edge_target, IsReject, IsRightKind, IsWellFormed, RecognizesAll, AreAscendingTests}
 use Rattle.lalrpop_dfa.specs.Lookahead.{IsAccepting, IsLive, IsTrim, IsTrimmed}
 use Rattle.lalrpop_dfa.specs.Internal.Marks.{AreLive, Marked}
-use Rattle.lalrpop_dfa.specs.Internal.Stored.{AreListed, IsRejecting}
+use Rattle.lalrpop_dfa.specs.Stored.{AreListed, IsRejecting}
 use Rattle.lalrpop_dfa.proofs.EdgeTargets.{step_of, step_within, the_some}
 use Rattle.lalrpop_dfa.proofs.Recognized.{matched_accepts}
 

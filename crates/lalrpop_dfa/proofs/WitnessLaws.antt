@@ -1,8 +1,8 @@
 -- The witness is unique, what it says of the lookahead, and both for sets of words that are equal.
 use Rattle.std.proofs.Common.{◌≡◌, ℕ, ◌≤◌, ◌⊎◌, ◌↔◌, inl, inr, ◌++◌, List, sym, subst}
 use Rattle.std.specs.Prelude.{Option, Some, None}
-use Rattle.lalrpop_book.specs.Word.{Shortlex}
-use Rattle.lalrpop_book.proofs.Words.{Shortlex-total}
+use Rattle.lalrpop_hir.specs.Word.{Shortlex}
+use Rattle.lalrpop_hir.proofs.Words.{Shortlex-total}
 use Rattle.lalrpop_dfa.specs.Lookahead.{CanStayOpen, IsLookahead, LeavesOpen, LooksAtMost, StaysOpenEver}
 use Rattle.lalrpop_dfa.specs.Witness.{IsLeast, IsOpenMatch, IsWitness}
 

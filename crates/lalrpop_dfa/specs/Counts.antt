@@ -1,7 +1,7 @@
 -- cases: proofs/Cases/Counts.antt
 -- How many states an automaton of a list of trees can have, and how many test edges a state of an automaton has.
 use Rattle.std.specs.Prelude.{◌≡◌, ℕ, ◌+◌, ◌^◌, ◌≤◌, List, length, slice_get, Some, sum_by}
-use Rattle.lalrpop_book.specs.Tree.{Tree}
+use Rattle.lalrpop_hir.specs.Tree.{Tree}
 use Rattle.lalrpop_hir.specs.Size.{size}
 use Rattle.lalrpop_dfa.specs.Dfa.{Row}
 

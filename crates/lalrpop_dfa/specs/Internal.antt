@@ -1,17 +1,12 @@
 -- rows that are being written
 pub mod Written
 pub mod SameLaws
-pub mod Stored
 pub mod Marks
 -- borders of tests, and values by which a match runs on
 pub mod Fitting
 -- numbers of kernels
 pub mod Numbered
 -- items, and sets of them
-pub mod Ascending
-pub mod LiveItems
-pub mod ItemOrder
-pub mod Split
 pub mod OrderLaws
 -- depths and distances of states
 pub mod Ranks

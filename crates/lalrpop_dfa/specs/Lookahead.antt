@@ -1,7 +1,7 @@
 -- cases: proofs/Cases/Lookahead.antt
 -- How far past a match a text is read until it is settled that no longer match comes.
 use Rattle.std.specs.Prelude.{◌≡◌, ◌≢◌, ℕ, ◌≤◌, ◌⊎◌, List, [], ◌++◌, length, slice_get, Option, Some, None, IsSomeAnd}
-use Rattle.lalrpop_book.specs.Language.{Words}
+use Rattle.lalrpop_hir.specs.Language.{Words}
 use Rattle.lalrpop_dfa.specs.Dfa.{Row, run, after}
 use Rattle.lalrpop_dfa.specs.declared.Kind.TheVariants.{Accepts, Reject, Neither}
 

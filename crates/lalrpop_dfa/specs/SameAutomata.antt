@@ -2,7 +2,7 @@
 -- When two automata are equal.
 use Rattle.std.specs.Prelude.{◌≡◌, ℕ, Bool, true, false, ◌&&◌, ◌==◌, List, length, slice_get, Some}
 use Rattle.std.specs.Cmp.Lexicographic.{pointwise}
-use Rattle.lalrpop_book.specs.Range.{Range}
+use Rattle.lalrpop_hir.specs.Range.{Range}
 use Rattle.lalrpop_dfa.specs.Dfa.{Row}
 use Rattle.lalrpop_dfa.specs.declared.Kind.{Kind}
 use Rattle.lalrpop_dfa.specs.declared.Kind.TheVariants.{Accepts, Reject, Neither}

@@ -1,8 +1,8 @@
 -- cases: proofs/Cases/Witness.antt
 -- The least match that some values after it leave open, and the least such values.
 use Rattle.std.specs.Prelude.{ℕ, List}
-use Rattle.lalrpop_book.specs.Language.{Words}
-use Rattle.lalrpop_book.specs.Word.{IsWord, Shortlex}
+use Rattle.lalrpop_hir.specs.Language.{Words}
+use Rattle.lalrpop_hir.specs.Word.{IsWord, Shortlex}
 use Rattle.lalrpop_dfa.specs.Lookahead.{LeavesOpen}
 
 -- a match, and the values after it

@@ -1,7 +1,7 @@
 //! Whether a match by one pattern can run on into a match by another that stands right after it.
 
 ghost use Rattle.std.specs.Prelude.{◌≡◌, ℕ, ◌<◌, ◌↔◌, length, slice_get, Some, true, false, IsTrue, IfOk, OnOk};
-ghost use Rattle.lalrpop_book.specs.Range.{Range};
+ghost use Rattle.lalrpop_hir.specs.Range.{Range};
 ghost use Rattle.lalrpop_dfa.specs.Dfa.{IsWellFormed};
 ghost use Rattle.lalrpop_dfa.specs.Follow.{RunsOn};
 ghost use Rattle.lalrpop_dfa.specs.Lookahead.{Accepted, AcceptedAs};

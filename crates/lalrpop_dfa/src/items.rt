@@ -3,18 +3,18 @@ ghost use Rattle.std.specs.Prelude.{◌≡◌, ◌<◌, ◌↔◌, IsTrue, lengt
 ghost use Rattle.std.specs.List.{Contains};
 ghost use Rattle.std.specs.Cmp.{on_equiv, on_total, on_per, on_po, partial_order_from_agreeing_total};
 ghost use Rattle.std.specs.Cmp;
-ghost use Rattle.lalrpop_dfa.specs.Internal.Ascending.{item_cmp};
-ghost use Rattle.lalrpop_dfa.specs.Internal.ItemOrder.{item_eq, rejects_cmp, item_hash, hash_of, items_cmp, set_cmp, set_eq};
+ghost use Rattle.lalrpop_dfa.specs.Ascending.{item_cmp};
+ghost use Rattle.lalrpop_dfa.specs.ItemOrder.{item_eq, rejects_cmp, item_hash, hash_of, items_cmp, set_cmp, set_eq};
 ghost use Rattle.lalrpop_dfa.specs.Internal.OrderLaws.{item_total, item_equiv, item_ties, set_total, set_equiv, set_ties};
 ghost use Rattle.lalrpop_nfa.specs.Compiled.{reject_state};
 ghost use Rattle.std.specs.List.Sorted.{IsStrictlySortedBy};
 ghost use Rattle.std.specs.Ordering.{nat_cmp};
-ghost use Rattle.lalrpop_dfa.specs.Internal.Split.{AreAlikeBelow, IsSplit, full};
-ghost use Rattle.lalrpop_dfa.specs.Internal.LiveItems.{live_of};
+ghost use Rattle.lalrpop_dfa.specs.Split.{AreAlikeBelow, IsSplit, full};
+ghost use Rattle.lalrpop_dfa.specs.LiveItems.{live_of};
 
 use crate::index::DfaStateIndex;
 use crate::kernel_set::Kernel;
-use lalrpop_book::NfaIndex;
+use lalrpop_hir::NfaIndex;
 use lalrpop_nfa::{Nfa, NfaStateIndex};
 use std::alloc::AllocError;
 use std::cmp::Ordering;
@@ -179,7 +179,7 @@ pub struct ItemSet {
 
 impl Model for ItemSet {
     ghost use Rattle.std.specs.Prelude.{ℕ, List};
-    ghost use Rattle.lalrpop_dfa.specs.Internal.Split.{full, IsHashed};
+    ghost use Rattle.lalrpop_dfa.specs.Split.{full, IsHashed};
 
     ghost Value = { List (ℕ × ℕ) };
 

@@ -23,7 +23,7 @@ ghost use Rattle.std.specs.Prelude.{◌≡◌, ◌<◌, length, slice_get, Some,
 
 pub use index::{DfaStateIndex, START};
 pub use items::{Item, ItemSet};
-pub use lalrpop_book::{NfaIndex, Precedence};
+pub use lalrpop_hir::{NfaIndex, Precedence};
 use lalrpop_nfa::Test;
 pub use rows::{RowWriter, Rows};
 use search::LISTED;
@@ -119,7 +119,7 @@ pub struct Dfa {
 impl Model for Dfa {
     ghost use Rattle.std.specs.Prelude.{List};
     ghost use Rattle.lalrpop_dfa.specs.Dfa.{Row, IsWellFormed};
-    ghost use Rattle.lalrpop_dfa.specs.Internal.Stored.{AreListed};
+    ghost use Rattle.lalrpop_dfa.specs.Stored.{AreListed};
 
     ghost Value = { List Row };
 

@@ -2,7 +2,7 @@
 
 ghost use Rattle.std.specs.Prelude.{◌≡◌, ◌<◌, ◌++◌, ◌∷◌, [], length, slice_get, IsSomeAnd, OnOk};
 ghost use Rattle.lalrpop_dfa.specs.Dfa.{IsStored, AreStored};
-ghost use Rattle.lalrpop_dfa.specs.Internal.Stored.{IsRejecting};
+ghost use Rattle.lalrpop_dfa.specs.Stored.{IsRejecting};
 
 use super::{DfaStateIndex, Kind, State};
 use crate::ItemSet;
@@ -20,7 +20,7 @@ pub struct Rows {
 impl Model for Rows {
     ghost use Rattle.std.specs.Prelude.{List};
     ghost use Rattle.lalrpop_dfa.specs.Dfa.{Row};
-    ghost use Rattle.lalrpop_dfa.specs.Internal.Stored.{rows_of, AreWithin};
+    ghost use Rattle.lalrpop_dfa.specs.Stored.{rows_of, AreWithin};
 
     ghost Value = { List Row };
 
@@ -90,7 +90,7 @@ pub struct RowWriter {
 impl Model for RowWriter {
     ghost use Rattle.std.specs.Prelude.{drop, ◌≤◌, length};
     ghost use Rattle.lalrpop_dfa.specs.Internal.Written.{Written};
-    ghost use Rattle.lalrpop_dfa.specs.Internal.Stored.{rows_of, AreWithin};
+    ghost use Rattle.lalrpop_dfa.specs.Stored.{rows_of, AreWithin};
 
     ghost Value = { Written };
 

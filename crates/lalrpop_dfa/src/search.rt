@@ -2,10 +2,10 @@
 
 ghost use Rattle.std.specs.Prelude.{◌≡◌, ℕ, ◌+◌, ◌^◌, ◌<◌, ◌≤◌, length, slice_get, Some, IfSome, IfNone, IfOk};
 ghost use Rattle.std.specs.List.{Contains};
-ghost use Rattle.lalrpop_book.specs.Range.{Range, Covers};
+ghost use Rattle.lalrpop_hir.specs.Range.{Range, Covers};
 ghost use Rattle.lalrpop_dfa.specs.Counts.{HaveAtMost};
 ghost use Rattle.lalrpop_dfa.specs.Dfa.{edge_target, step, AreAscendingTests, IsWellFormed};
-ghost use Rattle.lalrpop_dfa.specs.Internal.Stored.{AreSteps, EndBefore};
+ghost use Rattle.lalrpop_dfa.specs.Stored.{AreSteps, EndBefore};
 
 use super::rows::Rows;
 use super::{Dfa, DfaStateIndex};

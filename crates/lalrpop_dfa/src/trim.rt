@@ -1,7 +1,7 @@
 //! Automata whose dead states reject.
 
 ghost use Rattle.std.specs.Prelude.{ℕ, List, IfOk};
-ghost use Rattle.lalrpop_book.specs.Tree.{Tree};
+ghost use Rattle.lalrpop_hir.specs.Tree.{Tree};
 ghost use Rattle.lalrpop_dfa.specs.Dfa.{RecognizesAll};
 ghost use Rattle.lalrpop_dfa.specs.Lookahead.{IsTrimmed};
 

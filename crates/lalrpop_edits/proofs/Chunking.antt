@@ -9,9 +9,9 @@ use Rattle.std.proofs.lemmas.Str.{IsCharBoundary-start}
 use Rattle.std.proofs.Math.Seq.{take-append_seam}
 use Rattle.std.proofs.lemmas.Option.{slice_get-get_or}
 use Rattle.std.proofs.lemmas.List.{append-nil, take-append-le, length-take-le, drop-drop, get_or-append-add, get_or_append_left}
-use Rattle.lalrpop_book.specs.Prefix.{IsPrefix}
-use Rattle.lalrpop_book.specs.Tree.{Tree}
-use Rattle.lalrpop_book.specs.Longest.{IsLongest}
+use Rattle.lalrpop_hir.specs.Prefix.{IsPrefix}
+use Rattle.lalrpop_hir.specs.Tree.{Tree}
+use Rattle.lalrpop_hir.specs.Longest.{IsLongest}
 use Rattle.lalrpop_rules.specs.Found.{MatchesAt, NoMatchBefore}
 use Rattle.lalrpop_rules.specs.Pieces.{IsFault, IsPiece, AreSame, slice_of, start_of}
 use Rattle.lalrpop_rules.specs.declared.item.Item.{Item}

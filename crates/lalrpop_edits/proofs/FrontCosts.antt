@@ -6,8 +6,8 @@ use Rattle.std.specs.Str.{IsUtf8, IsCharBoundary}
 use Rattle.std.proofs.lemmas.Bool.{cases_lt}
 use Rattle.std.proofs.lemmas.List.Elements.{All-nil, All-append, All-weaker, All-contains}
 use Rattle.std.proofs.lemmas.Str.{IsCharBoundary-from_rest, IsUtf8-take, IsUtf8-drop}
-use Rattle.lalrpop_book.specs.Tree.{Tree}
-use Rattle.lalrpop_book.specs.Longest.{IsMatch, IsLongest}
+use Rattle.lalrpop_hir.specs.Tree.{Tree}
+use Rattle.lalrpop_hir.specs.Longest.{IsMatch, IsLongest}
 use Rattle.lalrpop_dfa.specs.Dfa.{Row, RecognizesAll}
 use Rattle.lalrpop_dfa.specs.Lookahead.{IsTrim}
 use Rattle.lalrpop_edits.specs.Lexed.{ReadsTo}

@@ -6,9 +6,9 @@ use Rattle.std.specs.Char.{encode_utf8}
 use Rattle.std.proofs.lemmas.Bool.{cases_order, cases_lt}
 use Rattle.std.proofs.lemmas.Str.{IsUtf8-take, IsCharBoundary-from_take}
 use Rattle.std.proofs.lemmas.List.{take-append-drop, append-nil}
-use Rattle.lalrpop_book.specs.Tree.{Tree}
-use Rattle.lalrpop_book.specs.Longest.{IsMatch, IsLongest}
-use Rattle.lalrpop_book.specs.Winners.{Matched, IsStrongest, IsOnlyStrongest}
+use Rattle.lalrpop_hir.specs.Tree.{Tree}
+use Rattle.lalrpop_hir.specs.Longest.{IsMatch, IsLongest}
+use Rattle.lalrpop_hir.specs.Winners.{Matched, IsStrongest, IsOnlyStrongest}
 use Rattle.lalrpop_nfa.proofs.Cuts.{IsCut, cut_more, cut_within, ends_there}
 use Rattle.lalrpop_dfa.specs.Dfa.{Row, after, RecognizesAll, IsRightKind}
 use Rattle.lalrpop_dfa.specs.declared.Kind.{Kind}

@@ -15,10 +15,10 @@ use Rattle.std.proofs.lemmas.List.{take-append-drop, drop_at, drop-drop}
 use Rattle.std.proofs.lemmas.List.Elements.{All-head, All-tail, All-push}
 use Rattle.std.proofs.lemmas.Map.Lookups.{CmpEqualImpliesEq, exact_pairs, exact_unsigned}
 use Rattle.std.proofs.lemmas.Str.{chars-append, chars_past_char, encodes-chars, IsUtf8-past_char}
-use Rattle.lalrpop_book.specs.Tree.{Tree}
-use Rattle.lalrpop_book.specs.Longest.{IsLongest}
-use Rattle.lalrpop_book.specs.Prefix.{IsPrefix}
-use Rattle.lalrpop_book.specs.Winners.{Matched}
+use Rattle.lalrpop_hir.specs.Tree.{Tree}
+use Rattle.lalrpop_hir.specs.Longest.{IsLongest}
+use Rattle.lalrpop_hir.specs.Prefix.{IsPrefix}
+use Rattle.lalrpop_hir.specs.Winners.{Matched}
 use Rattle.lalrpop_nfa.proofs.Cuts.{IsCut, cut_more, cut_within, word_after, goes_on}
 use Rattle.lalrpop_dfa.specs.Dfa.{Row, after, RecognizesAll, IsRightKind, IsReject}
 use Rattle.lalrpop_dfa.specs.Lookahead.{IsTrim}

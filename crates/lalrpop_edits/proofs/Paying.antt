@@ -4,7 +4,7 @@ use Rattle.std.specs.Prelude.{Option, Some, None, slice_get}
 use Rattle.std.specs.Str.{IsCharBoundary}
 use Rattle.std.proofs.lemmas.Bool.{cases_order}
 use Rattle.std.proofs.lemmas.List.Elements.{All-nil, All-append, All-contains, All-weaker}
-use Rattle.lalrpop_book.proofs.Longests.{longest-unique}
+use Rattle.lalrpop_hir.proofs.Longests.{longest-unique}
 use Rattle.lalrpop_dfa.specs.Dfa.{Row}
 use Rattle.lalrpop_rules.proofs.FirstMatches.{some_length}
 use Rattle.lalrpop_modes.specs.Modes.{ModeRules, trees_in}

@@ -6,9 +6,9 @@ use Rattle.std.proofs.lemmas.List.{drop-drop}
 use Rattle.std.proofs.lemmas.List.Elements.{All-weaker}
 use Rattle.std.proofs.lemmas.Option.{slice_get_within}
 use Rattle.std.proofs.lemmas.Str.{IsCharBoundary-from_rest}
-use Rattle.lalrpop_book.specs.Tree.{Tree}
-use Rattle.lalrpop_book.specs.Longest.{IsLongest}
-use Rattle.lalrpop_book.specs.Winners.{Matched}
+use Rattle.lalrpop_hir.specs.Tree.{Tree}
+use Rattle.lalrpop_hir.specs.Longest.{IsLongest}
+use Rattle.lalrpop_hir.specs.Winners.{Matched}
 use Rattle.lalrpop_rules.specs.Kinds.{merged_behind}
 use Rattle.lalrpop_modes.specs.Stack.{Stack, act_all, actions_of}
 use Rattle.lalrpop_modes.specs.Modes.{ModeRules, kinds_of, mode_rules, trees_in}

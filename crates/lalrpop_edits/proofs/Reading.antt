@@ -6,9 +6,9 @@ use Rattle.std.specs.Str.{chars, IsUtf8, IsCharBoundary}
 use Rattle.std.proofs.lemmas.Bool.{cases_lt}
 use Rattle.std.proofs.lemmas.List.{append-nil, take-append-drop, take-append-le, take_at, drop-take}
 use Rattle.std.proofs.lemmas.Str.{chars-append, IsUtf8-drop}
-use Rattle.lalrpop_book.specs.Tree.{Tree}
-use Rattle.lalrpop_book.specs.Longest.{IsMatch}
-use Rattle.lalrpop_book.specs.Winners.{Matched}
+use Rattle.lalrpop_hir.specs.Tree.{Tree}
+use Rattle.lalrpop_hir.specs.Longest.{IsMatch}
+use Rattle.lalrpop_hir.specs.Winners.{Matched}
 use Rattle.lalrpop_dfa.specs.Dfa.{Row, after, RecognizesAll}
 use Rattle.lalrpop_dfa.specs.Lookahead.{IsTrim, IsAccepting}
 use Rattle.lalrpop_dfa.specs.declared.Kind.TheVariants.{Neither}

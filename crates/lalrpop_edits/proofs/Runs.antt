@@ -1,9 +1,9 @@
 -- What the run of an automaton has seen settles what matches.
 use Rattle.std.proofs.Common.{◌≡◌, ◌≢◌, ℕ, ◌⊎◌, inl, inr, List, [], ◌∷◌, ◌++◌, refl, sym, subst, ◌∙◌}
 use Rattle.std.specs.Prelude.{Option, Some, None, IsSomeAnd, slice_get}
-use Rattle.lalrpop_book.specs.Range.{Range}
-use Rattle.lalrpop_book.specs.Tree.{Tree}
-use Rattle.lalrpop_book.specs.Winners.{Matched}
+use Rattle.lalrpop_hir.specs.Range.{Range}
+use Rattle.lalrpop_hir.specs.Tree.{Tree}
+use Rattle.lalrpop_hir.specs.Winners.{Matched}
 use Rattle.lalrpop_dfa.specs.Dfa.{Row, step, run, after, RecognizesAll, IsRightKind, IsReject, AreAscendingTests, edge_target}
 use Rattle.lalrpop_dfa.specs.Lookahead.{IsTrim, IsLive, IsAccepting}
 use Rattle.lalrpop_dfa.specs.declared.Kind.{Kind}

@@ -2,8 +2,8 @@
 -- A text with its pieces, and what an edit changes of it.
 use Rattle.std.specs.Prelude.{◌≡◌, ℕ, ◌+◌, ◌-◌, ◌≤◌, ◌⊎◌, List, [], ◌∷◌, ◌++◌, length, take, drop, Option, Some, None, slice_get, IsSomeAnd}
 use Rattle.std.specs.Str.{chars, IsCharBoundary}
-use Rattle.lalrpop_book.specs.Tree.{Tree}
-use Rattle.lalrpop_book.specs.Winners.{Matched}
+use Rattle.lalrpop_hir.specs.Tree.{Tree}
+use Rattle.lalrpop_hir.specs.Winners.{Matched}
 use Rattle.lalrpop_modes.specs.declared.action.Action.{Action}
 use Rattle.lalrpop_modes.specs.Stack.{Stack, start}
 use Rattle.lalrpop_modes.specs.Modes.{ModeRules, ArePiecesFrom, after_all, trees_in}

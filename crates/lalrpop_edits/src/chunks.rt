@@ -3,8 +3,8 @@
 ghost use Rattle.std.specs.Prelude.{◌≡◌, ◌≢◌, ◌+◌, ◌^◌, ◌++◌, ◌<◌, ◌⊎◌, ℕ, List, [], None, true, false, length, take, drop, string_bytes, IfSome, IfNone, IsSome, IfOk, OnOk, OnErr};
 ghost use Rattle.std.specs.Str.{chars, IsCharBoundary};
 ghost use Rattle.std.specs.Borrow.{Bor};
-ghost use Rattle.lalrpop_book.specs.Tree.{Tree};
-ghost use Rattle.lalrpop_book.specs.Winners.{Matched};
+ghost use Rattle.lalrpop_hir.specs.Tree.{Tree};
+ghost use Rattle.lalrpop_hir.specs.Winners.{Matched};
 ghost use Rattle.lalrpop_rules.specs.Found.{MatchesAt, NoMatchBefore};
 ghost use Rattle.lalrpop_rules.specs.Pieces.{IsPiece};
 ghost use Rattle.lalrpop_modes.specs.Modes.{EachMode, ModeRules, trees_in};

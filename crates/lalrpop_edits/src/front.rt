@@ -2,7 +2,7 @@
 
 ghost use Rattle.std.specs.Prelude.{◌≡◌, ◌≢◌, ◌+◌, ◌^◌, ◌<◌, ◌≤◌, ◌⊎◌, ◌==◌, if◌then◌else◌, ℕ, List, Some, None, length, true, IfSome, IfNone, IsSomeAnd};
 ghost use Rattle.std.specs.Str.{IsCharBoundary};
-ghost use Rattle.lalrpop_book.specs.Tree.{Tree};
+ghost use Rattle.lalrpop_hir.specs.Tree.{Tree};
 ghost use Rattle.lalrpop_dfa.specs.Dfa.{Row, RecognizesAll};
 ghost use Rattle.lalrpop_dfa.specs.Lookahead.{IsTrim};
 ghost use Rattle.lalrpop_edits.specs.Internal.Reach.{AreAlike};

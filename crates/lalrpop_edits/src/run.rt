@@ -4,10 +4,10 @@ ghost use Rattle.std.specs.Prelude.{◌≡◌, ◌≢◌, ℕ, ◌≤◌, ◌<�
 ghost use Rattle.std.specs.Option.{option_map};
 ghost use Rattle.std.specs.List.{All};
 ghost use Rattle.std.specs.Str.{chars, encode_utf8_all, IsUtf8};
-ghost use Rattle.lalrpop_book.specs.Tree.{Tree};
-ghost use Rattle.lalrpop_book.specs.Prefix.{IsPrefix};
-ghost use Rattle.lalrpop_book.specs.Longest.{IsLongest};
-ghost use Rattle.lalrpop_book.specs.Winners.{Matched};
+ghost use Rattle.lalrpop_hir.specs.Tree.{Tree};
+ghost use Rattle.lalrpop_hir.specs.Prefix.{IsPrefix};
+ghost use Rattle.lalrpop_hir.specs.Longest.{IsLongest};
+ghost use Rattle.lalrpop_hir.specs.Winners.{Matched};
 ghost use Rattle.lalrpop_dfa.specs.Dfa.{Row, RecognizesAll};
 ghost use Rattle.lalrpop_dfa.specs.Lookahead.{IsTrim};
 ghost use Rattle.lalrpop_dfa.specs.declared.Kind.TheVariants.{Neither};

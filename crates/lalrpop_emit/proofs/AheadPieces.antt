@@ -2,8 +2,8 @@
 use Rattle.std.proofs.Common.{◌≡◌, ℕ, ◌+◌, ◌-◌, List, [], ◌∷◌, take, drop, inr, sym, ap, subst, arith, length-drop}
 use Rattle.std.specs.Prelude.{slice_get, Some}
 use Rattle.std.proofs.lemmas.List.{drop-drop}
-use Rattle.lalrpop_book.specs.Tree.{Tree}
-use Rattle.lalrpop_book.specs.Longest.{IsLongest}
+use Rattle.lalrpop_hir.specs.Tree.{Tree}
+use Rattle.lalrpop_hir.specs.Longest.{IsLongest}
 use Rattle.lalrpop_dfa.specs.Dfa.{Row, Recognizes}
 use Rattle.lalrpop_dense.specs.DenseTable.{TableNumbers, IsTableFor}
 use Rattle.lalrpop_emit.specs.BytePieces.{IsByteToken, IsByteTokenOrFault, IsBytePiece}

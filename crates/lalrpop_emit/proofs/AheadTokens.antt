@@ -5,8 +5,8 @@ use Rattle.std.specs.Char.{encode_utf8}
 use Rattle.std.proofs.lemmas.Bool.{false_from_ne_true}
 use Rattle.std.proofs.lemmas.Option.{same_Some}
 use Rattle.std.proofs.lemmas.List.Sums.{fold_more}
-use Rattle.lalrpop_book.specs.Tree.{Tree}
-use Rattle.lalrpop_book.specs.Longest.{IsLongest}
+use Rattle.lalrpop_hir.specs.Tree.{Tree}
+use Rattle.lalrpop_hir.specs.Longest.{IsLongest}
 use Rattle.lalrpop_dfa.specs.Dfa.{Row, Recognizes}
 use Rattle.lalrpop_dfa.proofs.LongestLemmas.{IsLongestUpTo}
 use Rattle.lalrpop_dense.specs.DenseTable.{TableNumbers, IsTableFor, character_class}

@@ -5,7 +5,7 @@ use Rattle.std.specs.Str.{chars, IsUtf8, encode_utf8_all}
 use Rattle.std.proofs.lemmas.Bool.{and_parts, cases_lt}
 use Rattle.std.proofs.lemmas.List.{append-nil, append_cancel_left, take_at, take-append-drop, take-append-le, nil_from_length, length-take-le, drop-drop}
 use Rattle.std.proofs.lemmas.Str.{chars-nil, chars-append, chars_past_char, encode_same, IsUtf8-append, IsUtf8-encode, IsUtf8-drop, IsCharBoundary-from_take}
-use Rattle.lalrpop_book.specs.Prefix.{IsPrefix}
+use Rattle.lalrpop_hir.specs.Prefix.{IsPrefix}
 use Rattle.lalrpop_emit.specs.Internal.Characters.{IsCharacterAt}
 
 -- the first `at` bytes are whole characters

@@ -9,7 +9,7 @@ use Rattle.lalrpop_modes.specs.declared.action.Action.{Action}
 use Rattle.lalrpop_modes.specs.Stack.{Stack, act_all, actions_of}
 use Rattle.lalrpop_modes.specs.Modes.{ModeRules, EachMode, trees_in}
 use Rattle.lalrpop_modes.proofs.ModeLaws.{act-keeps}
-use Rattle.lalrpop_book.specs.Longest.{IsLongest}
+use Rattle.lalrpop_hir.specs.Longest.{IsLongest}
 use Rattle.lalrpop_emit.specs.BytePieces.{IsByteFault, Fits}
 use Rattle.lalrpop_emit.specs.Names.{distinct_names, place_of_name}
 use Rattle.lalrpop_emit.specs.NumberedRules.{NumberedRules, AreNumbersOf, action_numbers, actions_of_rules}

@@ -2,8 +2,8 @@
 use Rattle.std.proofs.Common.{◌≡◌, ℕ, ◌-◌, ◌<◌, ◌≤◌, Bool, true, List, length, take, drop, sym, subst, ◌∙◌}
 use Rattle.std.specs.Prelude.{slice_get, IfSome, Option, Some, None}
 use Rattle.std.specs.Option.{is_some}
-use Rattle.lalrpop_book.specs.Tree.{Tree}
-use Rattle.lalrpop_book.specs.Longest.{IsLongest}
+use Rattle.lalrpop_hir.specs.Tree.{Tree}
+use Rattle.lalrpop_hir.specs.Longest.{IsLongest}
 use Rattle.lalrpop_dfa.specs.Dfa.{Row, Recognizes}
 use Rattle.lalrpop_dfa.proofs.Recognized.{on_words}
 use Rattle.lalrpop_dense.specs.DenseTable.{IsTableFor, TableNumbers}

@@ -4,8 +4,8 @@ use Rattle.std.specs.Prelude.{slice_index, true, false, IsTrue, MatchOption, IfS
 use Rattle.std.specs.Char.{encode_utf8}
 use Rattle.std.proofs.lemmas.Bool.{cases_lt}
 use Rattle.std.proofs.lemmas.List.{drop-drop}
-use Rattle.lalrpop_book.specs.Tree.{Tree}
-use Rattle.lalrpop_book.specs.Longest.{IsLongest}
+use Rattle.lalrpop_hir.specs.Tree.{Tree}
+use Rattle.lalrpop_hir.specs.Longest.{IsLongest}
 use Rattle.lalrpop_dfa.specs.Dfa.{Row, Recognizes}
 use Rattle.lalrpop_dfa.proofs.LongestLemmas.{IsLongestUpTo}
 use Rattle.lalrpop_dense.specs.DenseTable.{TableNumbers, IsTableFor, character_class}

@@ -14,8 +14,8 @@ ghost use Rattle.std.specs.Prelude.{◌≡◌, [], None, IsFalse, ◌+◌, ◌-�
 ghost use Rattle.std.specs.Char.{encode_utf8, IsScalar};
 ghost use Rattle.std.specs.List.{All};
 ghost use Rattle.std.specs.Option.{option_map};
-ghost use Rattle.lalrpop_book.specs.Tree.{Tree};
-ghost use Rattle.lalrpop_book.specs.Longest.{IsLongest};
+ghost use Rattle.lalrpop_hir.specs.Tree.{Tree};
+ghost use Rattle.lalrpop_hir.specs.Longest.{IsLongest};
 ghost use Rattle.lalrpop_dfa.specs.Dfa.{Row, Recognizes};
 ghost use Rattle.lalrpop_dense.specs.DenseTable.{AreClasses, IsTableFor, TableNumbers, block_of_page, character_class};
 ghost use Rattle.lalrpop_rules.specs.Found.{MatchesAt};

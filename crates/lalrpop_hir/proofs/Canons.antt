@@ -2,7 +2,7 @@
 use Rattle.std.proofs.Common.{◌≡◌, ℕ, ◌<◌, ◌≤◌, ◌⊎◌, inl, inr, List, [], ◌∷◌, true, refl, sym, ap, ◌∙◌, arith}
 use Rattle.std.proofs.lemmas.Bool.{cases_lt}
 use Rattle.std.proofs.Math.Utf8.{scalar, scalar_cases}
-use Rattle.lalrpop_book.specs.Range.{Range, Covers, Covered}
+use Rattle.lalrpop_hir.specs.Range.{Range, Covers, Covered}
 use Rattle.lalrpop_hir.specs.Runs.{IsScalar, IsByte, next_scalar, next_byte, AreApart, HaveEndsIn, IsCanon, IsByteCanon}
 
 -- `next` goes up, and from a member below another one it goes to a member that is not past that

@@ -1,7 +1,7 @@
 -- What follows for sets from their complements.
 use Rattle.std.proofs.Common.{ℕ, ◌⊎◌, ◌↔◌, inl, inr, List, [], ◌∷◌, arith}
 use Rattle.std.proofs.lemmas.Bool.{cases_lt}
-use Rattle.lalrpop_book.specs.Range.{Range, Covers, Covered}
+use Rattle.lalrpop_hir.specs.Range.{Range, Covers, Covered}
 use Rattle.lalrpop_hir.specs.Runs.{IsScalar, IsCanon}
 
 covers-or_not : (r : Range) (c : ℕ) → Covers r c ⊎ ¬ Covers r c

@@ -2,7 +2,7 @@
 use Rattle.std.proofs.Common.{◌≡◌, ℕ, ◌+◌, ◌-◌, ◌<◌, ◌≤◌, ◌⊎◌, inl, inr, List, [], ◌∷◌, ◌++◌, length, drop, min, max, if◌then◌else◌, eqb, refl, sym, ap, subst, ◌∙◌, append_assoc, arith}
 use Rattle.std.proofs.lemmas.Bool.{cases_lt}
 use Rattle.std.proofs.lemmas.List.{drop_all}
-use Rattle.lalrpop_book.specs.Range.{Range, Covered}
+use Rattle.lalrpop_hir.specs.Range.{Range, Covered}
 use Rattle.lalrpop_hir.specs.Runs.{IsScalar, next_scalar, AreApart, HaveEndsIn, IsCanonical, IsCanon}
 use Rattle.lalrpop_hir.proofs.Canons.{scalar_steps, head-holds, tail-apart, from_start}
 use Rattle.lalrpop_hir.proofs.Joining.{IsAt, left}

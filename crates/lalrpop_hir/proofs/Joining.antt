@@ -10,7 +10,7 @@ use Rattle.std.proofs.lemmas.List.{take_all, drop_all}
 use Rattle.std.proofs.lemmas.List.Elements.{All-nil, All-head, All-tail, All-more}
 use Rattle.std.proofs.lemmas.List.Sorted.{IsNonDecreasingBy-drop, IsPermutation-sym, Contains-permutation}
 use Rattle.std.proofs.Math.Utf8.{scalar}
-use Rattle.lalrpop_book.specs.Range.{Range, Covers, Covered}
+use Rattle.lalrpop_hir.specs.Range.{Range, Covers, Covered}
 use Rattle.lalrpop_hir.specs.Runs.{IsScalar, IsByte, AreApart, HaveEndsIn}
 use Rattle.lalrpop_hir.proofs.Canons.{Steps, AreKept, IsScalar-from_char}
 

@@ -3,9 +3,9 @@ use Rattle.std.proofs.Common.{◌≡◌, ℕ, zero, suc, ◌≤◌, ◌↔◌, L
 use Rattle.std.specs.Str.{chars}
 use Rattle.std.proofs.lemmas.Str.{chars-nil}
 use Rattle.std.proofs.lemmas.List.{append-nil}
-use Rattle.lalrpop_book.specs.Tree.{Tree, repetition, concat, alternation, none, also}
+use Rattle.lalrpop_hir.specs.Tree.{Tree, repetition, concat, alternation, none, also}
 use Rattle.lalrpop_hir.specs.Parts.{of_text}
-use Rattle.lalrpop_book.specs.Language.{Words, Then, Power, Matches}
+use Rattle.lalrpop_hir.specs.Language.{Words, Then, Power, Matches}
 
 -- a concatenation without parts matches only the empty word
 pub Matches-concat-none : (w : List ℕ) → Matches (concat none) w ↔ (w ≡ [])

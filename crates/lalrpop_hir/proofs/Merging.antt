@@ -3,7 +3,7 @@ use Rattle.std.proofs.Common.{◌≡◌, ℕ, zero, suc, ◌<◌, ◌≤◌, ◌
 use Rattle.std.specs.List.Sorted.{IsNonDecreasingBy}
 use Rattle.std.proofs.lemmas.Bool.{cases_lt}
 use Rattle.std.proofs.lemmas.List.{drop_all, take_all, append-nil}
-use Rattle.lalrpop_book.specs.Range.{Range, Covered}
+use Rattle.lalrpop_hir.specs.Range.{Range, Covered}
 use Rattle.lalrpop_hir.specs.Runs.{next_scalar, AreApart, IsCanonical}
 use Rattle.lalrpop_hir.proofs.Canons.{scalar_steps}
 use Rattle.lalrpop_hir.proofs.Joining.{Ascend}

@@ -1,7 +1,7 @@
 -- Repetitions as an automaton makes them: copies, then optional copies or a loop.
 use Rattle.std.proofs.Common.{◌≡◌, ℕ, zero, suc, ◌+◌, ◌-◌, ◌≤◌, ◌⊎◌, ◌↔◌, inl, inr, List, [], ◌++◌, append_assoc, Bool, Some, None, refl, sym, ap, subst, ◌∙◌, arith}
-use Rattle.lalrpop_book.specs.Tree.{Tree, repetition}
-use Rattle.lalrpop_book.specs.Language.{Words, Then, Power, Matches}
+use Rattle.lalrpop_hir.specs.Tree.{Tree, repetition}
+use Rattle.lalrpop_hir.specs.Language.{Words, Then, Power, Matches}
 
 -- a word of the set, or the empty word
 abbrev pub Optional : Words → Words

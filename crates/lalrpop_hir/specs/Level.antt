@@ -1,8 +1,8 @@
 -- cases: proofs/Cases/Level.antt
 -- One level of a tree's representation, with the trees of its parts.
 use Rattle.std.specs.Str.{chars}
-use Rattle.lalrpop_book.specs.Tree as tree
-use Rattle.lalrpop_book.specs.Tree.{Tree}
+use Rattle.lalrpop_hir.specs.Tree as tree
+use Rattle.lalrpop_hir.specs.Tree.{Tree}
 use Rattle.lalrpop_hir.specs.Parts.{trees}
 use Rattle.lalrpop_hir.specs.declared.class.Class.{Class}
 use Rattle.lalrpop_hir.specs.declared.class.Class.TheVariants.{Unicode, Bytes}

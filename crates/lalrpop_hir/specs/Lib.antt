@@ -1,8 +1,19 @@
--- from the book: what this crate's contracts name
-pub use Rattle.lalrpop_book.specs.Word
-pub use Rattle.lalrpop_book.specs.Range
-pub use Rattle.lalrpop_book.specs.Tree
-pub use Rattle.lalrpop_book.specs.Language
+-- what a lexer has to do, in reading order: words, trees, and the words that a tree matches
+pub mod Word
+pub mod Range
+pub mod Tree
+pub mod Language
+pub mod Fault
+-- many trees: who wins, the longest match, a clash, and the tokens of a text
+pub mod Prefix
+pub mod Winners
+pub mod Longest
+pub mod Clash
+pub mod Clashes
+pub mod Report
+pub mod Chain
+pub mod Tokens
+-- trees as they are stored
 pub mod Runs
 pub mod Counts
 pub mod Parts

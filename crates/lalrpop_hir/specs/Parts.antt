@@ -2,7 +2,7 @@
 -- Trees from their parts: repetitions and groups, lists of trees, texts.
 use Rattle.std.specs.Prelude.{ℕ, List, [], ◌∷◌, Bool, Option}
 use Rattle.std.specs.Str.{chars}
-use Rattle.lalrpop_book.specs.Tree.{Tree, empty, literal, Trees, none, also}
+use Rattle.lalrpop_hir.specs.Tree.{Tree, empty, literal, Trees, none, also}
 
 -- a repetition by its parts
 pub record Repeated : Type 0 where

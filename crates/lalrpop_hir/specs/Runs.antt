@@ -1,7 +1,7 @@
 -- cases: proofs/Cases/Runs.antt
 -- Sets of values, and the lists of maximal runs that classes keep.
 use Rattle.std.specs.Prelude.{ℕ, ◌+◌, ◌<◌, ◌≤◌, ◌⊎◌, ◌↔◌, List, [], ◌∷◌, if◌then◌else◌, eqb}
-use Rattle.lalrpop_book.specs.Range.{Range, Covered}
+use Rattle.lalrpop_hir.specs.Range.{Range, Covered}
 
 -- the value lies in either list, in both, in the first alone, in exactly one of them
 abbrev pub InEither : List Range → List Range → ℕ → Type 0

@@ -1,7 +1,7 @@
 -- cases: proofs/Cases/Size.antt
 -- The size of a tree, which bounds the number of its automaton's states.
 use Rattle.std.specs.Prelude.{ℕ, zero, suc, ◌+◌, ◌-◌, ◌*◌, length, Option, Some, None}
-use Rattle.lalrpop_book.specs.Tree.{Tree, empty, literal, class, look, repetition, capture, concat, alternation, Trees, none, also}
+use Rattle.lalrpop_hir.specs.Tree.{Tree, empty, literal, class, look, repetition, capture, concat, alternation, Trees, none, also}
 
 -- the states of n to m repetitions of a part that has z states
 abbrev pub repeated_size : ℕ → Option ℕ → ℕ → ℕ

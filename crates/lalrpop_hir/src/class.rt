@@ -27,7 +27,7 @@ pub struct ClassUnicodeRange {
 
 impl Model for ClassUnicodeRange {
     ghost use Rattle.std.specs.Prelude.{◌≤◌};
-    ghost use Rattle.lalrpop_book.specs.Range.{Range};
+    ghost use Rattle.lalrpop_hir.specs.Range.{Range};
 
     ghost Value = { Range };
 
@@ -54,7 +54,7 @@ pub struct ClassBytesRange {
 
 impl Model for ClassBytesRange {
     ghost use Rattle.std.specs.Prelude.{◌≤◌};
-    ghost use Rattle.lalrpop_book.specs.Range.{Range};
+    ghost use Rattle.lalrpop_hir.specs.Range.{Range};
 
     ghost Value = { Range };
 
@@ -84,7 +84,7 @@ pub struct ClassUnicode {
 
 impl Model for ClassUnicode {
     ghost use Rattle.std.specs.Prelude.{List};
-    ghost use Rattle.lalrpop_book.specs.Range.{Range};
+    ghost use Rattle.lalrpop_hir.specs.Range.{Range};
     ghost use Rattle.lalrpop_hir.specs.Runs.{IsCanonical};
 
     ghost Value = { List Range };
@@ -110,7 +110,7 @@ pub struct ClassBytes {
 
 impl Model for ClassBytes {
     ghost use Rattle.std.specs.Prelude.{List};
-    ghost use Rattle.lalrpop_book.specs.Range.{Range};
+    ghost use Rattle.lalrpop_hir.specs.Range.{Range};
     ghost use Rattle.lalrpop_hir.specs.Runs.{AreByteRuns};
 
     ghost Value = { List Range };

@@ -3,14 +3,14 @@ ghost use Rattle.std.specs.Prelude.{◌≡◌, ◌≢◌, ◌≤◌, IfOk, map, 
 ghost use Rattle.std.specs.Str.{chars};
 ghost use Rattle.lalrpop_hir.specs.Counts.{AreOrdered};
 ghost use Rattle.lalrpop_hir.specs.Level.{class_of, kind_tree};
-ghost use Rattle.lalrpop_book.specs.Tree.{empty, literal, class, look, repetition, capture, concat, alternation};
+ghost use Rattle.lalrpop_hir.specs.Tree.{empty, literal, class, look, repetition, capture, concat, alternation};
 ghost use Rattle.lalrpop_hir.specs.Parts.{trees, of_text};
 
 mod group;
 mod repetitions;
 
 use crate::class::Class;
-use lalrpop_book::Look;
+use crate::look::Look;
 use std::alloc::{AllocError, Global};
 use std::marker::Model;
 
@@ -136,7 +136,7 @@ pub struct Capture {
 
 impl Model for Hir {
     ghost use Rattle.std.proofs.Common.{arith};
-    ghost use Rattle.lalrpop_book.specs.Tree.{Tree};
+    ghost use Rattle.lalrpop_hir.specs.Tree.{Tree};
     ghost use Rattle.lalrpop_hir.specs.Internal.Depth.{depth};
     ghost use Rattle.lalrpop_hir.specs.Internal.Code.{tree_code};
 

@@ -4,9 +4,9 @@ use Rattle.std.specs.Prelude.{Option, Some, None, Ok, Err, IfSome, IfNone}
 use Rattle.std.specs.Option.{option_map}
 use Rattle.std.specs.Str.{chars, IsUtf8}
 use Rattle.std.proofs.lemmas.Str.{chars-append}
-use Rattle.lalrpop_book.specs.Prefix.{IsPrefix}
-use Rattle.lalrpop_book.specs.declared.token.Token.{Token}
-use Rattle.lalrpop_book.specs.declared.token.TokenFault.{TokenFault}
+use Rattle.lalrpop_hir.specs.Prefix.{IsPrefix}
+use Rattle.lalrpop_hir.specs.declared.token.Token.{Token}
+use Rattle.lalrpop_hir.specs.declared.token.TokenFault.{TokenFault}
 use Rattle.lalrpop_dfa.specs.Lookahead.{ReadsAtMost}
 use Rattle.lalrpop_lexer.specs.Matching.{characters_of}
 use Rattle.lalrpop_lexer.specs.Cutting.{Cutting, rest_of, left_of, IsNext, GivesItem}

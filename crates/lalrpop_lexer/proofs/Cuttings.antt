@@ -5,12 +5,12 @@ use Rattle.std.specs.Iterator.{Yields, Drains}
 use Rattle.std.specs.Str.{chars, IsUtf8, IsCharBoundary, encode_utf8_all}
 use Rattle.std.proofs.lemmas.Str.{IsCharBoundary-from_take, IsUtf8-drop, encodes-chars, chars-append}
 use Rattle.std.proofs.lemmas.List.{take_at, drop_at, drop-drop}
-use Rattle.lalrpop_book.specs.Tree.{Tree}
-use Rattle.lalrpop_book.specs.Prefix.{IsPrefix}
+use Rattle.lalrpop_hir.specs.Tree.{Tree}
+use Rattle.lalrpop_hir.specs.Prefix.{IsPrefix}
 use Rattle.lalrpop_dfa.specs.Dfa.{Row, Recognizes}
 use Rattle.lalrpop_lexer.specs.Cutting.{Cutting, start_of, rest_of, left_of, GivesItem}
-use Rattle.lalrpop_book.specs.Tokens.{Item, AreItems, slices}
-use Rattle.lalrpop_book.proofs.LastFaults.{items_to_fault}
+use Rattle.lalrpop_hir.specs.Tokens.{Item, AreItems, slices}
+use Rattle.lalrpop_hir.proofs.LastFaults.{items_to_fault}
 
 -- a prefix of a text ends where the text may be split
 pub cut_behind : (p text : List ℕ) → IsUtf8 text → IsPrefix p text → IsCharBoundary text (length p)

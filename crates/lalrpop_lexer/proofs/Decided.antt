@@ -8,11 +8,11 @@ use Rattle.std.proofs.lemmas.Bool.{cases_Bool, cases_lt}
 use Rattle.std.proofs.lemmas.List.{nil_from_length}
 use Rattle.std.proofs.lemmas.Option.{slice_get_within}
 use Rattle.std.proofs.lemmas.Str.{IsUtf8-from_is_utf8, is_utf8-from_IsUtf8}
-use Rattle.lalrpop_book.specs.Range.{Range, Covered}
-use Rattle.lalrpop_book.specs.Tree.{Class, unicode, bytes, Tree, empty, literal, class, look, repetition, capture, concat, alternation, Trees, none, also}
-use Rattle.lalrpop_book.specs.Language.{Words, Then, Power, Holds, IsCount, Matches, MatchInTurn, SomeMatches}
-use Rattle.lalrpop_book.specs.Winners.{TreeMatches, Matched, IsHighestStrongest}
-use Rattle.lalrpop_book.specs.Longest.{IsMatch, IsLongest}
+use Rattle.lalrpop_hir.specs.Range.{Range, Covered}
+use Rattle.lalrpop_hir.specs.Tree.{Class, unicode, bytes, Tree, empty, literal, class, look, repetition, capture, concat, alternation, Trees, none, also}
+use Rattle.lalrpop_hir.specs.Language.{Words, Then, Power, Holds, IsCount, Matches, MatchInTurn, SomeMatches}
+use Rattle.lalrpop_hir.specs.Winners.{TreeMatches, Matched, IsHighestStrongest}
+use Rattle.lalrpop_hir.specs.Longest.{IsMatch, IsLongest}
 
 -- ---- decisions of facts with parts
 

@@ -3,9 +3,9 @@ use Rattle.std.proofs.Common.{◌≡◌, ◌≢◌, ℕ, ◌+◌, ◌≤◌, Lis
 use Rattle.std.specs.Prelude.{Option, Some, None}
 use Rattle.std.specs.Option.{option_map}
 use Rattle.std.specs.Str.{chars}
-use Rattle.lalrpop_book.specs.Tree.{Tree}
-use Rattle.lalrpop_book.specs.Prefix.{IsPrefix}
-use Rattle.lalrpop_book.specs.Longest.{IsLongest}
+use Rattle.lalrpop_hir.specs.Tree.{Tree}
+use Rattle.lalrpop_hir.specs.Prefix.{IsPrefix}
+use Rattle.lalrpop_hir.specs.Longest.{IsLongest}
 use Rattle.lalrpop_dfa.specs.Dfa.{Row, Recognizes}
 use Rattle.lalrpop_dfa.specs.Lookahead.{ReadsAtMost}
 use Rattle.lalrpop_lexer.specs.Matching.{Matching, rest_of as rest_of_matching}

@@ -4,10 +4,10 @@ use Rattle.std.specs.Prelude.{slice_get, Option}
 use Rattle.std.specs.Str.{chars, encode_utf8_all}
 use Rattle.std.proofs.lemmas.Bool.{cases_lt}
 use Rattle.std.proofs.lemmas.Str.{chars-append, encodes-chars}
-use Rattle.lalrpop_book.specs.Tree.{Tree}
-use Rattle.lalrpop_book.specs.Longest.{IsLongest}
-use Rattle.lalrpop_book.specs.Winners.{Matched}
-use Rattle.lalrpop_book.specs.Word.{IsWord}
+use Rattle.lalrpop_hir.specs.Tree.{Tree}
+use Rattle.lalrpop_hir.specs.Longest.{IsLongest}
+use Rattle.lalrpop_hir.specs.Winners.{Matched}
+use Rattle.lalrpop_hir.specs.Word.{IsWord}
 use Rattle.lalrpop_nfa.proofs.Cuts.{IsCut, goes_on}
 use Rattle.lalrpop_dfa.specs.Dfa.{Row, step, run, after, Recognizes}
 use Rattle.lalrpop_dfa.specs.Lookahead.{IsOpen}

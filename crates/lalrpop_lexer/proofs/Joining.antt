@@ -7,12 +7,12 @@ use Rattle.std.proofs.lemmas.List.{append-nil, nil_from_length, take_more, take_
 use Rattle.std.proofs.lemmas.List.Elements.{All-nil, All-push}
 use Rattle.std.specs.Option.{option_map}
 use Rattle.std.proofs.lemmas.Option.{get_or_from_slice_get, slice_get_within, slice_get-map, slice_get_read, some_pair_parts}
-use Rattle.lalrpop_book.specs.Tree.{Tree}
-use Rattle.lalrpop_book.specs.Longest.{IsLongest}
-use Rattle.lalrpop_book.specs.Winners.{IsOnlyStrongest}
-use Rattle.lalrpop_book.specs.Tokens.{IsToken, AreTokens}
-use Rattle.lalrpop_book.specs.declared.token.Token.{Token}
-use Rattle.lalrpop_book.proofs.Longests.{longest-unique}
+use Rattle.lalrpop_hir.specs.Tree.{Tree}
+use Rattle.lalrpop_hir.specs.Longest.{IsLongest}
+use Rattle.lalrpop_hir.specs.Winners.{IsOnlyStrongest}
+use Rattle.lalrpop_hir.specs.Tokens.{IsToken, AreTokens}
+use Rattle.lalrpop_hir.specs.declared.token.Token.{Token}
+use Rattle.lalrpop_hir.proofs.Longests.{longest-unique}
 use Rattle.lalrpop_lexer.specs.Neighbours.{CanFollow, IsParted, text_of, IsWhole, CanPart, CanPartAll, placed}
 use Rattle.lalrpop_lexer.specs.Joined.{plain, IsJoined, CanJoin, IsJoinError}
 use Rattle.lalrpop_lexer.specs.declared.join_error.JoinError.TheVariants.{Inseparable}

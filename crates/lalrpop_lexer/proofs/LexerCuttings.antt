@@ -4,19 +4,18 @@ use Rattle.std.specs.Prelude.{Option, Some, None, Result, Ok, Err}
 use Rattle.std.specs.Iterator.{Yields, Drains}
 use Rattle.std.specs.Str.{chars, IsUtf8}
 use Rattle.std.proofs.lemmas.List.{length-map}
-use Rattle.lalrpop_book.specs.Tree.{Tree}
+use Rattle.lalrpop_hir.specs.Tree.{Tree}
 use Rattle.lalrpop_dfa.specs.Dfa.{Row}
-use Rattle.lalrpop_book.specs.Clash.{NoClash}
-use Rattle.lalrpop_book.proofs.LastFaults.{tokens_to_fault, no_items_behind}
-use Rattle.lalrpop_book.proofs.Strongest.{IsOnlyStrongest-from_greatest}
+use Rattle.lalrpop_hir.specs.Clash.{NoClash}
+use Rattle.lalrpop_hir.proofs.LastFaults.{tokens_to_fault, no_items_behind}
+use Rattle.lalrpop_hir.proofs.Strongest.{IsOnlyStrongest-from_greatest}
 use Rattle.lalrpop_dfa.proofs.Recognized.{on_words}
 use Rattle.lalrpop_lexer.specs.Cutting.{Cutting, start_of, rest_of, GivesItem}
-use Rattle.lalrpop_book.specs.Tokens.{AreItems, slices}
+use Rattle.lalrpop_hir.specs.Tokens.{AreItems, slices, AreTokens, bare}
 use Rattle.lalrpop_lexer.specs.LexerTokens.{CutsToken}
-use Rattle.lalrpop_book.specs.Tokens.{AreTokens, bare}
 use Rattle.lalrpop_lexer.specs.Rules.{IsBuiltFrom}
-use Rattle.lalrpop_book.specs.declared.token.Token.{Token}
-use Rattle.lalrpop_book.specs.declared.token.TokenFault.{TokenFault}
+use Rattle.lalrpop_hir.specs.declared.token.Token.{Token}
+use Rattle.lalrpop_hir.specs.declared.token.TokenFault.{TokenFault}
 use Rattle.lalrpop_lexer.proofs.Cuttings.{items_from_start, parts_from_start, count_from_start, none_for_good}
 
 -- the automaton returned the same, without the places

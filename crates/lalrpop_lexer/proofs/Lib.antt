@@ -21,13 +21,13 @@ pub mod ByteRuns
 -- texts and their trees
 pub mod SpelledTexts
 -- what the definitions mean: the clash, the list of clashes and the longest match are unique
-pub use Rattle.lalrpop_book.proofs.ClashLaws
+pub use Rattle.lalrpop_hir.proofs.ClashLaws
 pub use Rattle.lalrpop_build.proofs.ClashListLaws
-pub use Rattle.lalrpop_book.proofs.Longests
+pub use Rattle.lalrpop_hir.proofs.Longests
 -- what follows from the clauses, for callers
 pub use Rattle.lalrpop_nfa.proofs.PartitionLaws
-pub use Rattle.lalrpop_book.proofs.Chains
-pub use Rattle.lalrpop_book.proofs.Strongest
+pub use Rattle.lalrpop_hir.proofs.Chains
+pub use Rattle.lalrpop_hir.proofs.Strongest
 pub use Rattle.lalrpop_build.proofs.Agreeing
 pub use Rattle.lalrpop_build.proofs.AfterLaws
 pub use Rattle.lalrpop_dfa.proofs.Recognized

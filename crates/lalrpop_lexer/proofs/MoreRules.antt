@@ -4,12 +4,12 @@ use Rattle.std.specs.Prelude.{Option, Some, None, IsSomeAnd, slice_index}
 use Rattle.std.specs.Str.{chars}
 use Rattle.std.proofs.lemmas.List.{get_or_append_left, get_or_push}
 use Rattle.std.proofs.lemmas.Option.{some_pair_parts}
-use Rattle.lalrpop_book.specs.Tree.{Tree}
-use Rattle.lalrpop_book.specs.Winners.{TreeMatches, IsStrongest, IsOnlyStrongest}
-use Rattle.lalrpop_book.specs.Longest.{IsMatch, IsLongest}
-use Rattle.lalrpop_book.proofs.Longests.{longest-unique}
+use Rattle.lalrpop_hir.specs.Tree.{Tree}
+use Rattle.lalrpop_hir.specs.Winners.{TreeMatches, IsStrongest, IsOnlyStrongest}
+use Rattle.lalrpop_hir.specs.Longest.{IsMatch, IsLongest}
+use Rattle.lalrpop_hir.proofs.Longests.{longest-unique}
 use Rattle.lalrpop_lexer.proofs.Decided.{matches_inside}
-use Rattle.lalrpop_book.proofs.Pushed.{pushed_cases, pushed_keeps}
+use Rattle.lalrpop_hir.proofs.Pushed.{pushed_cases, pushed_keeps}
 
 module _ (ts : List Tree) (t : Tree) where
   still_matches : (w : List ℕ) (i : ℕ) → TreeMatches ts w i → TreeMatches (ts ++ t ∷ []) w i

@@ -7,12 +7,12 @@ use Rattle.std.proofs.lemmas.Bool.{cases_lt}
 use Rattle.std.proofs.lemmas.List.{append-nil, drop_at}
 use Rattle.std.proofs.lemmas.List.Elements.{All-head, All-tail, All-cons}
 use Rattle.std.proofs.lemmas.Str.{IsUtf8-drop, chars-append}
-use Rattle.lalrpop_book.specs.Tree.{Tree}
-use Rattle.lalrpop_book.specs.Winners.{IsOnlyStrongest, Matched}
-use Rattle.lalrpop_book.specs.Longest.{IsMatch, IsLongest}
-use Rattle.lalrpop_book.specs.Tokens.{AreTokens}
-use Rattle.lalrpop_book.specs.declared.token.Token.{Token}
-use Rattle.lalrpop_book.specs.declared.token.TokenFault.{TokenFault}
+use Rattle.lalrpop_hir.specs.Tree.{Tree}
+use Rattle.lalrpop_hir.specs.Winners.{IsOnlyStrongest, Matched}
+use Rattle.lalrpop_hir.specs.Longest.{IsMatch, IsLongest}
+use Rattle.lalrpop_hir.specs.Tokens.{AreTokens}
+use Rattle.lalrpop_hir.specs.declared.token.Token.{Token}
+use Rattle.lalrpop_hir.specs.declared.token.TokenFault.{TokenFault}
 use Rattle.lalrpop_dfa.specs.Follow.{RunsOn}
 use Rattle.lalrpop_lexer.specs.Neighbours.{WordsOf, CanFollow, AllFollow, IsParted, text_of, IsWhole, CanPartAll, placed}
 use Rattle.lalrpop_lexer.specs.SameTokens.{AreSameTokens}

@@ -4,17 +4,17 @@ use Rattle.std.specs.Prelude.{Option, Some, None, Result, Ok, Err, option_map, s
 use Rattle.std.specs.List.{Contains}
 use Rattle.std.specs.Str.{chars}
 use Rattle.std.proofs.lemmas.Bool.{cases_order}
-use Rattle.lalrpop_book.specs.Tree.{Tree}
-use Rattle.lalrpop_book.specs.Winners.{TreeMatches, IsStrongest, IsOnlyStrongest, Ambiguous}
-use Rattle.lalrpop_book.specs.Longest.{IsMatch, IsLongest}
-use Rattle.lalrpop_book.specs.Clash.{NoClash, IsClash}
-use Rattle.lalrpop_book.specs.Clashes.{Entry, AreTied, AreClashes}
-use Rattle.lalrpop_book.specs.Tokens.{IsToken, AreTokens}
+use Rattle.lalrpop_hir.specs.Tree.{Tree}
+use Rattle.lalrpop_hir.specs.Winners.{TreeMatches, IsStrongest, IsOnlyStrongest, Ambiguous}
+use Rattle.lalrpop_hir.specs.Longest.{IsMatch, IsLongest}
+use Rattle.lalrpop_hir.specs.Clash.{NoClash, IsClash}
+use Rattle.lalrpop_hir.specs.Clashes.{Entry, AreTied, AreClashes}
+use Rattle.lalrpop_hir.specs.Tokens.{IsToken, AreTokens}
 use Rattle.lalrpop_lexer.specs.Renumbered.{AreRenumbered, AreAlike, renumbered}
-use Rattle.lalrpop_book.specs.declared.token.Token.{Token}
-use Rattle.lalrpop_book.specs.declared.token.TokenFault.{TokenFault}
+use Rattle.lalrpop_hir.specs.declared.token.Token.{Token}
+use Rattle.lalrpop_hir.specs.declared.token.TokenFault.{TokenFault}
 use Rattle.lalrpop_lexer.proofs.Decided.{matches_inside}
-use Rattle.lalrpop_book.proofs.Strongest.{IsOnlyStrongest-from_greatest}
+use Rattle.lalrpop_hir.proofs.Strongest.{IsOnlyStrongest-from_greatest}
 
 -- ---- from the one list to the other
 module _ (f g : ℕ → ℕ) (ts : List Tree) (ps : List ℕ) (us : List Tree) (qs : List ℕ) (same : AreRenumbered f g ts ps us qs) where

@@ -4,10 +4,10 @@ use Rattle.std.specs.Prelude.{Some, None, IsTrue, slice_get}
 use Rattle.std.proofs.lemmas.List.{length_push}
 use Rattle.std.specs.Option.{option_map}
 use Rattle.std.proofs.lemmas.Option.{slice_get_within, slice_get-map, slice_get_read}
-use Rattle.lalrpop_book.specs.Language.{Words}
-use Rattle.lalrpop_book.specs.Tree.{Tree}
-use Rattle.lalrpop_book.specs.Winners.{Matched}
-use Rattle.lalrpop_book.proofs.Pushed.{pushed_cases}
+use Rattle.lalrpop_hir.specs.Language.{Words}
+use Rattle.lalrpop_hir.specs.Tree.{Tree}
+use Rattle.lalrpop_hir.specs.Winners.{Matched}
+use Rattle.lalrpop_hir.proofs.Pushed.{pushed_cases}
 use Rattle.lalrpop_dfa.specs.Dfa.{Row}
 use Rattle.lalrpop_dfa.specs.Follow.{RunsOn}
 use Rattle.lalrpop_dfa.specs.Lookahead.{Accepted, AcceptedAs}

@@ -6,11 +6,11 @@ use Rattle.std.specs.Str.{chars, IsCharBoundary}
 use Rattle.std.specs.Option.{option_map}
 use Rattle.std.proofs.lemmas.List.{take_more, take-map, get_or-take, map-append}
 use Rattle.std.proofs.lemmas.Option.{slice_get-get_or, slice_get-map, slice_get_within, slice_get_read, get_or_from_slice_get}
-use Rattle.lalrpop_book.specs.Tree.{Tree}
-use Rattle.lalrpop_book.specs.Report.{IsReport}
-use Rattle.lalrpop_book.specs.declared.error.DfaConstructionError.{DfaConstructionError}
-use Rattle.lalrpop_book.specs.declared.error.DfaConstructionError.TheVariants as built
-use Rattle.lalrpop_book.specs.declared.precedence.Precedence.{Precedence}
+use Rattle.lalrpop_hir.specs.Tree.{Tree}
+use Rattle.lalrpop_hir.specs.Report.{IsReport}
+use Rattle.lalrpop_hir.specs.declared.error.DfaConstructionError.{DfaConstructionError}
+use Rattle.lalrpop_hir.specs.declared.error.DfaConstructionError.TheVariants as built
+use Rattle.lalrpop_hir.specs.declared.precedence.Precedence.{Precedence}
 use Rattle.lalrpop_re.specs.Pattern.{Pattern}
 use Rattle.lalrpop_lexer.specs.LexerErrors.{of_construction}
 use Rattle.lalrpop_lexer.specs.Spelled.{Spells, AreSpelled, IsNotSpelled, IsLexerError, texts_of}

@@ -6,7 +6,7 @@ use Rattle.std.proofs.Math.Nat.{mul-le-mul_left}
 use Rattle.std.proofs.Math.Seq.{drop-append_seam}
 use Rattle.std.proofs.lemmas.List.{take-append-drop, take_at, drop_at, drop-drop}
 use Rattle.std.proofs.lemmas.Str.{IsUtf8-append, drop_past_char, IsCharBoundary-start, IsCharBoundary-from_take, IsCharBoundary-from_rest, IsCharBoundary-past_char, chars-append}
-use Rattle.lalrpop_book.specs.Prefix.{IsPrefix}
+use Rattle.lalrpop_hir.specs.Prefix.{IsPrefix}
 use Rattle.lalrpop_dfa.specs.Dfa.{Row}
 use Rattle.lalrpop_lexer.specs.Internal.Memory.{Memory, IsFor, IsNoted, room}
 use Rattle.lalrpop_lexer.specs.Internal.Hopeless.{IsHopeless, IsSound}

@@ -4,7 +4,7 @@ use Rattle.std.specs.Prelude.{codes}
 use Rattle.std.specs.Str.{chars}
 use Rattle.std.specs.Str.Parse.{AllDigits, digits_value}
 use Rattle.std.proofs.lemmas.Str.Parse.{digit_from_value}
-use Rattle.lalrpop_book.specs.Tree.{Tree}
+use Rattle.lalrpop_hir.specs.Tree.{Tree}
 use Rattle.lalrpop_re.proofs.PatternLaws.{one_tree}
 use Rattle.lalrpop_lexer.specs.Line.{letter, IsLine, LineSays}
 use Rattle.lalrpop_lexer.specs.Spelled.{Spells}

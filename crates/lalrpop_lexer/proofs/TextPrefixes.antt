@@ -4,7 +4,7 @@ use Rattle.std.specs.Prelude.{◌&&◌}
 use Rattle.std.specs.Str.{chars, IsUtf8, encode_utf8_all}
 use Rattle.std.proofs.Math.Utf8.{scalar, scalars}
 use Rattle.std.proofs.lemmas.Str.{chars-append, chars-encodes, encodes-chars, encodes-append, scalars-chars}
-use Rattle.lalrpop_book.specs.Prefix.{IsPrefix}
+use Rattle.lalrpop_hir.specs.Prefix.{IsPrefix}
 
 -- the characters of a prefix are a prefix of the characters
 pub characters_of_prefix : (p text : List ℕ) (b : IsPrefix p text) → chars text ≡ chars p ++ chars b.0

@@ -5,15 +5,15 @@ use Rattle.std.specs.Iterator.{Yields, Drains}
 use Rattle.std.specs.Str.{IsUtf8, IsCharBoundary, chars}
 use Rattle.std.proofs.lemmas.List.{nil_from_length, take_at}
 use Rattle.std.proofs.lemmas.Str.{IsCharBoundary-from_take, IsCharBoundary-from_rest}
-use Rattle.lalrpop_book.specs.Tree.{Tree}
-use Rattle.lalrpop_book.specs.Clash.{NoClash}
-use Rattle.lalrpop_book.specs.Prefix.{IsPrefix}
-use Rattle.lalrpop_book.specs.Longest.{IsLongest}
-use Rattle.lalrpop_book.specs.Tokens.{AreTokens}
-use Rattle.lalrpop_book.specs.declared.token.Token.{Token}
-use Rattle.lalrpop_book.specs.declared.token.TokenFault.{TokenFault}
-use Rattle.lalrpop_book.proofs.LastFaults.{tokens_to_fault}
-use Rattle.lalrpop_book.proofs.Strongest.{IsOnlyStrongest-from_greatest}
+use Rattle.lalrpop_hir.specs.Tree.{Tree}
+use Rattle.lalrpop_hir.specs.Clash.{NoClash}
+use Rattle.lalrpop_hir.specs.Prefix.{IsPrefix}
+use Rattle.lalrpop_hir.specs.Longest.{IsLongest}
+use Rattle.lalrpop_hir.specs.Tokens.{AreTokens}
+use Rattle.lalrpop_hir.specs.declared.token.Token.{Token}
+use Rattle.lalrpop_hir.specs.declared.token.TokenFault.{TokenFault}
+use Rattle.lalrpop_hir.proofs.LastFaults.{tokens_to_fault}
+use Rattle.lalrpop_hir.proofs.Strongest.{IsOnlyStrongest-from_greatest}
 use Rattle.lalrpop_dfa.specs.Dfa.{Row, Recognizes}
 use Rattle.lalrpop_dense.specs.Leading.{IsEnd, AreAhead, last_end}
 use Rattle.lalrpop_lexer.specs.TokenList.{between, AreTokenEnds, AreCuts, Listing, GivesListed, fault_items}

@@ -4,18 +4,18 @@ use Rattle.std.specs.Prelude.{Option, Some, None, Result, Ok, Err}
 use Rattle.std.specs.Str.{chars}
 use Rattle.std.proofs.lemmas.List.{nil_from_length}
 use Rattle.std.proofs.lemmas.Option.{some_pair_parts}
-use Rattle.lalrpop_book.specs.Tree.{Tree}
-use Rattle.lalrpop_book.specs.Clash.{NoClash}
-use Rattle.lalrpop_book.specs.Prefix.{IsPrefix}
-use Rattle.lalrpop_book.specs.Longest.{IsLongest}
-use Rattle.lalrpop_book.specs.Tokens.{IsToken, AreTokens}
+use Rattle.lalrpop_hir.specs.Tree.{Tree}
+use Rattle.lalrpop_hir.specs.Clash.{NoClash}
+use Rattle.lalrpop_hir.specs.Prefix.{IsPrefix}
+use Rattle.lalrpop_hir.specs.Longest.{IsLongest}
+use Rattle.lalrpop_hir.specs.Tokens.{IsToken, AreTokens}
 use Rattle.lalrpop_lexer.specs.SameTokens.{IsSameToken, AreSameTokens}
-use Rattle.lalrpop_book.specs.declared.token.Token.{Token}
-use Rattle.lalrpop_book.specs.declared.token.TokenFault.{TokenFault}
+use Rattle.lalrpop_hir.specs.declared.token.Token.{Token}
+use Rattle.lalrpop_hir.specs.declared.token.TokenFault.{TokenFault}
 use Rattle.lalrpop_lexer.proofs.Decided.{longest-exists}
-use Rattle.lalrpop_book.proofs.LastFaults.{some_left, tokens_to_fault, no_tokens_behind}
-use Rattle.lalrpop_book.proofs.Longests.{longest-unique}
-use Rattle.lalrpop_book.proofs.Strongest.{IsOnlyStrongest-from_greatest}
+use Rattle.lalrpop_hir.proofs.LastFaults.{some_left, tokens_to_fault, no_tokens_behind}
+use Rattle.lalrpop_hir.proofs.Longests.{longest-unique}
+use Rattle.lalrpop_hir.proofs.Strongest.{IsOnlyStrongest-from_greatest}
 
 -- a text has one token at a place
 pub token-unique : (ts : List Tree) (ps text : List ℕ) (at : ℕ) (a b : Token) → IsToken ts ps text at a → IsToken ts ps text at b → IsSameToken a b

@@ -2,9 +2,9 @@
 -- The text of tokens that is cut back into them, with a separator where one is needed; and why there is none.
 use Rattle.std.specs.Prelude.{◌≡◌, ℕ, ◌+◌, List, take, slice_get, Some, IsSomeAnd}
 use Rattle.std.specs.List.{All}
-use Rattle.lalrpop_book.specs.Tree.{Tree}
-use Rattle.lalrpop_book.specs.Tokens.{AreTokens}
-use Rattle.lalrpop_book.specs.declared.token.Token.{Token}
+use Rattle.lalrpop_hir.specs.Tree.{Tree}
+use Rattle.lalrpop_hir.specs.Tokens.{AreTokens}
+use Rattle.lalrpop_hir.specs.declared.token.Token.{Token}
 use Rattle.lalrpop_lexer.specs.Neighbours.{CanFollow, IsParted, text_of, IsWhole, CanPart, CanPartAll, placed}
 use Rattle.lalrpop_lexer.specs.declared.join_error.JoinError.{JoinError}
 use Rattle.lalrpop_lexer.specs.declared.join_error.JoinError.TheVariants.{NotAToken, NotASeparator, Inseparable, OutOfMemory}

@@ -1,10 +1,10 @@
 -- cases: proofs/Cases/LeadingTokens.antt
 -- Tokens that lead from one place of a text to another.
 use Rattle.std.specs.Prelude.{◌≡◌, ℕ, List, length, drop, Some}
-use Rattle.lalrpop_book.specs.Tree.{Tree}
-use Rattle.lalrpop_book.specs.Longest.{IsLongest}
-use Rattle.lalrpop_book.specs.Chain.{Chain}
-use Rattle.lalrpop_book.specs.declared.token.Token.{Token}
+use Rattle.lalrpop_hir.specs.Tree.{Tree}
+use Rattle.lalrpop_hir.specs.Longest.{IsLongest}
+use Rattle.lalrpop_hir.specs.Chain.{Chain}
+use Rattle.lalrpop_hir.specs.declared.token.Token.{Token}
 
 -- the token begins at this place, and is the longest match of the rest
 abbrev pub IsStep : List Tree → List ℕ → List ℕ → ℕ → Token → Type 0

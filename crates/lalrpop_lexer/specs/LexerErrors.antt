@@ -1,9 +1,9 @@
 -- cases: proofs/Cases/LexerErrors.antt
 -- Errors of the parser and of the construction, as errors of a lexer.
-use Rattle.lalrpop_book.specs.declared.error.DfaConstructionError.{DfaConstructionError}
-use Rattle.lalrpop_book.specs.declared.error.DfaConstructionError.TheVariants as built
-use Rattle.lalrpop_grammar.specs.declared.error.RegexError.{RegexError}
-use Rattle.lalrpop_grammar.specs.declared.error.RegexError.TheVariants as read
+use Rattle.lalrpop_hir.specs.declared.error.DfaConstructionError.{DfaConstructionError}
+use Rattle.lalrpop_hir.specs.declared.error.DfaConstructionError.TheVariants as built
+use Rattle.lalrpop_re.specs.declared.error.RegexError.{RegexError}
+use Rattle.lalrpop_re.specs.declared.error.RegexError.TheVariants as read
 use Rattle.lalrpop_lexer.specs.declared.error.LexerError.{LexerError}
 use Rattle.lalrpop_lexer.specs.declared.error.LexerError.TheVariants.{Syntax, NotCompiled, Clash, OutOfMemory}
 

@@ -1,10 +1,10 @@
 -- cases: proofs/Cases/Renumbered.antt
 -- The same rules under other numbers.
 use Rattle.std.specs.Prelude.{◌≡◌, ℕ, ◌<◌, ◌≤◌, ◌↔◌, List, length, slice_index, Result, Ok, Err}
-use Rattle.lalrpop_book.specs.Tree.{Tree}
-use Rattle.lalrpop_book.specs.Winners.{TreeMatches}
-use Rattle.lalrpop_book.specs.declared.token.Token.{Token}
-use Rattle.lalrpop_book.specs.declared.token.TokenFault.{TokenFault}
+use Rattle.lalrpop_hir.specs.Tree.{Tree}
+use Rattle.lalrpop_hir.specs.Winners.{TreeMatches}
+use Rattle.lalrpop_hir.specs.declared.token.Token.{Token}
+use Rattle.lalrpop_hir.specs.declared.token.TokenFault.{TokenFault}
 
 -- tree i of the one list is tree f i of the other, and g leads back: both match the same words, and the precedences are in the same order
 pub record AreRenumbered (f g : ℕ → ℕ) (ts : List Tree) (ps : List ℕ) (us : List Tree) (qs : List ℕ) : Type 0 where

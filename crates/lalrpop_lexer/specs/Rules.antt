@@ -1,8 +1,8 @@
 -- cases: proofs/Cases/Rules.antt
 -- What a lexer recognizes.
 use Rattle.std.specs.Prelude.{ℕ, List}
-use Rattle.lalrpop_book.specs.Tree.{Tree}
-use Rattle.lalrpop_book.specs.Clash.{NoClash}
+use Rattle.lalrpop_hir.specs.Tree.{Tree}
+use Rattle.lalrpop_hir.specs.Clash.{NoClash}
 use Rattle.lalrpop_dfa.specs.Dfa.{Row, RecognizesAll}
 
 -- the trees of a list of patterns, their precedences, and the states of the automaton

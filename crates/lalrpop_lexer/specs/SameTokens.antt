@@ -1,8 +1,8 @@
 -- cases: proofs/Cases/SameTokens.antt
 -- When two lists of tokens are the same.
 use Rattle.std.specs.Prelude.{◌≡◌, ℕ, ◌+◌, List, [], ◌∷◌, Result, Ok, Err}
-use Rattle.lalrpop_book.specs.declared.token.Token.{Token}
-use Rattle.lalrpop_book.specs.declared.token.TokenFault.{TokenFault}
+use Rattle.lalrpop_hir.specs.declared.token.Token.{Token}
+use Rattle.lalrpop_hir.specs.declared.token.TokenFault.{TokenFault}
 
 -- by one tree, at one place, with the same bytes
 abbrev pub IsSameToken : Token → Token → Type 0

@@ -3,10 +3,10 @@
 use Rattle.std.specs.Prelude.{◌≡◌, ℕ, ◌<◌, List, [], ◌∷◌, map, slice_get, Some}
 use Rattle.std.specs.Borrow.{Bor}
 use Rattle.std.specs.Str.{chars, IsCharBoundary}
-use Rattle.lalrpop_book.specs.Tree.{Tree}
-use Rattle.lalrpop_book.specs.Clash.{IsClash}
-use Rattle.lalrpop_book.specs.Report.{NoFault, FirstFault}
-use Rattle.lalrpop_book.specs.declared.precedence.Precedence.{Precedence}
+use Rattle.lalrpop_hir.specs.Tree.{Tree}
+use Rattle.lalrpop_hir.specs.Clash.{IsClash}
+use Rattle.lalrpop_hir.specs.Report.{NoFault, FirstFault}
+use Rattle.lalrpop_hir.specs.declared.precedence.Precedence.{Precedence}
 use Rattle.lalrpop_hir.specs.Parts.{of_text}
 use Rattle.lalrpop_re.specs.Pattern.{Pattern}
 use Rattle.lalrpop_lexer.specs.declared.form.Form.{Form}

@@ -2,12 +2,12 @@
 -- The tokens of a text in a list: of each its tree, and where it ends. It begins where the one before it ends.
 use Rattle.std.specs.Prelude.{◌≡◌, ℕ, ◌-◌, ◌<◌, ◌≤◌, List, [], ◌∷◌, take, drop, Option, Some, None, Result, Err}
 use Rattle.std.specs.Str.{IsCharBoundary, chars}
-use Rattle.lalrpop_book.specs.Tree.{Tree}
-use Rattle.lalrpop_book.specs.Longest.{IsLongest}
-use Rattle.lalrpop_book.specs.Winners.{IsOnlyStrongest}
-use Rattle.lalrpop_book.specs.Tokens.{IsFaultAt}
-use Rattle.lalrpop_book.specs.declared.token.Token.{Token}
-use Rattle.lalrpop_book.specs.declared.token.TokenFault.{TokenFault}
+use Rattle.lalrpop_hir.specs.Tree.{Tree}
+use Rattle.lalrpop_hir.specs.Longest.{IsLongest}
+use Rattle.lalrpop_hir.specs.Winners.{IsOnlyStrongest}
+use Rattle.lalrpop_hir.specs.Tokens.{IsFaultAt}
+use Rattle.lalrpop_hir.specs.declared.token.Token.{Token}
+use Rattle.lalrpop_hir.specs.declared.token.TokenFault.{TokenFault}
 
 -- the bytes of the text from the one place to the other
 abbrev pub between : List ℕ → ℕ → ℕ → List ℕ

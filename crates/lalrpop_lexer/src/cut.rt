@@ -3,10 +3,10 @@
 ghost use Rattle.std.specs.Prelude.{◌≡◌, ℕ, ◌≤◌, ◌++◌, List, None, Option, length};
 ghost use Rattle.std.specs.Iterator.{Drains, Yields};
 ghost use Rattle.std.specs.Str.{chars};
-ghost use Rattle.lalrpop_book.specs.Tree.{Tree};
+ghost use Rattle.lalrpop_hir.specs.Tree.{Tree};
 ghost use Rattle.lalrpop_dfa.specs.Dfa.{Recognizes};
 ghost use Rattle.lalrpop_lexer.specs.Cutting.{Cutting, start_of, rest_of, GivesItem};
-ghost use Rattle.lalrpop_book.specs.Tokens.{Item, AreItems, slices};
+ghost use Rattle.lalrpop_hir.specs.Tokens.{Item, AreItems, slices};
 
 use crate::dfa_tokens::Tokens;
 use lalrpop_dfa::Dfa;

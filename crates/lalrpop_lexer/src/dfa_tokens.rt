@@ -2,7 +2,7 @@
 
 ghost use Rattle.std.specs.Prelude.{◌≡◌};
 
-use lalrpop_book::{NfaIndex, TokenFault};
+use lalrpop_hir::{NfaIndex, TokenFault};
 use lalrpop_dfa::Dfa;
 use lalrpop_dfa::interpret::interpret;
 use std::iter::FusedIterator;

@@ -3,21 +3,20 @@
 ghost use Rattle.std.specs.Prelude.{◌≡◌, ℕ, ◌+◌, ◌*◌, ◌≤◌, ◌++◌, ◌∷◌, [], List, Option, Result, Ok, Err, map, length, None, IfOk, OnOk, IfErr, OnErr, IfSome, IfNone, IsSome, Some, true, slice_get, ◌<◌, ◌↔◌};
 ghost use Rattle.std.specs.Iterator.{Drains, Yields};
 ghost use Rattle.std.specs.Str.{chars};
-ghost use Rattle.lalrpop_book.specs.Clash.{NoClash};
-ghost use Rattle.lalrpop_book.specs.Report.{NoFault, IsReport};
-ghost use Rattle.lalrpop_book.specs.Longest.{IsLongest};
-ghost use Rattle.lalrpop_book.specs.Winners.{IsOnlyStrongest, Matched};
+ghost use Rattle.lalrpop_hir.specs.Clash.{NoClash};
+ghost use Rattle.lalrpop_hir.specs.Report.{NoFault, IsReport};
+ghost use Rattle.lalrpop_hir.specs.Longest.{IsLongest};
+ghost use Rattle.lalrpop_hir.specs.Winners.{IsOnlyStrongest, Matched};
 ghost use Rattle.lalrpop_dfa.specs.Lookahead.{IsLookahead, LooksAtMost, StaysOpenEver, IsTrim};
 ghost use Rattle.lalrpop_dfa.specs.Witness.{IsOpenMatch, IsWitness};
 ghost use Rattle.lalrpop_lexer.specs.Matching.{open_states};
 ghost use Rattle.lalrpop_lexer.specs.Cutting.{start_of, rest_of};
-ghost use Rattle.lalrpop_book.specs.Tokens.{slices};
+ghost use Rattle.lalrpop_hir.specs.Tokens.{slices, IsToken, AreTokens, bare};
 ghost use Rattle.lalrpop_lexer.specs.LexerTokens.{LexerCutting, lexer_start, GivesToken, most_steps};
-ghost use Rattle.lalrpop_book.specs.Tokens.{IsToken, AreTokens, bare};
 ghost use Rattle.lalrpop_lexer.specs.Rules.{IsBuiltFrom};
 ghost use Rattle.lalrpop_lexer.specs.TokenList.{AreCuts, AreTokenEnds};
-ghost use Rattle.lalrpop_book.specs.declared.token.Token.{Token as TokenValue};
-ghost use Rattle.lalrpop_book.specs.declared.token.TokenFault.{TokenFault as FaultValue};
+ghost use Rattle.lalrpop_hir.specs.declared.token.Token.{Token as TokenValue};
+ghost use Rattle.lalrpop_hir.specs.declared.token.TokenFault.{TokenFault as FaultValue};
 
 pub mod dfa;
 pub mod nfa;
@@ -28,7 +27,7 @@ use crate::linear_matches::LinearMatches;
 use crate::matches::Matches;
 use crate::neighbours::Neighbours;
 use crate::token_list::{TokenList, fill};
-use lalrpop_book::Token;
+use lalrpop_hir::Token;
 use lalrpop_build::{DfaConstructionError, Precedence, build_dfa};
 use lalrpop_dense::DenseDfa;
 use lalrpop_dfa::lookahead::{lookahead, unbounded_patterns};
@@ -60,7 +59,7 @@ pub struct Lexer {
 
 impl Model for Lexer {
     ghost use Rattle.std.specs.Prelude.{map};
-    ghost use Rattle.lalrpop_book.specs.Winners.{Matched};
+    ghost use Rattle.lalrpop_hir.specs.Winners.{Matched};
     ghost use Rattle.lalrpop_dfa.specs.Lookahead.{IsLookahead, IsTrim};
     ghost use Rattle.lalrpop_lexer.specs.Rules.{Rules, IsBuiltFrom};
     ghost use Rattle.lalrpop_lexer.specs.Internal.Code.{rules_code};

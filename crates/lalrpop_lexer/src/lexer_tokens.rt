@@ -4,7 +4,7 @@ ghost use Rattle.std.specs.Prelude.{◌≡◌};
 
 use crate::linear_matches::LinearMatches;
 use crate::matches::Matches;
-use lalrpop_book::{Token, TokenFault};
+use lalrpop_hir::{Token, TokenFault};
 use lalrpop_dense::DenseDfa;
 use lalrpop_nfa::Steps;
 use std::fmt;

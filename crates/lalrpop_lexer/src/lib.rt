@@ -36,7 +36,7 @@ pub use end_list::EndList;
 pub use error::LexerError;
 pub use form::Form;
 pub use join_error::JoinError;
-pub use lalrpop_book::{Token, TokenFault};
+pub use lalrpop_hir::{Token, TokenFault};
 pub use lalrpop_dfa::kernel_set;
 pub use lexer::Lexer;
 pub use lexer_tokens::LexerTokens;

@@ -61,9 +61,9 @@ impl<'text> LinearMatches<'text> {
     ghost use Rattle.std.specs.Option.{option_map};
     ghost use Rattle.std.specs.Str.{IsCharBoundary};
     ghost use Rattle.std.specs.Char.{encode_utf8};
-    ghost use Rattle.lalrpop_book.specs.Tree.{Tree};
-    ghost use Rattle.lalrpop_book.specs.Prefix.{IsPrefix};
-    ghost use Rattle.lalrpop_book.specs.Longest.{IsLongest};
+    ghost use Rattle.lalrpop_hir.specs.Tree.{Tree};
+    ghost use Rattle.lalrpop_hir.specs.Prefix.{IsPrefix};
+    ghost use Rattle.lalrpop_hir.specs.Longest.{IsLongest};
     ghost use Rattle.lalrpop_dfa.specs.Dfa.{Recognizes};
     ghost use Rattle.lalrpop_lexer.specs.Matching.{rest_of, characters_of, open_states};
     ghost use Rattle.lalrpop_lexer.specs.Internal.Blocks.{IsNextMatch, IsPaidFor};

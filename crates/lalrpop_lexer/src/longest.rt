@@ -1,10 +1,10 @@
 //! The longest match of a text, from trees and precedences.
 ghost use Rattle.std.specs.Prelude.{◌≡◌, map, length, option_map, IfOk, OnOk, IfErr, IfSome};
 ghost use Rattle.std.specs.Str.{chars};
-ghost use Rattle.lalrpop_book.specs.Winners.{IsOnlyStrongest};
-ghost use Rattle.lalrpop_book.specs.Clash.{NoClash};
-ghost use Rattle.lalrpop_book.specs.Longest.{IsLongest};
-ghost use Rattle.lalrpop_book.specs.Report.{NoFault, IsReport};
+ghost use Rattle.lalrpop_hir.specs.Winners.{IsOnlyStrongest};
+ghost use Rattle.lalrpop_hir.specs.Clash.{NoClash};
+ghost use Rattle.lalrpop_hir.specs.Longest.{IsLongest};
+ghost use Rattle.lalrpop_hir.specs.Report.{NoFault, IsReport};
 
 use lalrpop_build::{DfaConstructionError, NfaIndex, Precedence, build_dfa};
 use lalrpop_dfa::interpret::interpret;

@@ -53,9 +53,9 @@ impl<'text> Matches<'text> {
     ghost use Rattle.std.specs.Str.{chars};
     ghost use Rattle.std.specs.Option.{option_map};
     ghost use Rattle.std.specs.Char.{encode_utf8};
-    ghost use Rattle.lalrpop_book.specs.Tree.{Tree};
-    ghost use Rattle.lalrpop_book.specs.Prefix.{IsPrefix};
-    ghost use Rattle.lalrpop_book.specs.Longest.{IsLongest};
+    ghost use Rattle.lalrpop_hir.specs.Tree.{Tree};
+    ghost use Rattle.lalrpop_hir.specs.Prefix.{IsPrefix};
+    ghost use Rattle.lalrpop_hir.specs.Longest.{IsLongest};
     ghost use Rattle.lalrpop_dfa.specs.Dfa.{Recognizes};
     ghost use Rattle.lalrpop_dfa.specs.Lookahead.{ReadsAtMost};
     ghost use Rattle.lalrpop_lexer.specs.Matching.{rest_of, characters_of};

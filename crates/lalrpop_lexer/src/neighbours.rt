@@ -5,7 +5,7 @@ ghost use Rattle.lalrpop_lexer.specs.Internal.RunningOn.{AreRunningOn};
 
 use crate::join_error::JoinError;
 use crate::lexer::Lexer;
-use lalrpop_book::{NfaIndex, Token};
+use lalrpop_hir::{NfaIndex, Token};
 use lalrpop_dfa::Dfa;
 use lalrpop_dfa::follow::running_on;
 use std::alloc::{AllocError, Global};

@@ -1,7 +1,7 @@
 //! A lexer built from the texts of its patterns.
 ghost use Rattle.std.specs.Prelude.{◌≡◌, map, IfOk, IfErr};
-ghost use Rattle.lalrpop_book.specs.Clash.{NoClash};
-ghost use Rattle.lalrpop_book.specs.Report.{NoFault};
+ghost use Rattle.lalrpop_hir.specs.Clash.{NoClash};
+ghost use Rattle.lalrpop_hir.specs.Report.{NoFault};
 ghost use Rattle.lalrpop_lexer.specs.Spelled.{AreSpelled, IsLexerError, texts_of};
 
 use crate::error::LexerError;

@@ -3,17 +3,17 @@
 ghost use Rattle.std.specs.Prelude.{◌≡◌, ◌++◌, ℕ, ◌≤◌, [], List, Ok, map, drop, None, IfOk, OnErr, OnOk};
 ghost use Rattle.std.specs.Iterator.{Drains};
 ghost use Rattle.std.specs.Str.{IsCharBoundary};
-ghost use Rattle.lalrpop_book.specs.Clash.{NoClash};
-ghost use Rattle.lalrpop_book.specs.Longest.{IsLongest};
-ghost use Rattle.lalrpop_book.specs.Tokens.{AreTokens};
-ghost use Rattle.lalrpop_book.specs.Tree.{Tree};
-ghost use Rattle.lalrpop_book.specs.declared.token.Token.{Token as TokenValue};
+ghost use Rattle.lalrpop_hir.specs.Clash.{NoClash};
+ghost use Rattle.lalrpop_hir.specs.Longest.{IsLongest};
+ghost use Rattle.lalrpop_hir.specs.Tokens.{AreTokens};
+ghost use Rattle.lalrpop_hir.specs.Tree.{Tree};
+ghost use Rattle.lalrpop_hir.specs.declared.token.Token.{Token as TokenValue};
 ghost use Rattle.lalrpop_dense.specs.Leading.{AreAhead, last_end};
 ghost use Rattle.lalrpop_dfa.specs.Dfa.{Recognizes};
 ghost use Rattle.lalrpop_lexer.specs.TokenList.{AreCuts, AreTokenEnds, GivesListed, Listing, fault_items};
 
 use crate::end_list::{EndList, EndsLeft};
-use lalrpop_book::{Token, TokenFault};
+use lalrpop_hir::{Token, TokenFault};
 use lalrpop_dense::{DenseDfa, TokenEnd, TokenEnds};
 use lalrpop_nfa::Steps;
 use std::alloc::{AllocError, Global};

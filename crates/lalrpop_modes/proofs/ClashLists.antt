@@ -2,10 +2,10 @@
 use Rattle.std.proofs.Common.{◌≡◌, ℕ, ◌<◌, inl, inr, List, [], ◌∷◌, ◌++◌, length, map, ap, sym, subst, ◌∙◌}
 use Rattle.std.specs.Prelude.{Some, slice_get, Result, Ok, Err, IfErr}
 use Rattle.std.proofs.lemmas.List.{map-append}
-use Rattle.lalrpop_book.specs.Clashes.{Entry, AreClashes}
-use Rattle.lalrpop_book.specs.Report.{NoFault, IsFaultOf}
-use Rattle.lalrpop_book.specs.declared.error.DfaConstructionError.{DfaConstructionError}
-use Rattle.lalrpop_book.specs.declared.error.DfaConstructionError.TheVariants as report
+use Rattle.lalrpop_hir.specs.Clashes.{Entry, AreClashes}
+use Rattle.lalrpop_hir.specs.Report.{NoFault, IsFaultOf}
+use Rattle.lalrpop_hir.specs.declared.error.DfaConstructionError.{DfaConstructionError}
+use Rattle.lalrpop_hir.specs.declared.error.DfaConstructionError.TheVariants as report
 use Rattle.lalrpop_rules.specs.RuleSet.{IsTextError}
 use Rattle.lalrpop_rules.specs.declared.text_error.TextError.{TextError}
 use Rattle.lalrpop_rules.specs.declared.text_error.TextError.TheVariants as texts

@@ -6,7 +6,7 @@ use Rattle.std.proofs.lemmas.Bool.{cases_eq}
 use Rattle.std.proofs.lemmas.List.{length-set}
 use Rattle.std.proofs.lemmas.List.Sums.{sum_by-cons}
 use Rattle.std.proofs.lemmas.Option.{slice_get-get_or, slice_get_past}
-use Rattle.lalrpop_book.specs.Prefix.{IsPrefix}
+use Rattle.lalrpop_hir.specs.Prefix.{IsPrefix}
 use Rattle.lalrpop_lexer.proofs.Standings.{fewer_behind}
 use Rattle.lalrpop_rules.specs.CutToEnd.{CutToEnd, Memo, IsPaid, IsSpent, GivesPiece, PassesTo, IsSoughtFromRest, IsSoughtBehind}
 use Rattle.lalrpop_rules.specs.Pieces.{IsPiece, slice_of}

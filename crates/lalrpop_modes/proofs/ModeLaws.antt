@@ -4,8 +4,8 @@ use Rattle.std.specs.Prelude.{Option, Some, None, slice_get, map, ◌==◌, Cont
 use Rattle.std.specs.List.{list_any, slice_index_or}
 use Rattle.std.proofs.lemmas.Option.{same_Some}
 use Rattle.std.proofs.lemmas.List.{append-nil, drop_at, drop-drop}
-use Rattle.lalrpop_book.specs.Tree.{Tree}
-use Rattle.lalrpop_book.specs.Winners.{TreeMatches}
+use Rattle.lalrpop_hir.specs.Tree.{Tree}
+use Rattle.lalrpop_hir.specs.Winners.{TreeMatches}
 use Rattle.lalrpop_rules.specs.Found.{MatchesAt}
 use Rattle.lalrpop_rules.specs.Kinds.{merged, all_at_work}
 use Rattle.lalrpop_rules.proofs.KindLaws.{of_merged, into_merged}
@@ -18,7 +18,7 @@ use Rattle.lalrpop_modes.specs.declared.action.Action.{Action}
 use Rattle.lalrpop_modes.specs.declared.action.Action.TheVariants.{Mode, Push, Pop}
 use Rattle.lalrpop_modes.specs.Stack.{Stack, start, act, act_all, actions_of, popped}
 use Rattle.lalrpop_modes.specs.Modes.{ModeRules, kinds_of, trees_of, trees_in, after, ArePiecesFrom, mode_rules, Belongs, OneLeadsInto, CanBeEntered, by_rule, AllOf, EachMode, AllCanBeEntered, NoModeClash, IsModeClash}
-use Rattle.lalrpop_book.specs.Clash.{NoClash, IsClash}
+use Rattle.lalrpop_hir.specs.Clash.{NoClash, IsClash}
 use Rattle.std.proofs.lemmas.Bool.{cases_order, eqb-true}
 use Rattle.std.proofs.lemmas.List.Folds.{Any-from_list_any}
 use Rattle.lalrpop_modes.proofs.ModePieces.{as-without-modes, with-modes}

@@ -1,7 +1,7 @@
 -- cases: proofs/Cases/ModeClashes.antt
 -- All clashes of rules with modes, mode by mode.
 use Rattle.std.specs.Prelude.{◌≡◌, ℕ, List, length, slice_get, Some}
-use Rattle.lalrpop_book.specs.Clashes.{Entry, AreClashes}
+use Rattle.lalrpop_hir.specs.Clashes.{Entry, AreClashes}
 use Rattle.lalrpop_modes.specs.Modes.{ModeRules, trees_in}
 use Rattle.lalrpop_modes.specs.ModeSet.{IsModesError}
 use Rattle.lalrpop_modes.specs.declared.mode_rule.ModeRule.{ModeRule}

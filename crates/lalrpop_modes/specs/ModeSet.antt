@@ -1,8 +1,8 @@
 -- cases: proofs/Cases/ModeSet.antt
 -- What rules with modes say, as a user gives them.
 use Rattle.std.specs.Prelude.{◌≡◌, ℕ, ◌<◌, ◌≤◌, ◌⊎◌, List, length, map, slice_get, Some, Contains}
-use Rattle.lalrpop_book.specs.Tree.{Tree}
-use Rattle.lalrpop_book.specs.Report.{NoFault, FirstFault}
+use Rattle.lalrpop_hir.specs.Tree.{Tree}
+use Rattle.lalrpop_hir.specs.Report.{NoFault, FirstFault}
 use Rattle.lalrpop_rules.specs.Kinds.{AreKinds, AreOneKind}
 use Rattle.lalrpop_rules.specs.RuleSet.{AreTrees, IsNotParsed, HasBadEnd, names_of, precedences_of, skips_of}
 use Rattle.lalrpop_rules.specs.declared.rule.Rule.{Rule}

@@ -2,8 +2,8 @@
 -- The pieces of a text that is cut to its end by rules with modes.
 use Rattle.std.specs.Prelude.{◌≡◌, ℕ, ◌+◌, ◌<◌, ◌⊎◌, ◌==◌, if◌then◌else◌, Bool, List, [], ◌∷◌, length, drop, map, Option, Some, None, slice_get, Contains}
 use Rattle.std.specs.List.{list_any}
-use Rattle.lalrpop_book.specs.Tree.{Tree}
-use Rattle.lalrpop_book.specs.Clash.{NoClash, IsClash}
+use Rattle.lalrpop_hir.specs.Tree.{Tree}
+use Rattle.lalrpop_hir.specs.Clash.{NoClash, IsClash}
 use Rattle.lalrpop_lexer.specs.Dfa.{Row}
 use Rattle.lalrpop_rules.specs.Kinds.{merged}
 use Rattle.lalrpop_rules.specs.Pieces.{IsPiece, slice_of}

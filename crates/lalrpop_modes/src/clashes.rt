@@ -1,8 +1,8 @@
 //! All clashes of rules with modes.
 ghost use Rattle.std.specs.Prelude.{◌≡◌, ◌==◌, length, map, IfOk, IfErr};
 ghost use Rattle.std.specs.List.{list_any};
-ghost use Rattle.lalrpop_book.specs.Clashes.{AreClashes};
-ghost use Rattle.lalrpop_book.specs.Report.{NoFault, IsFaultOf};
+ghost use Rattle.lalrpop_hir.specs.Clashes.{AreClashes};
+ghost use Rattle.lalrpop_hir.specs.Report.{NoFault, IsFaultOf};
 ghost use Rattle.lalrpop_modes.specs.Modes.{ModeRules, trees_of as trees_of_mode};
 ghost use Rattle.lalrpop_modes.specs.ModeSet.{AreModeRules};
 ghost use Rattle.lalrpop_modes.specs.ModeClashes.{AreModeClashes, IsModesFault};

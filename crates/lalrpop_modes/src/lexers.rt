@@ -1,6 +1,6 @@
 //! The lexers of all modes.
 ghost use Rattle.std.specs.Prelude.{◌≡◌, length, map, IfOk, OnOk, IfErr};
-ghost use Rattle.lalrpop_book.specs.Report.{NoFault};
+ghost use Rattle.lalrpop_hir.specs.Report.{NoFault};
 ghost use Rattle.lalrpop_modes.specs.Modes.{NoModeClash};
 ghost use Rattle.lalrpop_modes.specs.Internal.Lexers.{AreLexers, IsModeFault, in_mode, seen};
 

@@ -1,8 +1,8 @@
 //! The lexer of one mode.
 ghost use Rattle.std.specs.Prelude.{◌≡◌, ◌==◌, if◌then◌else◌, Some, None, length, map, IfOk, OnOk, IfErr};
 ghost use Rattle.std.specs.List.{list_any};
-ghost use Rattle.lalrpop_book.specs.Clash.{NoClash};
-ghost use Rattle.lalrpop_book.specs.Report.{IsReport};
+ghost use Rattle.lalrpop_hir.specs.Clash.{NoClash};
+ghost use Rattle.lalrpop_hir.specs.Report.{IsReport};
 ghost use Rattle.lalrpop_modes.specs.Modes.{kinds_of, trees_of};
 
 use crate::known_rule::KnownRule;

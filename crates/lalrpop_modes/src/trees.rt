@@ -1,6 +1,6 @@
 //! The trees of the texts of rules with modes.
 ghost use Rattle.std.specs.Prelude.{◌≡◌, IfOk, IfErr};
-ghost use Rattle.lalrpop_book.specs.Report.{NoFault};
+ghost use Rattle.lalrpop_hir.specs.Report.{NoFault};
 ghost use Rattle.lalrpop_rules.specs.RuleSet.{AreTrees, IsTextError};
 ghost use Rattle.lalrpop_modes.specs.ModeSet.{rules_of};
 

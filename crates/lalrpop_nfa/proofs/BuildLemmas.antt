@@ -7,8 +7,8 @@ use Rattle.std.proofs.Math.Seq.{drop-cons}
 use Rattle.std.proofs.lemmas.List.{length-replicate, append-nil}
 use Rattle.std.proofs.lemmas.Bool.{ne_eqb}
 use Rattle.std.proofs.lemmas.List.Elements.{filter-append}
-use Rattle.lalrpop_book.specs.Range.{Range}
-use Rattle.lalrpop_book.specs.Tree.{Tree, Trees, none, also}
+use Rattle.lalrpop_hir.specs.Range.{Range}
+use Rattle.lalrpop_hir.specs.Tree.{Tree, Trees, none, also}
 use Rattle.lalrpop_hir.specs.Parts.{trees}
 use Rattle.lalrpop_hir.specs.Internal.Depth.{depth, greatest_depth}
 use Rattle.lalrpop_nfa.specs.declared.edge.Edge.{Edge}
@@ -19,8 +19,8 @@ use Rattle.lalrpop_nfa.specs.Walk.{leaves}
 use Rattle.lalrpop_nfa.specs.Path.{noop, other}
 use Rattle.lalrpop_nfa.specs.Internal.Fragment.{Fragment, Construction, no_edges, fragment_of, joined, noops_to, before, one_of, optional_expr, star_expr, plus_expr, repeat_expr, copies, optional_copies, alternation_expr, branches, extended, fresh_graph, compiled}
 use Rattle.lalrpop_nfa.specs.Compiled.{accept_state, start_state, edges_from}
-use Rattle.lalrpop_book.specs.declared.error.NfaConstructionError.{NfaConstructionError}
-use Rattle.lalrpop_book.specs.Fault.{Fault, fault, first_fault, last_fault}
+use Rattle.lalrpop_hir.specs.declared.error.NfaConstructionError.{NfaConstructionError}
+use Rattle.lalrpop_hir.specs.Fault.{Fault, fault, first_fault, last_fault}
 use Rattle.lalrpop_nfa.specs.Internal.Valid.{IsValid, AreValid}
 use Rattle.lalrpop_nfa.specs.Internal.Added.{with_kind, with_edges, with_noops, with_tests}
 use Rattle.lalrpop_nfa.specs.Internal.Extends.{KeepsNoops, Extends, Branched, beside}

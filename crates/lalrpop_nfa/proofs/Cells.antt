@@ -2,7 +2,7 @@
 use Rattle.std.proofs.Common.{◌≡◌, ℕ, ◌+◌, ◌-◌, ◌<◌, ◌≤◌, ◌⊎◌, inl, inr, ⊎_elim, List, [], ◌∷◌, ◌++◌, length, refl, arith, get_or, zero, suc}
 use Rattle.std.proofs.lemmas.List.{length_push, get_or_append_left, get_or_push}
 use Rattle.std.proofs.lemmas.Bool.{cases_lt}
-use Rattle.lalrpop_book.specs.Range.{Range, Covers}
+use Rattle.lalrpop_hir.specs.Range.{Range, Covers}
 use Rattle.lalrpop_nfa.specs.Partition.{Ranges, IsCovered, Alike}
 
 -- the k-th block; past the end, any

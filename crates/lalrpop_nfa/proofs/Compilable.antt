@@ -3,15 +3,15 @@ use Rattle.std.proofs.Common.{◌≡◌, ℕ, zero, suc, ◌+◌, ◌<◌, ◌�
 use Rattle.std.specs.Prelude.{Option, Some, None}
 use Rattle.std.specs.List.{Contains}
 use Rattle.std.specs.Option.{option_or}
-use Rattle.lalrpop_book.specs.Range.{Range}
+use Rattle.lalrpop_hir.specs.Range.{Range}
 use Rattle.lalrpop_hir.specs.Runs.{IsScalar, IsByte, next_scalar, AreApart, HaveEndsIn}
-use Rattle.lalrpop_book.specs.Tree.{Class, unicode, bytes, Tree, empty, literal, class, look, repetition, capture, concat, alternation, Trees, none, also}
+use Rattle.lalrpop_hir.specs.Tree.{Class, unicode, bytes, Tree, empty, literal, class, look, repetition, capture, concat, alternation, Trees, none, also}
 use Rattle.lalrpop_hir.proofs.Canons.{head-holds, tail-apart}
 use Rattle.lalrpop_nfa.specs.Meet.{Meet}
-use Rattle.lalrpop_book.specs.Fault.{fault, last_fault, first_fault}
+use Rattle.lalrpop_hir.specs.Fault.{fault, last_fault, first_fault}
 use Rattle.lalrpop_nfa.specs.Compiled.{IsLabel, IsLabelOfSome}
 use Rattle.lalrpop_nfa.specs.Internal.Valid.{IsValid, AreValid, AreCodeValues}
-use Rattle.lalrpop_book.proofs.Contained.{contains_none, contains_cases}
+use Rattle.lalrpop_hir.proofs.Contained.{contains_none, contains_cases}
 
 -- no range meets a later one
 abbrev pub AreDisjoint : List Range → Type 0

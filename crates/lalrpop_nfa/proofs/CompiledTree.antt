@@ -5,10 +5,10 @@ use Rattle.std.specs.List.{Contains, filter}
 use Rattle.std.proofs.lemmas.List.{append-nil, length-replicate}
 use Rattle.std.proofs.lemmas.Bool.{ne_eqb}
 use Rattle.std.proofs.lemmas.List.Elements.{Contains-append_cases, filter-append}
-use Rattle.lalrpop_book.specs.Range.{Range}
-use Rattle.lalrpop_book.specs.Tree.{Tree}
+use Rattle.lalrpop_hir.specs.Range.{Range}
+use Rattle.lalrpop_hir.specs.Tree.{Tree}
 use Rattle.lalrpop_hir.specs.Size.{size}
-use Rattle.lalrpop_book.specs.Language.{Matches}
+use Rattle.lalrpop_hir.specs.Language.{Matches}
 use Rattle.lalrpop_nfa.specs.declared.edge.Edge.{Edge}
 use Rattle.lalrpop_nfa.specs.declared.edge.Noop.{Noop}
 use Rattle.lalrpop_nfa.specs.declared.edge.Other.{Other}
@@ -16,11 +16,11 @@ use Rattle.lalrpop_nfa.specs.declared.edge.StateKind.TheVariants.{Accept, Reject
 use Rattle.lalrpop_nfa.specs.Graph.{Lists}
 use Rattle.lalrpop_nfa.specs.Walk.{leaves}
 use Rattle.lalrpop_nfa.specs.Path.{noop, test, other, Path, here, epsilon, read, otherwise}
-use Rattle.lalrpop_book.specs.Fault.{fault}
+use Rattle.lalrpop_hir.specs.Fault.{fault}
 use Rattle.lalrpop_nfa.specs.Internal.Valid.{IsValid}
 use Rattle.lalrpop_nfa.specs.Compiled.{accept_state, reject_state, start_state, IsLabel, ReadsWordsOf, IsCompiled, HasFixedEdges}
 use Rattle.lalrpop_nfa.specs.Internal.Fragment.{fragment_of, noops_to, joined, fresh_graph, compiled}
-use Rattle.lalrpop_book.proofs.Contained.{contains_none, contains_cases, contains_only, contains_first, contains_later}
+use Rattle.lalrpop_hir.proofs.Contained.{contains_none, contains_cases, contains_only, contains_first, contains_later}
 use Rattle.lalrpop_nfa.proofs.Compilable.{IsCompilableWithin, plain}
 use Rattle.lalrpop_nfa.proofs.Fragments.{Anywhere, Fits, Within, Fits-joined, Fits-noops_to, fragment_leads, fragment_within}
 use Rattle.lalrpop_nfa.proofs.Sizes.{fragment_size}

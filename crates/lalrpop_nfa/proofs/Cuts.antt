@@ -4,7 +4,7 @@ use Rattle.std.specs.Char.{encode_utf8}
 use Rattle.std.specs.Str.{chars, IsUtf8, IsCharBoundary, encode_utf8_all}
 use Rattle.std.proofs.lemmas.List.{append-nil, append_cancel_left, take_at, take-append-drop, take-append-le, nil_from_length}
 use Rattle.std.proofs.lemmas.Str.{chars-nil, chars-append, chars_past_char, encode_same, encodes-chars, IsUtf8-drop, IsUtf8-take, IsUtf8-past_char, IsCharBoundary-at_seam, IsCharBoundary-from_take}
-use Rattle.lalrpop_book.specs.Prefix.{IsPrefix}
+use Rattle.lalrpop_hir.specs.Prefix.{IsPrefix}
 
 -- the first `at` bytes of the text were read, and whole characters are left
 pub record IsCut (text : List ℕ) (at : ℕ) (rest : List ℕ) : Type 0 where

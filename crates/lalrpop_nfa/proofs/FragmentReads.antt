@@ -3,9 +3,9 @@ use Rattle.std.proofs.Common.{◌≡◌, ℕ, zero, suc, ◌<◌, ◌≤◌, ◌
 use Rattle.std.specs.Prelude.{Some, None, Bool}
 use Rattle.std.specs.List.{Contains}
 use Rattle.std.proofs.lemmas.List.Elements.{Contains-append_left, Contains-append_right, Contains-append_cases}
-use Rattle.lalrpop_book.specs.Range.{Range, Covers}
-use Rattle.lalrpop_book.specs.Tree.{Class, unicode, bytes, Tree, empty, literal, class, look, repetition, capture, concat, alternation, Trees, none, also}
-use Rattle.lalrpop_book.specs.Language.{Words, Then, Power, Matches, MatchInTurn, SomeMatches}
+use Rattle.lalrpop_hir.specs.Range.{Range, Covers}
+use Rattle.lalrpop_hir.specs.Tree.{Class, unicode, bytes, Tree, empty, literal, class, look, repetition, capture, concat, alternation, Trees, none, also}
+use Rattle.lalrpop_hir.specs.Language.{Words, Then, Power, Matches, MatchInTurn, SomeMatches}
 use Rattle.lalrpop_hir.proofs.Powers.{Optional, Star, Matches-counted, Matches-open}
 use Rattle.lalrpop_nfa.specs.declared.edge.Edge.{Edge}
 use Rattle.lalrpop_nfa.specs.declared.edge.Noop.{Noop}
@@ -14,7 +14,7 @@ use Rattle.lalrpop_nfa.specs.Graph.{Lists}
 use Rattle.lalrpop_nfa.specs.Path.{noop, test, other, Path}
 use Rattle.lalrpop_nfa.specs.Compiled.{accept_state, reject_state}
 use Rattle.lalrpop_nfa.specs.Internal.Fragment.{Construction, noops_to, joined, nothing, before, one_of, literal_expr, copies, optional_expr, optional_copies, star_expr, plus_expr, repeat_expr, Branches, alternation_expr, class_construction, fragment_of, concat_expr, branches}
-use Rattle.lalrpop_book.proofs.Contained.{contains_none, contains_only, contains_map, contains_from_map}
+use Rattle.lalrpop_hir.proofs.Contained.{contains_none, contains_only, contains_map, contains_from_map}
 use Rattle.lalrpop_nfa.proofs.Compilable.{IsCompilableWithin, AreCompilableWithin, only}
 use Rattle.lalrpop_nfa.proofs.Readings.{Reads, ReadsFromSome, Forks, Tests, OneOf, Reads-empty, Reads-same, Reads-then, Reads-alternation_expr, Reads-optional_expr, Reads-star, Reads-test, FromSome-none, FromSome-also}
 use Rattle.lalrpop_nfa.proofs.Fragments.{Anywhere, construction_within, Joins, Within, Fits-noops_to, Leads, Leads-nothing, Leads-one_of, Leads-literal_expr, Leads-copies, Leads-optional_expr, Leads-optional_copies, Leads-star_expr, fragment_leads, concat_leads, fragment_within, branches_within}

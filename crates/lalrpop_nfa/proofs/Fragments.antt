@@ -3,8 +3,8 @@ use Rattle.std.proofs.Common.{◌≡◌, ℕ, zero, suc, ◌<◌, ◌≤◌, ◌
 use Rattle.std.specs.Prelude.{Option, Some, None}
 use Rattle.std.specs.List.{Contains}
 use Rattle.std.proofs.lemmas.List.Elements.{Contains-append_cases}
-use Rattle.lalrpop_book.specs.Range.{Range}
-use Rattle.lalrpop_book.specs.Tree.{Class, unicode, bytes, Tree, empty, literal, class, look, repetition, capture, concat, alternation, Trees, none, also}
+use Rattle.lalrpop_hir.specs.Range.{Range}
+use Rattle.lalrpop_hir.specs.Tree.{Class, unicode, bytes, Tree, empty, literal, class, look, repetition, capture, concat, alternation, Trees, none, also}
 use Rattle.lalrpop_nfa.specs.declared.edge.Edge.{Edge}
 use Rattle.lalrpop_nfa.specs.declared.edge.Noop.{Noop}
 use Rattle.lalrpop_nfa.specs.declared.edge.Other.{Other}
@@ -12,7 +12,7 @@ use Rattle.lalrpop_nfa.specs.Graph.{Lists}
 use Rattle.lalrpop_nfa.specs.Path.{noop, test, other}
 use Rattle.lalrpop_nfa.specs.Compiled.{reject_state}
 use Rattle.lalrpop_nfa.specs.Internal.Fragment.{Construction, no_edges, noops_to, joined, nothing, before, one_of, literal_expr, copies, optional_expr, optional_copies, star_expr, plus_expr, repeat_expr, Branches, alternation_expr, class_construction, fragment_of, concat_expr, branches}
-use Rattle.lalrpop_book.proofs.Contained.{contains_none, contains_cases, contains_only, contains_from_map}
+use Rattle.lalrpop_hir.proofs.Contained.{contains_none, contains_cases, contains_only, contains_from_map}
 
 -- the edges leave states from a up to b, and lead to states with P
 abbrev pub Joins : {L : Type 0} → (ℕ → Type 0) → ℕ → ℕ → List (Edge L) → Type 0

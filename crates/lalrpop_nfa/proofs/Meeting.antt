@@ -1,7 +1,7 @@
 -- Two ranges share a value exactly if the later start is at most the earlier end.
 use Rattle.std.proofs.Common.{◌≡◌, ℕ, ◌↔◌, ◌≤◌, min, max, arith, IsTrue, leb}
 use Rattle.std.proofs.lemmas.Bool.{leb-true, le-leb}
-use Rattle.lalrpop_book.specs.Range.{Range}
+use Rattle.lalrpop_hir.specs.Range.{Range}
 use Rattle.lalrpop_nfa.specs.Meet.{Meet}
 
 pub Meet-by_ends : (r s : Range) (low high : ℕ) → low ≡ max r.start s.start → high ≡ min r.end s.end → IsTrue (leb low high) ↔ Meet r s

@@ -4,7 +4,7 @@ use Rattle.std.specs.List.{Contains}
 use Rattle.std.proofs.lemmas.List.{get_or_default}
 use Rattle.std.proofs.lemmas.List.Elements.{Contains-get_or}
 use Rattle.std.proofs.lemmas.Bool.{cases_lt, cases_order}
-use Rattle.lalrpop_book.specs.Range.{Range, Covers}
+use Rattle.lalrpop_hir.specs.Range.{Range, Covers}
 use Rattle.lalrpop_hir.proofs.Canons.{range-same}
 use Rattle.lalrpop_nfa.specs.Partition.{Ranges, IsCovered, Alike, IsUniform, IsBlock, AreAscending, IsPartition}
 use Rattle.lalrpop_nfa.proofs.Cells.{at, BlocksBelow, IsBoundary, alike_sym, alike_trans, covered_along, last_covers}

@@ -2,7 +2,7 @@
 use Rattle.std.proofs.Common.{◌≡◌, ℕ, ◌+◌, ◌≤◌, ◌↔◌, ◌⊎◌, inl, inr, List, sym, ap, ◌∙◌, arith}
 use Rattle.std.specs.List.{Contains}
 use Rattle.std.proofs.lemmas.Bool.{cases_lt}
-use Rattle.lalrpop_book.specs.Range.{Range, Covers}
+use Rattle.lalrpop_hir.specs.Range.{Range, Covers}
 use Rattle.lalrpop_nfa.specs.Partition.{Ranges, IsCovered, Alike, IsUniform, IsPartition}
 use Rattle.lalrpop_nfa.proofs.Cells.{alike_sym, alike_trans, covered_along}
 use Rattle.lalrpop_nfa.proofs.BlockCover.{block_of_covered}

@@ -1,7 +1,7 @@
 -- The list of the runs of a set of ranges is unique.
 use Rattle.std.proofs.Common.{◌≡◌, ◌<◌, ◌≤◌, ◌⊎◌, inl, inr, List, [], ◌∷◌, refl, sym, ap, ◌∙◌, arith, zero, suc}
 use Rattle.std.specs.List.{Contains}
-use Rattle.lalrpop_book.specs.Range.{Range}
+use Rattle.lalrpop_hir.specs.Range.{Range}
 use Rattle.lalrpop_nfa.specs.Partition.{Ranges, AreAscending, IsPartition}
 
 -- no element is empty

@@ -1,8 +1,8 @@
 -- Paths one after another, and a path before and after its last value.
 use Rattle.std.proofs.Common.{◌≡◌, ℕ, ◌<◌, inl, inr, List, [], ◌∷◌, ◌++◌, length, refl, sym, subst, arith}
 use Rattle.std.specs.List.{Contains}
-use Rattle.lalrpop_book.specs.Range.{Range, Covers}
-use Rattle.lalrpop_book.specs.Tree.{Tree}
+use Rattle.lalrpop_hir.specs.Range.{Range, Covers}
+use Rattle.lalrpop_hir.specs.Tree.{Tree}
 use Rattle.lalrpop_nfa.specs.Graph.{Graph, Lists}
 use Rattle.lalrpop_nfa.specs.Path.{Path, here, epsilon, read, otherwise, noop, test, other, IsUntested}
 use Rattle.lalrpop_nfa.specs.Internal.Reads.{Reads}

@@ -2,14 +2,14 @@
 use Rattle.std.proofs.Common.{◌≡◌, ◌≢◌, ℕ, zero, suc, ◌<◌, ◌≤◌, List, [], ◌∷◌, ◌++◌, refl, ap, sym, ◌∙◌, subst, arith, ◌⊎◌, inl, inr, append_assoc}
 use Rattle.std.specs.List.{Contains}
 use Rattle.std.proofs.Math.Nat.{le_refl}
-use Rattle.lalrpop_book.specs.Range.{Range, Covers, Covered}
-use Rattle.lalrpop_book.specs.Language.{Words, Then, Power}
+use Rattle.lalrpop_hir.specs.Range.{Range, Covers, Covered}
+use Rattle.lalrpop_hir.specs.Language.{Words, Then, Power}
 use Rattle.lalrpop_hir.proofs.Joining.{covering}
 use Rattle.lalrpop_hir.proofs.Powers.{Optional, Star}
 use Rattle.lalrpop_nfa.specs.Graph.{Lists}
 use Rattle.lalrpop_nfa.specs.Path.{noop, test, other, Path, here, epsilon, read, otherwise}
 use Rattle.lalrpop_nfa.specs.Compiled.{accept_state, reject_state}
-use Rattle.lalrpop_book.proofs.Contained.{contains_none, contains_cases, contains_first, contains_later, contains_only}
+use Rattle.lalrpop_hir.proofs.Contained.{contains_none, contains_cases, contains_first, contains_later, contains_only}
 
 -- the number of edges of a path
 abbrev pub steps : (e : Lists) (last p : ℕ) (w : List ℕ) → Path e last p w → ℕ

@@ -6,11 +6,11 @@ use Rattle.std.specs.Char.{encode_utf8}
 use Rattle.std.specs.Str.{chars, IsUtf8, IsCharBoundary}
 use Rattle.std.proofs.Math.Nat.{mul-le-mul_left}
 use Rattle.std.proofs.lemmas.Str.{chars-nil, IsCharBoundary-from_take}
-use Rattle.lalrpop_book.specs.Tree.{Tree}
-use Rattle.lalrpop_book.specs.Language.{Matches}
+use Rattle.lalrpop_hir.specs.Tree.{Tree}
+use Rattle.lalrpop_hir.specs.Language.{Matches}
 use Rattle.lalrpop_nfa.specs.Graph.{Graph}
 use Rattle.lalrpop_nfa.specs.Compiled.{IsCompiled, start_state}
-use Rattle.lalrpop_book.specs.Prefix.{IsPrefix}
+use Rattle.lalrpop_hir.specs.Prefix.{IsPrefix}
 use Rattle.lalrpop_nfa.specs.Internal.StateSets.{Visited, IsClosure, IsMove, IsIfAccepted, only}
 use Rattle.lalrpop_nfa.proofs.StateSetLemmas.{IsAfterWord, after_none, after_next, matched_if, only_if_matched}
 use Rattle.lalrpop_nfa.proofs.PrefixLemmas.{IsLongestOfUpTo, of_cut, of_accept, of_start, of_pass}

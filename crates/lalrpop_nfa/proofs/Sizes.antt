@@ -2,11 +2,11 @@
 use Rattle.std.proofs.Common.{◌≡◌, ℕ, zero, suc, ◌≤◌, ◌+◌, ◌-◌, ◌*◌, List, [], ◌∷◌, length, refl, ap, ◌∙◌, arith}
 use Rattle.std.proofs.Math.Nat.{suc-mul}
 use Rattle.std.specs.Prelude.{Some, None}
-use Rattle.lalrpop_book.specs.Range.{Range}
-use Rattle.lalrpop_book.specs.Tree.{Class, unicode, bytes, Tree, empty, literal, class, look, repetition, capture, concat, alternation, Trees, none, also}
+use Rattle.lalrpop_hir.specs.Range.{Range}
+use Rattle.lalrpop_hir.specs.Tree.{Class, unicode, bytes, Tree, empty, literal, class, look, repetition, capture, concat, alternation, Trees, none, also}
 use Rattle.lalrpop_hir.specs.Size.{size, sum_of_sizes, repeated_size}
 use Rattle.lalrpop_nfa.specs.Internal.Fragment.{Construction, before, one_of, literal_expr, copies, optional_expr, optional_copies, star_expr, repeat_expr, class_construction, fragment_of, concat_expr, branches}
-use Rattle.lalrpop_book.specs.Fault.{fault}
+use Rattle.lalrpop_hir.specs.Fault.{fault}
 use Rattle.lalrpop_nfa.specs.Internal.Valid.{IsValid}
 use Rattle.lalrpop_nfa.proofs.Compilable.{IsCompilableWithin, AreCompilableWithin, only, plain}
 

@@ -6,9 +6,9 @@ use Rattle.std.proofs.lemmas.List.Elements.{Contains-append_left, Contains-push,
 use Rattle.std.proofs.lemmas.List.Sums.{sum_by-set}
 use Rattle.std.proofs.lemmas.List.{append-nil, get_or_default, get_or_past, get_or_append_left}
 use Rattle.lalrpop_nfa.specs.Walk.{leaves}
-use Rattle.lalrpop_book.specs.Range.{Covers}
-use Rattle.lalrpop_book.specs.Tree.{Tree}
-use Rattle.lalrpop_book.specs.Language.{Matches}
+use Rattle.lalrpop_hir.specs.Range.{Covers}
+use Rattle.lalrpop_hir.specs.Tree.{Tree}
+use Rattle.lalrpop_hir.specs.Language.{Matches}
 use Rattle.lalrpop_nfa.specs.Graph.{Graph, Lists}
 use Rattle.lalrpop_nfa.specs.Path.{Path, here, epsilon, read, otherwise, noop, test, other, IsUntested}
 use Rattle.lalrpop_nfa.specs.Internal.Reads.{Tests, Reads}
@@ -16,7 +16,7 @@ use Rattle.lalrpop_nfa.specs.Compiled.{IsCompiled, start_state, accept_state, re
 use Rattle.lalrpop_nfa.specs.Internal.StateSets.{StateList, only, IsStateSet, IsGrown, IsEpsilonEdge, IsClosed, IsClosure, IsMove, Accepts, Rejects}
 use Rattle.lalrpop_nfa.specs.declared.edge.Edge.{Edge}
 use Rattle.lalrpop_nfa.proofs.PathLemmas.{path_join}
-use Rattle.lalrpop_book.proofs.Contained.{contains_none, contains_first, contains_later, contains_cases, contains_only, contains_at, filter_in, filter_out}
+use Rattle.lalrpop_hir.proofs.Contained.{contains_none, contains_first, contains_later, contains_cases, contains_only, contains_at, filter_in, filter_out}
 
 -- ---- marks
 

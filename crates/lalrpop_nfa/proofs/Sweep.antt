@@ -8,7 +8,7 @@ use Rattle.std.proofs.lemmas.List.Sorted.{IsPermutation-sym, Contains-permutatio
 use Rattle.std.proofs.lemmas.List.Sums.{sum_by-cons, length-filter}
 use Rattle.std.proofs.lemmas.Bool.{cases_lt, cases_Bool, le-leb, lt-leb, leb-true, leb-false, and_from, and_parts}
 use Rattle.std.proofs.lemmas.Bool.Decides.{nat_tests}
-use Rattle.lalrpop_book.specs.Range.{Range, Covers}
+use Rattle.lalrpop_hir.specs.Range.{Range, Covers}
 use Rattle.lalrpop_nfa.specs.Partition.{IsCovered, has_value, IsPartition}
 use Rattle.lalrpop_nfa.specs.Internal.Sweep.{starts_of, ends_of}
 use Rattle.lalrpop_nfa.proofs.Cells.{IsBoundary, BlocksBelow, parts_none, parts_kept, parts_passed, zero_is_boundary}

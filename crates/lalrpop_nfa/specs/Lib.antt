@@ -1,10 +1,10 @@
 -- from the book: what this crate's contracts name
-pub use Rattle.lalrpop_book.specs.Word
-pub use Rattle.lalrpop_book.specs.Range
-pub use Rattle.lalrpop_book.specs.Tree
-pub use Rattle.lalrpop_book.specs.Language
-pub use Rattle.lalrpop_book.specs.Fault
-pub use Rattle.lalrpop_book.specs.Prefix
+pub use Rattle.lalrpop_hir.specs.Word
+pub use Rattle.lalrpop_hir.specs.Range
+pub use Rattle.lalrpop_hir.specs.Tree
+pub use Rattle.lalrpop_hir.specs.Language
+pub use Rattle.lalrpop_hir.specs.Fault
+pub use Rattle.lalrpop_hir.specs.Prefix
 -- ranges and their partition
 pub mod Meet
 pub mod Partition

@@ -1,7 +1,7 @@
 -- cases: proofs/Cases/Meet.antt
 -- Whether two ranges have a value in common.
 use Rattle.std.specs.Prelude.{ℕ}
-use Rattle.lalrpop_book.specs.Range.{Range, Covers}
+use Rattle.lalrpop_hir.specs.Range.{Range, Covers}
 
 -- some value lies in both
 abbrev pub Meet : Range → Range → Type 0

@@ -2,7 +2,7 @@
 -- How steps lead from state to state of an automaton and read a word.
 use Rattle.std.specs.Prelude.{◌≡◌, ℕ, List, [], ◌∷◌}
 use Rattle.std.specs.List.{Contains}
-use Rattle.lalrpop_book.specs.Range.{Range, Covers}
+use Rattle.lalrpop_hir.specs.Range.{Range, Covers}
 use Rattle.lalrpop_nfa.specs.Graph.{Lists}
 use Rattle.lalrpop_nfa.specs.declared.edge.Edge.{Edge}
 use Rattle.lalrpop_nfa.specs.declared.edge.Noop.{Noop}

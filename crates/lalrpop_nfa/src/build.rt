@@ -8,7 +8,7 @@ ghost use Rattle.lalrpop_hir.specs.Level.{class_of};
 ghost use Rattle.lalrpop_nfa.specs.Internal.Added.{with_kind, with_noops};
 ghost use Rattle.lalrpop_nfa.specs.Walk.{leaves};
 ghost use Rattle.lalrpop_nfa.specs.Compiled.{edges_from};
-ghost use Rattle.lalrpop_book.specs.Fault.{fault, greedy_fault, first_fault, last_fault};
+ghost use Rattle.lalrpop_hir.specs.Fault.{fault, greedy_fault, first_fault, last_fault};
 ghost use Rattle.lalrpop_nfa.specs.Internal.Valid.{AreCodeValues, IsValidClass, IsValidRepeated, AreValid, IsValid, IsPlain};
 ghost use Rattle.lalrpop_nfa.specs.Internal.Fragment as made;
 ghost use Rattle.lalrpop_nfa.specs.Internal.Extends.{Extends, IsCompilable, IsFaultOf};

@@ -3,12 +3,12 @@
 ghost use Rattle.std.specs.Prelude.{◌≡◌, ◌+◌, ◌*◌, ◌<◌, ◌≤◌, ◌↔◌, length, take, IfSome, IfOk, OnOk, IsTrue};
 ghost use Rattle.std.specs.Option.{option_map};
 ghost use Rattle.std.specs.Str.{chars, IsCharBoundary};
-ghost use Rattle.lalrpop_book.specs.Tree.{Tree};
-ghost use Rattle.lalrpop_book.specs.Language.{Matches};
+ghost use Rattle.lalrpop_hir.specs.Tree.{Tree};
+ghost use Rattle.lalrpop_hir.specs.Language.{Matches};
 ghost use Rattle.lalrpop_nfa.specs.Compiled.{IsCompiled, start_state};
 ghost use Rattle.lalrpop_nfa.specs.Internal.StateSets.{only, IsGrown, IsEpsilonEdge, IsClosure, IsMove, Accepts, Rejects, IsIfAccepted};
 ghost use Rattle.lalrpop_nfa.specs.Internal.Reads.{Reads};
-ghost use Rattle.lalrpop_book.specs.Prefix.{IsPrefix, IsLongestOf};
+ghost use Rattle.lalrpop_hir.specs.Prefix.{IsPrefix, IsLongestOf};
 
 use super::state_set::StateSet;
 use super::{Nfa, NfaStateIndex, Noop, Other, START, Steps, Test};

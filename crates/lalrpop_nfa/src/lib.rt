@@ -11,13 +11,13 @@ mod test;
 
 ghost use Rattle.std.specs.Prelude.{◌≡◌, ◌≢◌, ◌↔◌, ◌<◌, ◌++◌, ◌∷◌, [], Some, None, IfOk, IfErr, IsTrue};
 ghost use Rattle.std.specs.List.{filter};
-ghost use Rattle.lalrpop_book.specs.Fault.{fault};
+ghost use Rattle.lalrpop_hir.specs.Fault.{fault};
 
 use edge::set_first;
 pub use edge::{
     Edge, EdgeIterator, EdgeLabel, Edges, NfaStateIndex, Noop, Other, State, StateKind,
 };
-pub use lalrpop_book::NfaConstructionError;
+pub use lalrpop_hir::NfaConstructionError;
 use lalrpop_hir::Regex;
 use std::alloc::{AllocError, Global};
 use std::marker::Model;

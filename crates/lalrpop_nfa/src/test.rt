@@ -1,7 +1,7 @@
 //! Ranges of values, as labels of edges.
 ghost use Rattle.std.specs.Prelude.{◌≡◌, ◌↔◌, ◌+◌, ◌-◌, ◌<◌, ◌≤◌, IsTrue};
 ghost use Rattle.std.specs.Range.{range_inclusive_start, range_inclusive_end};
-ghost use Rattle.lalrpop_book.specs.Range.{Covers};
+ghost use Rattle.lalrpop_hir.specs.Range.{Covers};
 ghost use Rattle.lalrpop_nfa.specs.Meet.{Meet};
 
 use lalrpop_hir::{ClassBytesRange, ClassUnicodeRange};
@@ -24,7 +24,7 @@ pub struct Test {
 }
 
 impl Model for Test {
-    ghost use Rattle.lalrpop_book.specs.Range.{Range};
+    ghost use Rattle.lalrpop_hir.specs.Range.{Range};
 
     ghost Value = { Range };
 

@@ -6,18 +6,18 @@ use Rattle.std.specs.Char.{is_ascii_lowercase}
 use Rattle.std.proofs.lemmas.Bool.{ne_eqb, eqb-true}
 use Rattle.std.proofs.Math.Seq.{take-append_seam, drop-append_seam}
 use Rattle.std.proofs.lemmas.List.{take_all, drop-drop}
-use Rattle.lalrpop_grammar.specs.Text.{Text, begins}
-use Rattle.lalrpop_grammar.specs.CharacterSet.{is_one_of, Set, complement, union_all}
-use Rattle.lalrpop_grammar.specs.declared.flags.Flags.{Flags}
-use Rattle.lalrpop_grammar.specs.declared.error.RegexError.{RegexError}
-use Rattle.lalrpop_grammar.specs.declared.error.RegexError.TheVariants.{Syntax, OutOfMemory}
-use Rattle.lalrpop_grammar.specs.Escape.{character}
-use Rattle.lalrpop_grammar.specs.Bracket.{SetOperator, apply, ends_operand, leaf_or_complement}
-use Rattle.lalrpop_grammar.specs.PosixSet.{posix_set}
-use Rattle.lalrpop_grammar.specs.Internal.Reading.{span, posix_named, posix, primary, operator_of, SetPart, Union, simple_item, item_or, item, operand, whole_operand, operations, all_operations, operands, bracket_with, bracket}
+use Rattle.lalrpop_re.specs.Text.{Text, begins}
+use Rattle.lalrpop_re.specs.CharacterSet.{is_one_of, Set, complement, union_all}
+use Rattle.lalrpop_re.specs.declared.flags.Flags.{Flags}
+use Rattle.lalrpop_re.specs.declared.error.RegexError.{RegexError}
+use Rattle.lalrpop_re.specs.declared.error.RegexError.TheVariants.{Syntax, OutOfMemory}
+use Rattle.lalrpop_re.specs.Escape.{character}
+use Rattle.lalrpop_re.specs.Bracket.{SetOperator, apply, ends_operand, leaf_or_complement}
+use Rattle.lalrpop_re.specs.PosixSet.{posix_set}
+use Rattle.lalrpop_re.specs.Internal.Reading.{span, posix_named, posix, primary, operator_of, SetPart, Union, simple_item, item_or, item, operand, whole_operand, operations, all_operations, operands, bracket_with, bracket}
 use Rattle.lalrpop_re.specs.Internal.Views.{Refuses}
-use Rattle.lalrpop_grammar.proofs.Steps.{decided, span_joins}
-use Rattle.lalrpop_grammar.proofs.BracketLaws.{Item-shorter, Operand-shorter, spelling-shorter, operator_sound, item_sound, operand_sound, operand_enough, operations_enough, operand_end, operand_go, item_is_posix, item_is_bracket, bracket_sound}
+use Rattle.lalrpop_re.proofs.Steps.{decided, span_joins}
+use Rattle.lalrpop_re.proofs.BracketLaws.{Item-shorter, Operand-shorter, spelling-shorter, operator_sound, item_sound, operand_sound, operand_enough, operations_enough, operand_end, operand_go, item_is_posix, item_is_bracket, bracket_sound}
 
 -- a refusal is passed on, since the two readings fail together
 pub refuses_on : {A B : Type 0} (e : RegexError) (o : Option A) (r : Option B) → Refuses e o → (o ≡ None → r ≡ None) → Refuses e r

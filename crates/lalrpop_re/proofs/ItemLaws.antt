@@ -3,16 +3,16 @@ use Rattle.std.proofs.Common.{◌≡◌, ◌↔◌, ◌⊎◌, ℕ, zero, suc, �
 use Rattle.std.proofs.lemmas.Bool.{or_cases, le-leb}
 use Rattle.std.proofs.lemmas.Bool.Decides.{nat_tests}
 use Rattle.unicode.specs.CaseFolding.{simple_fold}
-use Rattle.lalrpop_book.specs.Range.{Range, Covered}
+use Rattle.lalrpop_hir.specs.Range.{Range, Covered}
 use Rattle.lalrpop_hir.specs.Runs.{IsScalar, IsCanon}
-use Rattle.lalrpop_grammar.specs.CharacterSet.{Set, is_scalar, just, range, union_all, some_below, fold, Members, HasRuns}
-use Rattle.lalrpop_grammar.proofs.CanonLaws.{IsScalar-is_scalar}
-use Rattle.lalrpop_grammar.specs.declared.flags.Flags.{Flags}
+use Rattle.lalrpop_re.specs.CharacterSet.{Set, is_scalar, just, range, union_all, some_below, fold, Members, HasRuns}
+use Rattle.lalrpop_re.proofs.CanonLaws.{IsScalar-is_scalar}
+use Rattle.lalrpop_re.specs.declared.flags.Flags.{Flags}
 use Rattle.lalrpop_re.specs.declared.escape_sequence.EscapedPart.{EscapedPart}
 use Rattle.lalrpop_re.specs.declared.escape_sequence.EscapedPart.TheVariants as code
-use Rattle.lalrpop_grammar.specs.Escape.{Escaped, character, set, assertion}
-use Rattle.lalrpop_grammar.specs.Bracket.{leaf, leaf_or_complement}
-use Rattle.lalrpop_grammar.specs.Internal.Reading.{stands, range_of}
+use Rattle.lalrpop_re.specs.Escape.{Escaped, character, set, assertion}
+use Rattle.lalrpop_re.specs.Bracket.{leaf, leaf_or_complement}
+use Rattle.lalrpop_re.specs.Internal.Reading.{stands, range_of}
 use Rattle.lalrpop_re.specs.Internal.Views.{HasMembers, StandsForEscaped}
 use Rattle.lalrpop_re.specs.Internal.Items.{Gains}
 

@@ -6,13 +6,13 @@ use Rattle.std.proofs.Math.Numerals.{one-add}
 use Rattle.std.proofs.lemmas.List.{drop-drop}
 use Rattle.std.proofs.Math.Seq.{drop-append_seam}
 use Rattle.unicode.specs.Binary.{is_white_space}
-use Rattle.lalrpop_grammar.specs.Text.{Text, begins}
-use Rattle.lalrpop_grammar.specs.CharacterSet.{Set}
-use Rattle.lalrpop_grammar.specs.Escape.{set, property, sign, is_set_name_char}
-use Rattle.lalrpop_grammar.specs.NamedSet.{named}
-use Rattle.lalrpop_grammar.specs.Operator.{decimal}
-use Rattle.lalrpop_grammar.specs.Internal.Reading.{span, digits_of, name_of, set_named, signed, escape, count}
-use Rattle.lalrpop_grammar.proofs.Steps.{decided, some_is, span_joins, span_passes}
+use Rattle.lalrpop_re.specs.Text.{Text, begins}
+use Rattle.lalrpop_re.specs.CharacterSet.{Set}
+use Rattle.lalrpop_re.specs.Escape.{set, property, sign, is_set_name_char}
+use Rattle.lalrpop_re.specs.NamedSet.{named}
+use Rattle.lalrpop_re.specs.Operator.{decimal}
+use Rattle.lalrpop_re.specs.Internal.Reading.{span, digits_of, name_of, set_named, signed, escape, count}
+use Rattle.lalrpop_re.proofs.Steps.{decided, some_is, span_joins, span_passes}
 use Rattle.lalrpop_re.proofs.Numbers.{not_empty, is_empty}
 
 -- ---- spans

@@ -8,11 +8,11 @@ use Rattle.std.proofs.Math.Nat.{le-mul_of_pos_right}
 use Rattle.std.proofs.lemmas.Bool.{lt-ltb, le-ltb, ltb-true, ltb-false, and_parts, eqb-true, eqb-false}
 use Rattle.std.proofs.lemmas.Bool.Decides.{nat_tests}
 use Rattle.std.proofs.lemmas.List.{at_drop_more, at_drop_all}
-use Rattle.lalrpop_grammar.specs.CharacterSet.{is_scalar}
-use Rattle.lalrpop_grammar.specs.Escape.{hex_value}
-use Rattle.lalrpop_grammar.specs.Operator.{decimal}
-use Rattle.lalrpop_grammar.specs.Internal.Reading.{hex}
-use Rattle.lalrpop_grammar.proofs.Steps.{decided, guarded, some_is}
+use Rattle.lalrpop_re.specs.CharacterSet.{is_scalar}
+use Rattle.lalrpop_re.specs.Escape.{hex_value}
+use Rattle.lalrpop_re.specs.Operator.{decimal}
+use Rattle.lalrpop_re.specs.Internal.Reading.{hex}
+use Rattle.lalrpop_re.proofs.Steps.{decided, guarded, some_is}
 
 -- ---- a loop over digits
 

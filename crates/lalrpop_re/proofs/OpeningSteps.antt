@@ -5,14 +5,14 @@ use Rattle.std.specs.List.{list_any, list_all, position_or_len, prefix_len}
 use Rattle.std.proofs.lemmas.Bool.{lt-ltb, and_parts, eqb-true}
 use Rattle.std.proofs.lemmas.List.{append-nil, length-append}
 use Rattle.std.proofs.lemmas.List.Sums.{prefix_len-le-length}
-use Rattle.lalrpop_grammar.specs.Text.{Text, begins}
-use Rattle.lalrpop_grammar.specs.CharacterSet.{is_one_of}
-use Rattle.lalrpop_grammar.specs.declared.flags.Flags.{Flags}
-use Rattle.lalrpop_grammar.specs.Flag.{FlagLetters, on, on_and_off, is_distinct, with_flags}
-use Rattle.lalrpop_grammar.specs.GroupName.{is_name, begins_name, continues_name}
-use Rattle.lalrpop_grammar.specs.Internal.Reading.{span, flags_of, ends_name, ends_letters, name_at, letters_at, opened_of, a_named_group, a_flagged_group, a_directive_to}
-use Rattle.lalrpop_grammar.proofs.Steps.{decided, not_true, not_false, is_one, span_joins, span_passes, span_is, stops}
-use Rattle.lalrpop_grammar.proofs.OpeningLaws.{all_weaker, not_of, flags_sound, FlagLetters-complete}
+use Rattle.lalrpop_re.specs.Text.{Text, begins}
+use Rattle.lalrpop_re.specs.CharacterSet.{is_one_of}
+use Rattle.lalrpop_re.specs.declared.flags.Flags.{Flags}
+use Rattle.lalrpop_re.specs.Flag.{FlagLetters, on, on_and_off, is_distinct, with_flags}
+use Rattle.lalrpop_re.specs.GroupName.{is_name, begins_name, continues_name}
+use Rattle.lalrpop_re.specs.Internal.Reading.{span, flags_of, ends_name, ends_letters, name_at, letters_at, opened_of, a_named_group, a_flagged_group, a_directive_to}
+use Rattle.lalrpop_re.proofs.Steps.{decided, not_true, not_false, is_one, span_joins, span_passes, span_is, stops}
+use Rattle.lalrpop_re.proofs.OpeningLaws.{all_weaker, not_of, flags_sound, FlagLetters-complete}
 
 -- ---- a text up to the first mark
 

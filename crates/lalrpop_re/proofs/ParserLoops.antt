@@ -1,22 +1,22 @@
 -- One iteration of each loop of the parser, and how the loops end.
 use Rattle.std.proofs.Common.{◌≡◌, ℕ, zero, suc, ◌+◌, ◌<◌, ◌≤◌, max, Bool, true, false, cond, ◌&&◌, encode_utf8_all, List, [], ◌∷◌, ◌++◌, length, drop, Option, Some, None, refl, arith, codes, sym, ap, ◌∙◌, subst, inl, inr, length-append}
 use Rattle.std.proofs.lemmas.Bool.{lt-ltb, le-ltb}
-use Rattle.lalrpop_book.specs.Tree.{Tree, repetition, capture}
-use Rattle.lalrpop_grammar.specs.Text.{Text, begins}
-use Rattle.lalrpop_grammar.specs.declared.flags.Flags.{Flags}
-use Rattle.lalrpop_grammar.specs.Flag.{no_flags}
-use Rattle.lalrpop_grammar.specs.GroupName.{names, are_distinct}
-use Rattle.lalrpop_grammar.specs.NamedPart.{NamedPart, is_part_name}
-use Rattle.lalrpop_grammar.specs.declared.error.RegexError.{RegexError}
-use Rattle.lalrpop_grammar.specs.declared.error.RegexError.TheVariants.{Syntax, OutOfMemory}
+use Rattle.lalrpop_hir.specs.Tree.{Tree, repetition, capture}
+use Rattle.lalrpop_re.specs.Text.{Text, begins}
+use Rattle.lalrpop_re.specs.declared.flags.Flags.{Flags}
+use Rattle.lalrpop_re.specs.Flag.{no_flags}
+use Rattle.lalrpop_re.specs.GroupName.{names, are_distinct}
+use Rattle.lalrpop_re.specs.NamedPart.{NamedPart, is_part_name}
+use Rattle.lalrpop_re.specs.declared.error.RegexError.{RegexError}
+use Rattle.lalrpop_re.specs.declared.error.RegexError.TheVariants.{Syntax, OutOfMemory}
 use Rattle.lalrpop_re.specs.Refusal.{HasNoTreeWith, MakesNoPart}
-use Rattle.lalrpop_grammar.specs.Pattern.{ends_branch, branch, PatternWith, IsPart, most_levels}
-use Rattle.lalrpop_grammar.specs.Internal.Reading.{◌>>=◌, operator, flags_of, Opening, plain_group, named_group, flagged_group, directive, no_opening, opening, as_directive, directive_at, Opened, a_flagged_group, a_directive_to, opened, is_at_operator, Part, Line, Whole, Reader, begin, operators, all_operators, enclosed, group, atom, piece, row_step, row, whole_row, branches, all_branches, inside, is_nothing, read_whole}
+use Rattle.lalrpop_re.specs.Pattern.{ends_branch, branch, PatternWith, IsPart, most_levels}
+use Rattle.lalrpop_re.specs.Internal.Reading.{◌>>=◌, operator, flags_of, Opening, plain_group, named_group, flagged_group, directive, no_opening, opening, as_directive, directive_at, Opened, a_flagged_group, a_directive_to, opened, is_at_operator, Part, Line, Whole, Reader, begin, operators, all_operators, enclosed, group, atom, piece, row_step, row, whole_row, branches, all_branches, inside, is_nothing, read_whole}
 use Rattle.lalrpop_re.specs.Internal.Parts.{Step, to_piece, joined_by, joined, operated, captured, group_or_directive, group_or_directive_of, step, read_levels}
 use Rattle.lalrpop_re.specs.Internal.Views.{HasLevels}
-use Rattle.lalrpop_grammar.proofs.Steps.{bind_some, bind_same, some_is, decided, starts_is}
-use Rattle.lalrpop_grammar.proofs.LexicalLaws.{Operator-shorter, operator_sound}
-use Rattle.lalrpop_grammar.proofs.PatternLaws.{IsSound, Piece-shorter, Row-shorter, piece_sound, row_sound, inside_sound, directive_at_opening, directive_elsewhere, directive_sound, operators_enough, row_end, branches_end, found_with, missing_with, one_tree_with, one_part}
+use Rattle.lalrpop_re.proofs.Steps.{bind_some, bind_same, some_is, decided, starts_is}
+use Rattle.lalrpop_re.proofs.LexicalLaws.{Operator-shorter, operator_sound}
+use Rattle.lalrpop_re.proofs.PatternLaws.{IsSound, Piece-shorter, Row-shorter, piece_sound, row_sound, inside_sound, directive_at_opening, directive_elsewhere, directive_sound, operators_enough, row_end, branches_end, found_with, missing_with, one_tree_with, one_part}
 
 bind_chain : {A B C : Type 0} (o : Option A) (f : A → Option B) (g : B → Option C) → ((o >>= f) >>= g) ≡ (o >>= λ x. f x >>= g)
 bind_chain (Some x) f g = refl

@@ -2,9 +2,9 @@
 use Rattle.std.proofs.Common.{◌≡◌, ℕ, suc, ◌-◌, ◌≤◌, ◌+◌, ◌&&◌, Bool, true, false, cond, List, [], ◌∷◌, length, take, drop, get_or, Option, Some, None, refl, arith, ◌∙◌, subst}
 use Rattle.std.proofs.Math.Seq.{take-length}
 use Rattle.std.specs.List.{list_all}
-use Rattle.lalrpop_grammar.specs.Text.{Text, begins}
-use Rattle.lalrpop_grammar.specs.NamedPart.{NamedPart, begins_part, continues_part, is_part_name, part_named}
-use Rattle.lalrpop_grammar.specs.Internal.Reading.{ends_part, part_after}
+use Rattle.lalrpop_re.specs.Text.{Text, begins}
+use Rattle.lalrpop_re.specs.NamedPart.{NamedPart, begins_part, continues_part, is_part_name, part_named}
+use Rattle.lalrpop_re.specs.Internal.Reading.{ends_part, part_after}
 use Rattle.lalrpop_re.proofs.OpeningSteps.{IsCut, span_again, past_mark}
 
 pub part_name_of_parts : (name : List ℕ) (first : ℕ) (others : Bool) → 1 ≤ length name → first ≡ get_or name 0 first → begins_part first ≡ true

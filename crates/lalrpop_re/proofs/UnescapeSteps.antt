@@ -5,16 +5,16 @@ use Rattle.std.specs.Str.{chars}
 use Rattle.std.proofs.lemmas.Str.{chars-encodes, encodes-append}
 use Rattle.std.proofs.lemmas.List.{append-nil}
 use Rattle.std.proofs.lemmas.Bool.{and_parts, and_from}
-use Rattle.lalrpop_book.specs.Range.{Range}
-use Rattle.lalrpop_grammar.specs.Text.{Text}
-use Rattle.lalrpop_grammar.specs.Escape.{Escaped, character, set, assertion}
-use Rattle.lalrpop_grammar.specs.declared.error.RegexError.{RegexError}
-use Rattle.lalrpop_grammar.specs.declared.error.RegexError.TheVariants.{Syntax, OutOfMemory}
-use Rattle.lalrpop_grammar.specs.Unescaped.{Unescapes, at_end}
-use Rattle.lalrpop_grammar.specs.Internal.Reading.{primary}
-use Rattle.lalrpop_grammar.proofs.Steps.{bind_some, some_is}
-use Rattle.lalrpop_grammar.proofs.UnescapedLaws.{Says, says_nothing, says_first, says_next}
-use Rattle.lalrpop_book.specs.declared.look.Look.{Look}
+use Rattle.lalrpop_hir.specs.Range.{Range}
+use Rattle.lalrpop_re.specs.Text.{Text}
+use Rattle.lalrpop_re.specs.Escape.{Escaped, character, set, assertion}
+use Rattle.lalrpop_re.specs.declared.error.RegexError.{RegexError}
+use Rattle.lalrpop_re.specs.declared.error.RegexError.TheVariants.{Syntax, OutOfMemory}
+use Rattle.lalrpop_re.specs.Unescaped.{Unescapes, at_end}
+use Rattle.lalrpop_re.specs.Internal.Reading.{primary}
+use Rattle.lalrpop_re.proofs.Steps.{bind_some, some_is}
+use Rattle.lalrpop_re.proofs.UnescapedLaws.{Says, says_nothing, says_first, says_next}
+use Rattle.lalrpop_hir.specs.declared.look.Look.{Look}
 use Rattle.lalrpop_re.specs.declared.escape_sequence.EscapedPart.TheVariants as code
 use Rattle.lalrpop_re.specs.Refusal.{SaysNoText}
 use Rattle.lalrpop_re.specs.Internal.Views.{StandsForEscaped, Refuses}

@@ -4,3 +4,8 @@ pub mod Items
 pub mod Parts
 pub mod Characters
 pub mod Code
+pub mod Sets
+pub mod Reading
+pub mod Walks
+pub mod Edges
+pub mod Steps

@@ -2,12 +2,12 @@
 -- What a refusal of a pattern says.
 use Rattle.std.specs.Prelude.{ℕ, List, []}
 use Rattle.std.specs.Str.{IsCharBoundary}
-use Rattle.lalrpop_book.specs.Tree.{Tree}
-use Rattle.lalrpop_grammar.specs.NamedPart.{NamedPart}
-use Rattle.lalrpop_grammar.specs.Pattern.{PatternWith, IsPart}
-use Rattle.lalrpop_grammar.specs.Unescaped.{Unescapes}
-use Rattle.lalrpop_grammar.specs.declared.error.RegexError.{RegexError}
-use Rattle.lalrpop_grammar.specs.declared.error.RegexError.TheVariants.{Syntax, OutOfMemory}
+use Rattle.lalrpop_hir.specs.Tree.{Tree}
+use Rattle.lalrpop_re.specs.NamedPart.{NamedPart}
+use Rattle.lalrpop_re.specs.Pattern.{PatternWith, IsPart}
+use Rattle.lalrpop_re.specs.Unescaped.{Unescapes}
+use Rattle.lalrpop_re.specs.declared.error.RegexError.{RegexError}
+use Rattle.lalrpop_re.specs.declared.error.RegexError.TheVariants.{Syntax, OutOfMemory}
 
 -- a syntax error means that the text does not parse, with these parts
 abbrev pub HasNoTreeWith : List NamedPart → List ℕ → RegexError → Type 0

@@ -2,17 +2,20 @@
 ghost use Rattle.std.specs.Prelude.{◌≡◌, ◌+◌, ◌-◌, ◌^◌, ◌<◌, ◌≤◌, IsTrue, IsFalse, IfSome, IfOk, OnOk, MatchOption, length, drop, Some, None, option_map, option_to_list};
 ghost use Rattle.std.specs.List.{prefix_len};
 ghost use Rattle.std.specs.Char.{is_ascii_lowercase};
-ghost use Rattle.lalrpop_grammar.specs.Text.{begins};
-ghost use Rattle.lalrpop_grammar.specs.CharacterSet.{Set, just, range, complement, union_all, HasRuns};
-ghost use Rattle.lalrpop_grammar.specs.Escape.{Escaped};
-ghost use Rattle.lalrpop_grammar.specs.Bracket.{leaf, leaves, leaf_or_complement, apply, ends_operand, begins_range};
-ghost use Rattle.lalrpop_grammar.specs.Internal.Reading.{span, posix_named, posix, primary, operator_of, past_hyphens, lead, range_of, stands, simple_item, item, whole_operand, all_operations, operands, bracket_with, bracket};
+ghost use Rattle.lalrpop_re.specs.Text.{begins};
+ghost use Rattle.lalrpop_re.specs.CharacterSet.{Set, just, range, complement, union_all, HasRuns};
+ghost use Rattle.lalrpop_re.specs.Escape.{Escaped};
+ghost use Rattle.lalrpop_re.specs.Bracket.{leaf, leaves, leaf_or_complement, apply, ends_operand, begins_range};
+ghost use Rattle.lalrpop_re.specs.Internal.Reading.{span, posix_named, posix, primary, operator_of, past_hyphens, lead, range_of, stands, simple_item, item, whole_operand, all_operations, operands, bracket_with, bracket};
 ghost use Rattle.lalrpop_re.specs.Internal.Views.{text, unread, Finds, HasMembers, StandsForEscaped, operator_view};
 ghost use Rattle.lalrpop_re.specs.Internal.Items.{Gains};
 
 use crate::cursor::{Cursor, error_at};
 use crate::escape_sequence::{EscapedPart, parse_escape};
-use lalrpop_grammar::{Flags, RegexError, SyntaxKind, leaf_of_range, leaf_of_set, posix_class};
+use crate::error::{RegexError, SyntaxKind};
+use crate::flags::Flags;
+use crate::posix::posix_class;
+use crate::sets::{leaf_of_range, leaf_of_set};
 use lalrpop_hir::{ClassUnicode, ClassUnicodeRange};
 use std::alloc::{AllocError, Global};
 use std::mem;
@@ -52,7 +55,7 @@ pub(crate) fn parse_bracket(cursor: &mut Cursor, levels_left: u32) -> Result<Bra
 
 // Reads a bracket inside which `levels_left` levels are left.
 #[cycle(bracket)]
-#[tactic(auto, unfolding(lalrpop_grammar::specs::Internal::Reading::bracket_with))]
+#[tactic(auto, unfolding(crate::specs::Internal::Reading::bracket_with))]
 fn parse_enclosed(cursor: &mut Cursor, levels_left: u32) -> Result<BracketSet, RegexError>
     requires { levels_left < 2 ^ 32 - 1 }
     ensures value { Finds (λ b x. HasRuns b.class x.set × (b.depth ≡ x.depth)
@@ -95,7 +98,7 @@ fn complemented(alloc: Global, class: &ClassUnicode) -> Result<ClassUnicode, All
 
 // Reads the operands of the bracket that opened at a position, up to its `]`.
 #[cycle(bracket)]
-#[tactic(auto, unfolding(lalrpop_grammar::specs::Internal::Reading::operands))]
+#[tactic(auto, unfolding(crate::specs::Internal::Reading::operands))]
 fn parse_operands(
     cursor: &mut Cursor,
     levels_left: u32,
@@ -169,7 +172,7 @@ fn applied(
 }
 
 // The operator that follows, if any.
-#[tactic(auto, unfolding(lalrpop_grammar::specs::Internal::Reading::operator_of))]
+#[tactic(auto, unfolding(crate::specs::Internal::Reading::operator_of))]
 fn set_operator_at(cursor: &Cursor) -> Option<BracketOperator>
     ensures { option_map operator_view result ≡ operator_of (text cursor.now) }
 {
@@ -186,7 +189,7 @@ fn set_operator_at(cursor: &Cursor) -> Option<BracketOperator>
 }
 
 // Reads the hyphens or the `]` at the start of the first operand, and returns the character that they stand for.
-#[tactic(auto, unfolding(lalrpop_grammar::specs::Internal::Reading::lead))]
+#[tactic(auto, unfolding(crate::specs::Internal::Reading::lead))]
 fn parse_lead(cursor: &mut Cursor) -> Option<char>
     ensures value { lead (text cursor.old) ≡ (option_to_list result, text cursor.new) }
     ensures flags { cursor.new.flags ≡ cursor.old.flags }
@@ -295,7 +298,7 @@ fn ends_operand(cursor: &Cursor) -> bool
 
 // Reads an item, adds its set to the ranges, and returns its depth.
 #[cycle(bracket)]
-#[tactic(auto, unfolding(lalrpop_grammar::specs::Internal::Reading::item, lalrpop_grammar::specs::Internal::Reading::item_or))]
+#[tactic(auto, unfolding(crate::specs::Internal::Reading::item, crate::specs::Internal::Reading::item_or))]
 fn parse_item(
     cursor: &mut Cursor,
     levels_left: u32,
@@ -331,7 +334,7 @@ struct PosixClass {
 }
 
 // Reads the POSIX class that begins with the next character, if there is one.
-#[tactic(auto, unfolding(lalrpop_grammar::specs::Internal::Reading::posix))]
+#[tactic(auto, unfolding(crate::specs::Internal::Reading::posix))]
 fn parse_posix(cursor: &mut Cursor) -> Result<Option<PosixClass>, AllocError>
     ensures value { IfOk result (λ found.
         MatchOption found ((posix (text cursor.old) ≡ None) × (text cursor.new ≡ text cursor.old))
@@ -394,7 +397,7 @@ fn letters_len(text: &[char]) -> usize
 }
 
 // Reads a primary or a range, and adds its set to the ranges.
-#[tactic(auto, unfolding(lalrpop_grammar::specs::Internal::Reading::simple_item))]
+#[tactic(auto, unfolding(crate::specs::Internal::Reading::simple_item))]
 fn parse_simple_item(
     cursor: &mut Cursor,
     ranges: &mut Vec<ClassUnicodeRange>,
@@ -421,7 +424,7 @@ pub(crate) struct Primary {
 }
 
 // Reads an escape, or a character that stands for itself.
-#[tactic(auto, unfolding(lalrpop_grammar::specs::Internal::Reading::primary))]
+#[tactic(auto, unfolding(crate::specs::Internal::Reading::primary))]
 pub(crate) fn parse_primary(cursor: &mut Cursor) -> Result<Primary, RegexError>
     ensures value { Finds (λ p x. StandsForEscaped p.part x.0
         × (text cursor.new ≡ x.1)) result (primary (text cursor.old)) }

@@ -3,7 +3,8 @@ ghost use Rattle.std.specs.Prelude.{◌≡◌, ◌<◌, ◌≤◌, ◌++◌, ◌
 ghost use Rattle.std.specs.List.{starts_with};
 ghost use Rattle.std.specs.Str.{chars};
 
-use lalrpop_grammar::{Flags, RegexError, SyntaxKind};
+use crate::error::{RegexError, SyntaxKind};
+use crate::flags::Flags;
 use std::alloc::{AllocError, Global};
 
 /// The characters of a pattern, the number of them that are read, and the flags in force.
@@ -21,7 +22,7 @@ pub(crate) struct Cursor {
 }
 
 impl Cursor {
-    ghost use Rattle.lalrpop_grammar.specs.Flag.{no_flags};
+    ghost use Rattle.lalrpop_re.specs.Flag.{no_flags};
     ghost use Rattle.lalrpop_re.specs.Internal.Views.{text_from, text, unread, place_of};
 
     /// The cursor before the first character, with no flag set. `knows_parts` says whether a name in braces names a part.

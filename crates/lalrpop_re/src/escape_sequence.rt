@@ -2,15 +2,16 @@
 ghost use Rattle.std.specs.Prelude.{◌≡◌, ◌<◌, ◌≤◌, ◌&&◌, length, drop, Some, None, OnOk, IfOk, IfSome, MatchOption};
 ghost use Rattle.std.specs.Char.{is_ascii_hexdigit};
 ghost use Rattle.std.specs.List.{list_all, prefix_len};
-ghost use Rattle.lalrpop_grammar.specs.Escape.{character, assertion, sign, is_mark, is_set_name_char, code, property, edge};
-ghost use Rattle.lalrpop_grammar.specs.Internal.Reading.{hex, digits_of, name_of, signed, escape};
+ghost use Rattle.lalrpop_re.specs.Escape.{character, assertion, sign, is_mark, is_set_name_char, code, property, edge};
+ghost use Rattle.lalrpop_re.specs.Internal.Reading.{hex, digits_of, name_of, signed, escape};
 ghost use Rattle.lalrpop_re.specs.Internal.Signs.{HasDigits, perl_set, sign_view};
 ghost use Rattle.lalrpop_re.specs.Internal.Views.{text, unread, Gives, Finds, StandsForEscaped};
-ghost use Rattle.lalrpop_grammar.specs.CharacterSet.{HasRuns};
+ghost use Rattle.lalrpop_re.specs.CharacterSet.{HasRuns};
 
 use crate::cursor::{Cursor, error_at};
 use crate::number::number_of;
-use lalrpop_grammar::{RegexError, SyntaxKind, named_set};
+use crate::error::{RegexError, SyntaxKind};
+use crate::named::named_set;
 use lalrpop_hir::{ClassUnicode, Look};
 use std::alloc::{AllocError, Global};
 
@@ -69,7 +70,7 @@ pub(crate) fn parse_escape(cursor: &mut Cursor) -> Result<EscapedPart, RegexErro
 }
 
 // Reads what follows the first character of an escape, whose sign is `sign`.
-#[tactic(auto, unfolding(lalrpop_grammar::specs::Internal::Reading::signed))]
+#[tactic(auto, unfolding(crate::specs::Internal::Reading::signed))]
 fn parse_signed(cursor: &mut Cursor, sign: EscapeSign) -> Result<EscapedPart, RegexError>
     requires { HasDigits sign }
     ensures value { Finds (λ e x. StandsForEscaped e x.0
@@ -95,7 +96,7 @@ fn parse_signed(cursor: &mut Cursor, sign: EscapeSign) -> Result<EscapedPart, Re
 }
 
 // What a character after a backslash says of the escape.
-#[tactic(auto, unfolding(lalrpop_grammar::specs::Escape::sign))]
+#[tactic(auto, unfolding(crate::specs::Escape::sign))]
 fn sign_of(c: char) -> EscapeSign
     ensures value { sign_view result ≡ sign c }
     ensures digits { HasDigits result }
@@ -143,14 +144,14 @@ fn perl_class(alloc: Global, class: PerlClass) -> Result<ClassUnicode, AllocErro
     ensures { IfOk result (λ r. HasRuns r (perl_set class)) }
 {
     match class {
-        PerlClass::Digits => lalrpop_grammar::digits(alloc),
-        PerlClass::Spaces => lalrpop_grammar::spaces(alloc),
-        PerlClass::Words => lalrpop_grammar::words(alloc),
+        PerlClass::Digits => crate::named::digits(alloc),
+        PerlClass::Spaces => crate::named::spaces(alloc),
+        PerlClass::Words => crate::named::words(alloc),
     }
 }
 
 // Reads the digits of a code: `count` digits, or any number in braces.
-#[tactic(auto, unfolding(lalrpop_grammar::specs::Internal::Reading::signed))]
+#[tactic(auto, unfolding(crate::specs::Internal::Reading::signed))]
 fn parse_code(cursor: &mut Cursor, count: usize) -> Result<char, RegexError>
     requires { 0 < count }
     ensures value { Gives (λ c.
@@ -179,7 +180,7 @@ fn argument_kind(cursor: &Cursor, kind: SyntaxKind) -> SyntaxKind {
 }
 
 // The digits of a code at the front of the text, if there are that many, or one or more in braces.
-#[tactic(auto, unfolding(lalrpop_grammar::specs::Internal::Reading::digits_of))]
+#[tactic(auto, unfolding(crate::specs::Internal::Reading::digits_of))]
 fn digits_at(text: &[char], count: usize) -> Option<Argument<'_>>
     requires { 0 < count }
     ensures value { MatchOption result (digits_of count text.now ≡ None) (λ d.
@@ -205,7 +206,7 @@ fn digits_at(text: &[char], count: usize) -> Option<Argument<'_>>
 }
 
 // The character of a code.
-#[tactic(auto, unfolding(lalrpop_grammar::specs::Internal::Reading::hex))]
+#[tactic(auto, unfolding(crate::specs::Internal::Reading::hex))]
 fn character_of(digits: &[char]) -> Option<char>
     ensures { result ≡ hex digits.now }
 {
@@ -213,7 +214,7 @@ fn character_of(digits: &[char]) -> Option<char>
 }
 
 // Reads the name of a set: a single character, or any number in braces.
-#[tactic(auto, unfolding(lalrpop_grammar::specs::Internal::Reading::signed, lalrpop_grammar::specs::Internal::Reading::set_named))]
+#[tactic(auto, unfolding(crate::specs::Internal::Reading::signed, crate::specs::Internal::Reading::set_named))]
 fn parse_property(cursor: &mut Cursor, negated: bool) -> Result<EscapedPart, RegexError>
     ensures value { Finds (λ e x. StandsForEscaped e x.0
         × (text cursor.new ≡ x.1)) result (signed (property negated) (text cursor.old)) }
@@ -235,7 +236,7 @@ fn parse_property(cursor: &mut Cursor, negated: bool) -> Result<EscapedPart, Reg
 }
 
 // The name of a set at the front of the text.
-#[tactic(auto, unfolding(lalrpop_grammar::specs::Internal::Reading::name_of))]
+#[tactic(auto, unfolding(crate::specs::Internal::Reading::name_of))]
 fn name_at(text: &[char]) -> Option<Argument<'_>>
     ensures value { MatchOption result (name_of text.now ≡ None) (λ n.
         name_of text.now ≡ Some (n.inner.now, drop n.width text.now)) }
@@ -270,7 +271,7 @@ fn is_set_name_char(c: char) -> bool
 }
 
 // Reads the braces that may follow `\b`.
-#[tactic(auto, unfolding(lalrpop_grammar::specs::Internal::Reading::signed))]
+#[tactic(auto, unfolding(crate::specs::Internal::Reading::signed))]
 fn parse_edge(cursor: &mut Cursor) -> Look
     ensures value { signed edge (text cursor.old) ≡ Some (assertion result, text cursor.new) }
     ensures flags { cursor.new.flags ≡ cursor.old.flags }
@@ -281,7 +282,7 @@ fn parse_edge(cursor: &mut Cursor) -> Look
     look
 }
 
-#[tactic(auto, unfolding(lalrpop_grammar::specs::Internal::Reading::signed))]
+#[tactic(auto, unfolding(crate::specs::Internal::Reading::signed))]
 fn edge_at(cursor: &Cursor) -> (Look, usize)
     ensures value { signed edge (text cursor.now)
         ≡ Some (assertion result.0, drop result.1 (text cursor.now)) }

@@ -1,15 +1,16 @@
 //! What follows the `(` of a group or of a flag directive.
 ghost use Rattle.std.specs.Prelude.{◌≡◌, ◌≤◌, ◌==◌, ℕ, not, drop, OnOk, IfOk, string_bytes, encode_utf8_all};
 ghost use Rattle.std.specs.List.{list_any, list_all};
-ghost use Rattle.lalrpop_grammar.specs.Flag.{with_flag, with_flags, is_distinct};
-ghost use Rattle.lalrpop_grammar.specs.GroupName.{begins_name, continues_name, is_name};
-ghost use Rattle.lalrpop_grammar.specs.Text.{Text};
-ghost use Rattle.lalrpop_grammar.specs.Internal.Reading.{span, flags_of, name_at, letters_at, opened, opened_of};
+ghost use Rattle.lalrpop_re.specs.Flag.{with_flag, with_flags, is_distinct};
+ghost use Rattle.lalrpop_re.specs.GroupName.{begins_name, continues_name, is_name};
+ghost use Rattle.lalrpop_re.specs.Text.{Text};
+ghost use Rattle.lalrpop_re.specs.Internal.Reading.{span, flags_of, name_at, letters_at, opened, opened_of};
 ghost use Rattle.lalrpop_re.specs.Internal.Views.{text, unread, Gives, opened_view};
 ghost use Rattle.unicode.specs.GeneralCategory.{general_category};
 
 use crate::cursor::{Cursor, error_at};
-use lalrpop_grammar::{Flags, RegexError, SyntaxKind};
+use crate::error::{RegexError, SyntaxKind};
+use crate::flags::Flags;
 use std::alloc::{AllocError, Global};
 use unicode::properties::{GeneralCategory, GeneralCategoryGroup, is_alphabetic};
 
@@ -33,7 +34,7 @@ pub(crate) enum GroupOpening {
 }
 
 /// Reads what follows a `(`, up to the expression of the group or the end of the directive.
-#[tactic(auto, unfolding(lalrpop_grammar::specs::Internal::Reading::opened, lalrpop_grammar::specs::Internal::Reading::opening))]
+#[tactic(auto, unfolding(crate::specs::Internal::Reading::opened, crate::specs::Internal::Reading::opening))]
 pub(crate) fn parse_opening(cursor: &mut Cursor) -> Result<GroupOpening, RegexError>
     ensures value { Gives (λ o.
         (opened_view o, text cursor.new)) result (opened cursor.old.flags (text cursor.old)) }
@@ -76,7 +77,7 @@ pub(crate) fn split_before<'a>(text: &'a [char], marks: &[char]) -> (&'a [char],
 }
 
 // Reads the name of a group and the `>` after it. A refusal is of this kind and points at the `(`.
-#[tactic(auto, unfolding(lalrpop_grammar::specs::Internal::Reading::name_at))]
+#[tactic(auto, unfolding(crate::specs::Internal::Reading::name_at))]
 fn parse_name(
     cursor: &mut Cursor,
     open: usize,
@@ -131,7 +132,7 @@ fn continues_name(c: char) -> bool
 }
 
 // Reads the flags of a group and the `:` after them, or those of a directive and its `)`.
-#[tactic(auto, unfolding(lalrpop_grammar::specs::Internal::Reading::letters_at))]
+#[tactic(auto, unfolding(crate::specs::Internal::Reading::letters_at))]
 fn parse_letters(cursor: &mut Cursor, open: usize) -> Result<GroupOpening, RegexError>
     ensures value { (t : Text)
         → Gives (λ o.

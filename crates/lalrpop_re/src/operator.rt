@@ -4,15 +4,15 @@ ghost use Rattle.std.specs.Char.{is_ascii_digit};
 ghost use Rattle.std.specs.List.{list_all, prefix_len};
 ghost use Rattle.unicode.specs.Binary.{is_white_space};
 ghost use Rattle.lalrpop_hir.specs.Counts.{AreOrdered};
-ghost use Rattle.lalrpop_grammar.specs.Operator.{decimal};
-ghost use Rattle.lalrpop_grammar.specs.Internal.Reading.{span, count, braces, bounds, operator, is_at_operator};
+ghost use Rattle.lalrpop_re.specs.Operator.{decimal};
+ghost use Rattle.lalrpop_re.specs.Internal.Reading.{span, count, braces, bounds, operator, is_at_operator};
 ghost use Rattle.lalrpop_re.specs.Internal.Views.{text, unread, Gives};
 
 use crate::cursor::{Cursor, error_at};
 use crate::number::number_of;
 use crate::opening::after_first;
 use crate::part::{Part, is_name_in_braces, part_after};
-use lalrpop_grammar::{RegexError, SyntaxKind};
+use crate::error::{RegexError, SyntaxKind};
 use unicode::properties::is_white_space;
 
 /// How often a piece is repeated, and whether more repetitions are preferred.
@@ -66,7 +66,7 @@ pub(crate) fn is_at_unknown(cursor: &Cursor) -> bool {
 }
 
 // Reads an operator and the `?` that belongs to it.
-#[tactic(auto, unfolding(lalrpop_grammar::specs::Internal::Reading::operator))]
+#[tactic(auto, unfolding(crate::specs::Internal::Reading::operator))]
 fn parse_operator(cursor: &mut Cursor) -> Result<RepetitionOperator, RegexError>
     ensures value { Gives (λ o.
         (o.min, o.max, o.greedy, text cursor.new)) result
@@ -89,7 +89,7 @@ fn parse_operator(cursor: &mut Cursor) -> Result<RepetitionOperator, RegexError>
 }
 
 // Reads an operator without the `?` that may follow.
-#[tactic(auto, unfolding(lalrpop_grammar::specs::Internal::Reading::bounds))]
+#[tactic(auto, unfolding(crate::specs::Internal::Reading::bounds))]
 fn parse_bounds(cursor: &mut Cursor) -> Result<Bounds, RegexError>
     ensures value { Gives (λ b. (b.min, b.max, text cursor.new)) result (bounds (text cursor.old)) }
     ensures ordered { IfOk result (λ b. AreOrdered b.min b.max) }
@@ -114,7 +114,7 @@ fn parse_bounds(cursor: &mut Cursor) -> Result<Bounds, RegexError>
 }
 
 // Reads what follows a `{`, and the `}`.
-#[tactic(auto, unfolding(lalrpop_grammar::specs::Internal::Reading::braces))]
+#[tactic(auto, unfolding(crate::specs::Internal::Reading::braces))]
 fn parse_braces(cursor: &mut Cursor) -> Result<Bounds, RegexError>
     ensures value { Gives (λ b. (b.min, b.max, text cursor.new)) result (braces (text cursor.old)) }
     ensures ordered { IfOk result (λ b. AreOrdered b.min b.max) }
@@ -146,7 +146,7 @@ fn parse_braces(cursor: &mut Cursor) -> Result<Bounds, RegexError>
 }
 
 // Reads a number with white space around it.
-#[tactic(auto, unfolding(lalrpop_grammar::specs::Internal::Reading::count))]
+#[tactic(auto, unfolding(crate::specs::Internal::Reading::count))]
 fn parse_count(cursor: &mut Cursor) -> Result<u32, RegexError>
     ensures value { Gives (λ n. (n, text cursor.new)) result (count (text cursor.old)) }
     ensures flags { cursor.new.flags ≡ cursor.old.flags }

@@ -2,14 +2,14 @@
 ghost use Rattle.std.specs.Prelude.{◌≡◌, ◌+◌, ◌-◌, ◌^◌, ◌<◌, ◌≤◌, suc, max, drop, Bool, true, false, List, [], ◌∷◌, ◌++◌, length, option_map, Some, None, string_bytes, IfSome, IfOk, IfErr, OnOk, IsTrue, if◌then◌else◌};
 ghost use Rattle.std.specs.Str.{chars, IsCharBoundary};
 ghost use Rattle.lalrpop_hir.specs.Counts.{AreOrdered};
-ghost use Rattle.lalrpop_book.specs.Tree.{Tree, repetition, capture};
-ghost use Rattle.lalrpop_grammar.specs.Text.{begins};
-ghost use Rattle.lalrpop_grammar.specs.Pattern.{Pattern, PatternWith, most_levels, is_special, escaped_tree, ends_branch, branch, choice};
-ghost use Rattle.lalrpop_grammar.specs.Escape.{Escaped};
-ghost use Rattle.lalrpop_grammar.specs.Flag.{no_flags, has_flag};
-ghost use Rattle.lalrpop_grammar.specs.GroupName.{names, are_distinct};
+ghost use Rattle.lalrpop_hir.specs.Tree.{Tree, repetition, capture};
+ghost use Rattle.lalrpop_re.specs.Text.{begins};
+ghost use Rattle.lalrpop_re.specs.Pattern.{Pattern, PatternWith, most_levels, is_special, escaped_tree, ends_branch, branch, choice};
+ghost use Rattle.lalrpop_re.specs.Escape.{Escaped};
+ghost use Rattle.lalrpop_re.specs.Flag.{no_flags, has_flag};
+ghost use Rattle.lalrpop_re.specs.GroupName.{names, are_distinct};
 ghost use Rattle.lalrpop_re.specs.Refusal.{HasNoTree, HasNoTreeWith, PointsInto};
-ghost use Rattle.lalrpop_grammar.specs.Internal.Reading.{is_at_operator, all_operators, atom, piece, enclosed, whole_row, all_branches, begin, inside};
+ghost use Rattle.lalrpop_re.specs.Internal.Reading.{is_at_operator, all_operators, atom, piece, enclosed, whole_row, all_branches, begin, inside};
 ghost use Rattle.lalrpop_re.specs.Internal.Views.{text, unread, Gives, PointsAtRepeated, StandsForEscaped, HasLevels};
 ghost use Rattle.lalrpop_re.specs.Internal.Parts.{group_or_directive, step, escaped_part, bracket_part, part_in_braces, read_levels, part, line, whole, step_of};
 
@@ -19,10 +19,10 @@ use crate::escape_sequence::{EscapedPart, parse_escape};
 use crate::opening::{GroupOpening, after_first, parse_opening};
 use crate::operator::{RepetitionOperator, is_at_operator, is_at_unknown, parse_operator_at};
 use crate::part::{Part, part_after};
-use lalrpop_grammar::{
-    Flags, RegexError, SyntaxKind, leaf_of_set, repeated_name, tree_of_character, tree_of_class,
-    tree_of_dot,
-};
+use crate::error::{RegexError, SyntaxKind};
+use crate::flags::Flags;
+use crate::names::repeated_name;
+use crate::sets::{leaf_of_set, tree_of_character, tree_of_class, tree_of_dot};
 use lalrpop_hir::{Capture, Hir, Look, Regex, Repetition};
 use std::alloc::{AllocError, Global};
 
@@ -189,7 +189,7 @@ fn parse_at_top(cursor: &mut Cursor, parts: &[Part]) -> Result<Nested, RegexErro
 
 // Reads an expression, with `levels_left` levels left.
 #[cycle(parser)]
-#[tactic(auto, unfolding(lalrpop_grammar::specs::Internal::Reading::inside, lalrpop_grammar::specs::Internal::Reading::expression_with))]
+#[tactic(auto, unfolding(crate::specs::Internal::Reading::inside, crate::specs::Internal::Reading::expression_with))]
 fn parse_expression(
     cursor: &mut Cursor,
     levels_left: u32,
@@ -319,7 +319,7 @@ fn parse_parenthesis(
 
 // Reads the expression of a group under the flags, and its `)`. The group began at `start`.
 #[cycle(parser)]
-#[tactic(auto, unfolding(lalrpop_grammar::specs::Internal::Reading::enclosed))]
+#[tactic(auto, unfolding(crate::specs::Internal::Reading::enclosed))]
 fn parse_enclosed(
     cursor: &mut Cursor,
     levels_left: u32,
@@ -374,7 +374,7 @@ fn captured(alloc: Global, name: Option<String>, group: Nested) -> Result<Nested
 }
 
 // Reads an atom that is not a group, and its operators.
-#[tactic(auto, unfolding(lalrpop_grammar::specs::Internal::Reading::piece))]
+#[tactic(auto, unfolding(crate::specs::Internal::Reading::piece))]
 fn parse_piece(cursor: &mut Cursor, levels_left: u32, parts: &[Part]) -> Result<Nested, RegexError>
     requires { begins "(" (text cursor.old) ≡ false }
     ensures value { Gives (λ p.
@@ -389,7 +389,7 @@ fn parse_piece(cursor: &mut Cursor, levels_left: u32, parts: &[Part]) -> Result<
 }
 
 // Reads an atom that is not a group.
-#[tactic(auto, unfolding(lalrpop_grammar::specs::Internal::Reading::atom, crate::specs::Internal::Parts::escaped_part, crate::specs::Internal::Parts::bracket_part, crate::specs::Internal::Parts::part_in_braces))]
+#[tactic(auto, unfolding(crate::specs::Internal::Reading::atom, crate::specs::Internal::Parts::escaped_part, crate::specs::Internal::Parts::bracket_part, crate::specs::Internal::Parts::part_in_braces))]
 fn parse_atom(cursor: &mut Cursor, levels_left: u32, parts: &[Part]) -> Result<Nested, RegexError>
     requires { begins "(" (text cursor.old) ≡ false }
     ensures value { Gives (λ p.

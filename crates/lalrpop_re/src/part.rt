@@ -2,15 +2,16 @@
 ghost use Rattle.std.specs.Prelude.{◌≡◌, ◌≤◌, ◌==◌, ◌&&◌, length, drop, option_map, Option, IfSome, IfOk, IfErr, chars};
 ghost use Rattle.std.specs.List.{list_all};
 ghost use Rattle.std.specs.Char.{is_ascii_alphabetic, is_ascii_alphanumeric};
-ghost use Rattle.lalrpop_grammar.specs.NamedPart.{NamedPart, begins_part, continues_part, is_part_name, part_named};
-ghost use Rattle.lalrpop_grammar.specs.Pattern.{IsPart};
-ghost use Rattle.lalrpop_grammar.specs.Internal.Reading.{part_after};
+ghost use Rattle.lalrpop_re.specs.NamedPart.{NamedPart, begins_part, continues_part, is_part_name, part_named};
+ghost use Rattle.lalrpop_re.specs.Pattern.{IsPart};
+ghost use Rattle.lalrpop_re.specs.Internal.Reading.{part_after};
 ghost use Rattle.lalrpop_re.specs.Refusal.{MakesNoPart, PointsInto};
 
 use crate::cursor::error_at;
 use crate::opening::split_before;
 use crate::parser::{Nested, parse_in_bytes};
-use lalrpop_grammar::{RegexError, SyntaxKind, count_names};
+use crate::error::{RegexError, SyntaxKind};
+use crate::names::count_names;
 use lalrpop_hir::Regex;
 use std::alloc::{AllocError, Global};
 use std::marker::Model;
@@ -35,7 +36,7 @@ pub struct Part {
 }
 
 impl Model for Part {
-    ghost use Rattle.lalrpop_grammar.specs.NamedPart.{NamedPart};
+    ghost use Rattle.lalrpop_re.specs.NamedPart.{NamedPart};
     ghost use Rattle.lalrpop_re.specs.Internal.Code.{part_code};
 
     ghost Value = { NamedPart };
@@ -144,7 +145,7 @@ pub(crate) fn is_name_in_braces(text: &[char]) -> bool {
 }
 
 /// The part whose name and `}` stand at the front, and the number of their characters.
-#[tactic(auto, unfolding(lalrpop_grammar::specs::Internal::Reading::part_after))]
+#[tactic(auto, unfolding(crate::specs::Internal::Reading::part_after))]
 pub(crate) fn part_after<'a>(parts: &'a [Part], text: &[char]) -> Option<(&'a Part, usize)>
     ensures value { option_map (λ x. (x.0.now, drop x.1 text.now)) result
         ≡ part_after parts.now text.now }

@@ -1,7 +1,7 @@
 //! Texts with escapes, as patterns have them.
 ghost use Rattle.std.specs.Prelude.{◌≡◌, ◌↔◌, ◌<◌, ◌≤◌, ℕ, List, IfOk, IfErr, OnOk, string_bytes};
 ghost use Rattle.std.specs.Str.{chars};
-ghost use Rattle.lalrpop_grammar.specs.Unescaped.{Unescapes};
+ghost use Rattle.lalrpop_re.specs.Unescaped.{Unescapes};
 ghost use Rattle.lalrpop_re.specs.Refusal.{SaysNoText, PointsInto};
 ghost use Rattle.lalrpop_re.specs.Internal.Views.{text, unread, Gives};
 ghost use Rattle.lalrpop_re.specs.Internal.Characters.{character_at};
@@ -10,7 +10,7 @@ use crate::bracket::{Primary, parse_primary};
 use crate::cursor::{Cursor, error_at};
 use crate::escape_sequence::EscapedPart;
 use crate::parser::byte_offset;
-use lalrpop_grammar::{RegexError, SyntaxKind};
+use crate::error::{RegexError, SyntaxKind};
 use std::alloc::Global;
 
 /// The text that `s` says: each escape stands for its character, as `\n`, `\\`, `\"`, `\x41` and `\u{41}` do in a pattern,

@@ -4,7 +4,7 @@ use Rattle.std.specs.Prelude.{Option, Some, None, Result, IfOk, IfSome, IfNone, 
 use Rattle.std.specs.Option.{IsSomeAnd}
 use Rattle.std.proofs.lemmas.Option.{IfSome_then}
 use Rattle.std.proofs.lemmas.Result.{IfOk-weaker}
-use Rattle.lalrpop_book.specs.Tree.{Tree}
+use Rattle.lalrpop_hir.specs.Tree.{Tree}
 use Rattle.lalrpop_dfa.specs.Dfa.{Row, after, IsRightKind, RecognizesAll}
 use Rattle.lalrpop_dfa.specs.Witness.{IsLeast}
 use Rattle.lalrpop_dfa.specs.declared.Kind.{Kind}

@@ -4,10 +4,10 @@ use Rattle.std.specs.Prelude.{Option, Some, None, Vec, slice_get, Contains}
 use Rattle.std.specs.Global.{Global}
 use Rattle.std.proofs.lemmas.List.Elements.{Contains-append_left, Contains-push, Contains-push_cases}
 use Rattle.std.proofs.lemmas.Option.{get_or_from_slice_get, slice_get_within}
-use Rattle.lalrpop_book.specs.Language.{Matches, Words}
-use Rattle.lalrpop_book.specs.Tree.{Tree}
-use Rattle.lalrpop_book.proofs.Contained.{contains_none}
-use Rattle.lalrpop_book.proofs.Pushed.{pushed_cases}
+use Rattle.lalrpop_hir.specs.Language.{Matches, Words}
+use Rattle.lalrpop_hir.specs.Tree.{Tree}
+use Rattle.lalrpop_hir.proofs.Contained.{contains_none}
+use Rattle.lalrpop_hir.proofs.Pushed.{pushed_cases}
 use Rattle.lalrpop_modes.specs.Modes.{ModeRules, Belongs, trees_in}
 use Rattle.lalrpop_verdicts.specs.WonWord.{WonWord}
 use Rattle.lalrpop_verdicts.specs.Verdicts.{AreWinners, IsVerdict, IsWonBy, words_of}

@@ -7,8 +7,8 @@ use Rattle.std.proofs.lemmas.Bool.{false≢true}
 use Rattle.std.proofs.lemmas.Bool.Decides.{Decides-eqb}
 use Rattle.std.proofs.lemmas.List.Folds.{list_any-append}
 use Rattle.std.proofs.lemmas.Option.{same_Some, slice_get-map}
-use Rattle.lalrpop_book.specs.Tree.{Tree}
-use Rattle.lalrpop_book.proofs.Contained.{contains_cases, contains_later, contains_none}
+use Rattle.lalrpop_hir.specs.Tree.{Tree}
+use Rattle.lalrpop_hir.proofs.Contained.{contains_cases, contains_later, contains_none}
 use Rattle.lalrpop_rules.specs.Kinds.{is_kind, trees_of_kind, one_tree, gathered, merged_behind}
 use Rattle.lalrpop_modes.specs.Modes.{ModeRules, Belongs, kinds_of, mode_rules, trees_in}
 use Rattle.lalrpop_review.specs.Internal.Kinds.{IsMember}

@@ -3,8 +3,8 @@ use Rattle.std.proofs.Common.{◌≡◌, ℕ, ◌+◌, ◌<◌, ◌≤◌, ◌�
 use Rattle.std.specs.Prelude.{Some, slice_get, Contains}
 use Rattle.std.proofs.lemmas.List.Elements.{Contains-append_left, Contains-push, Contains-push_cases}
 use Rattle.std.proofs.lemmas.Option.{get_or_from_slice_get, slice_get_within}
-use Rattle.lalrpop_book.proofs.Contained.{contains_none}
-use Rattle.lalrpop_book.proofs.Pushed.{pushed_cases}
+use Rattle.lalrpop_hir.proofs.Contained.{contains_none}
+use Rattle.lalrpop_hir.proofs.Pushed.{pushed_cases}
 use Rattle.lalrpop_review.specs.Review.{AreThose}
 
 pub no_numbers : (P : ℕ → Type 0) → AreThose 0 P []

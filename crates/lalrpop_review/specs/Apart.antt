@@ -1,7 +1,7 @@
 -- cases: proofs/Cases/Apart.antt
 -- Where two lists of rules with modes make different tokens of a text.
 use Rattle.std.specs.Prelude.{◌≢◌, ℕ, Bool, false, List, [], slice_get, unwrap_or, Option, Some, None}
-use Rattle.lalrpop_book.specs.Winners.{Matched, IsOnlyStrongest}
+use Rattle.lalrpop_hir.specs.Winners.{Matched, IsOnlyStrongest}
 use Rattle.lalrpop_modes.specs.Modes.{ModeRules, trees_in}
 use Rattle.lalrpop_modes.specs.Stack.{actions_of}
 use Rattle.lalrpop_modes.specs.declared.action.Action.{Action}

@@ -1,8 +1,8 @@
 -- cases: proofs/Cases/Review.antt
 -- What is to say of rules with modes.
 use Rattle.std.specs.Prelude.{◌≡◌, ℕ, ◌<◌, ◌↔◌, List, [], length, slice_get, Option, Some, None, Contains}
-use Rattle.lalrpop_book.specs.Tree.{Tree}
-use Rattle.lalrpop_book.specs.Winners.{Matched, TreeMatches, IsOnlyStrongest}
+use Rattle.lalrpop_hir.specs.Tree.{Tree}
+use Rattle.lalrpop_hir.specs.Winners.{Matched, TreeMatches, IsOnlyStrongest}
 use Rattle.lalrpop_dfa.specs.Dfa.{Row}
 use Rattle.lalrpop_dfa.specs.Lookahead.{IsLookahead, StaysOpenEver}
 use Rattle.lalrpop_dfa.specs.Witness.{OpenMatch, IsOpenMatch, IsWitness}

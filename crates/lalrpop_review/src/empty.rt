@@ -1,6 +1,6 @@
 //! The rules that match the empty text.
 ghost use Rattle.std.specs.Prelude.{[], length, IfOk};
-ghost use Rattle.lalrpop_book.specs.Winners.{TreeMatches};
+ghost use Rattle.lalrpop_hir.specs.Winners.{TreeMatches};
 ghost use Rattle.lalrpop_review.specs.Review.{AreThose};
 
 use lalrpop_lexer::lexer::dfa::NfaIndex;

@@ -1,6 +1,6 @@
 //! The rules of a mode that never win there.
 ghost use Rattle.std.specs.Prelude.{◌≡◌, ◌<◌, ◌↔◌, ℕ, List, Option, Some, length, slice_get, IfOk, IfSome, IsSomeAnd, IsTrue};
-ghost use Rattle.lalrpop_book.specs.Tree.{Tree};
+ghost use Rattle.lalrpop_hir.specs.Tree.{Tree};
 ghost use Rattle.lalrpop_modes.specs.Modes.{Belongs, ModeRules, trees_in};
 ghost use Rattle.lalrpop_verdicts.specs.Verdicts.{IsVerdict, words_of};
 ghost use Rattle.lalrpop_verdicts.specs.declared.verdict.Verdict.{Verdict as VerdictValue};

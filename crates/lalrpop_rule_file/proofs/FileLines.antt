@@ -8,7 +8,7 @@ use Rattle.lalrpop_lexer.specs.declared.position.Position.{Position}
 use Rattle.lalrpop_rule_file.specs.RuleLine.{Section, WrittenPart, WrittenRule}
 use Rattle.lalrpop_rule_file.specs.FileModes.{Said, Nothing, Heading, Define, Rule, AllLeadWithin, AreModes, firsts, initial, modes_of, named_below, named_by, or_initial}
 use Rattle.lalrpop_rule_file.specs.FileParts.{parts_above, parts_in}
-use Rattle.lalrpop_grammar.specs.NamedPart.{NamedPart}
+use Rattle.lalrpop_re.specs.NamedPart.{NamedPart}
 use Rattle.lalrpop_rule_file.specs.RuleFile.{AreFileParts, without_return, LineSays, LinesSay, AreRules, AreRulesBelow, ArePlaces, ArePlacesFrom, IsFileRule, IsFirstBad, IsFirstNoMode, IsNoMode, IsRuleFileError, IsTextColumn}
 use Rattle.lalrpop_rule_file.specs.Internal.Lines.{AllIn, HasModes, IsErrorOfLine, IsErrorOfRule, add_names, named_at, section_after}
 use Rattle.lalrpop_rule_file.specs.declared.file_rule.FileRule.{FileRule}

@@ -2,8 +2,8 @@
 -- The parts of a file of rules, by what its lines say.
 use Rattle.std.specs.Prelude.{◌≡◌, ℕ, ◌+◌, List, [], ◌∷◌, ◌++◌, length, map, chars, Contains}
 use Rattle.std.specs.Str.{IsCharBoundary}
-use Rattle.lalrpop_grammar.specs.NamedPart.{NamedPart}
-use Rattle.lalrpop_grammar.specs.Pattern.{IsPart}
+use Rattle.lalrpop_re.specs.NamedPart.{NamedPart}
+use Rattle.lalrpop_re.specs.Pattern.{IsPart}
 use Rattle.lalrpop_lexer.specs.Position.{position_of}
 use Rattle.lalrpop_rule_file.specs.Words.{IsSpan, is_blank, is_of_name}
 use Rattle.lalrpop_rule_file.specs.LineText.{Pattern, Quoted, BeginsText}

@@ -13,8 +13,8 @@ use Rattle.lalrpop_rule_file.specs.RuleFault.{StopsBefore}
 use Rattle.lalrpop_rule_file.specs.FileModes.{Said, Nothing, Heading, Define, Rule, AreActions, AreModes, AllLeadWithin, initial, modes_of}
 use Rattle.lalrpop_rule_file.specs.FileParts.{AreParts, IsNameColumn, IsPatternColumn, parts_above, parts_in}
 use Rattle.lalrpop_modes.specs.Modes.{OneLeadsInto}
-use Rattle.lalrpop_grammar.specs.NamedPart.{NamedPart}
-use Rattle.lalrpop_grammar.specs.Pattern.{IsPart}
+use Rattle.lalrpop_re.specs.NamedPart.{NamedPart}
+use Rattle.lalrpop_re.specs.Pattern.{IsPart}
 use Rattle.lalrpop_modes.specs.declared.mode_rule.ModeRule.{ModeRule}
 use Rattle.lalrpop_rules.specs.RuleText.{IsPatternWith}
 use Rattle.lalrpop_rules.specs.declared.rule_text.RuleText.{RuleText}

@@ -1,7 +1,7 @@
 //! The parts of a file all of whose lines say something.
 ghost use Rattle.std.specs.Prelude.{◌≡◌, ◌≤◌, ◌+◌, ◌-◌, ◌++◌, ℕ, List, [], ◌∷◌, length, drop, chars, Contains, IfOk, IfErr, IfSome, IfNone, OnOk};
 ghost use Rattle.std.specs.Str.{IsCharBoundary};
-ghost use Rattle.lalrpop_grammar.specs.Pattern.{IsPart};
+ghost use Rattle.lalrpop_re.specs.Pattern.{IsPart};
 ghost use Rattle.lalrpop_lexer.specs.Lines.{lines};
 ghost use Rattle.lalrpop_rule_file.specs.FileModes.{Said as SaidValue};
 ghost use Rattle.lalrpop_rule_file.specs.FileParts.{IsNameColumn, IsPatternColumn, parts_in};

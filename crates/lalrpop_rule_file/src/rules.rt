@@ -1,6 +1,6 @@
 //! The rules of a file whose modes are known.
 ghost use Rattle.std.specs.Prelude.{◌≡◌, ◌++◌, ℕ, List, [], map, IfOk, IfErr, OnOk};
-ghost use Rattle.lalrpop_grammar.specs.NamedPart.{NamedPart};
+ghost use Rattle.lalrpop_re.specs.NamedPart.{NamedPart};
 ghost use Rattle.lalrpop_lexer.specs.Lines.{lines};
 ghost use Rattle.lalrpop_rule_file.specs.FileModes.{AllLeadWithin, AreActions, AreModes};
 ghost use Rattle.lalrpop_rule_file.specs.RuleLine.{Section as SectionValue};

@@ -3,12 +3,12 @@ use Rattle.std.proofs.Common.{◌≡◌, ℕ, ◌<◌, Bool, List, length, sym, 
 use Rattle.std.specs.Prelude.{Some, Result, Ok, slice_get, slice_index}
 use Rattle.std.specs.Str.{chars}
 use Rattle.std.proofs.lemmas.Option.{slice_get_within}
-use Rattle.lalrpop_book.specs.Tree.{Tree}
-use Rattle.lalrpop_book.specs.Winners.{TreeMatches}
-use Rattle.lalrpop_book.specs.Tokens.{IsToken, AreTokens}
-use Rattle.lalrpop_book.specs.declared.token.Token.{Token as Cut}
-use Rattle.lalrpop_book.specs.declared.token.TokenFault.{TokenFault}
-use Rattle.lalrpop_book.proofs.Chains.{chain_at}
+use Rattle.lalrpop_hir.specs.Tree.{Tree}
+use Rattle.lalrpop_hir.specs.Winners.{TreeMatches}
+use Rattle.lalrpop_hir.specs.Tokens.{IsToken, AreTokens}
+use Rattle.lalrpop_hir.specs.declared.token.Token.{Token as Cut}
+use Rattle.lalrpop_hir.specs.declared.token.TokenFault.{TokenFault}
+use Rattle.lalrpop_hir.proofs.Chains.{chain_at}
 use Rattle.lalrpop_rules.specs.Pieces.{IsPiece, ArePieces, start_of}
 use Rattle.lalrpop_rules.specs.declared.item.Item.{Item}
 use Rattle.lalrpop_rules.specs.declared.item.Item.TheVariants.{Token, Skipped, Fault}

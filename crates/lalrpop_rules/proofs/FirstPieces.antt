@@ -2,10 +2,10 @@
 use Rattle.std.proofs.Common.{◌≡◌, ℕ, ◌+◌, ◌<◌, ◌⊎◌, Bool, inl, inr, List, [], ◌∷◌, length, arith, refl, sym, ap, subst, length-drop}
 use Rattle.std.specs.Prelude.{Option, Some, None, IfSome, IfNone, IsSomeAnd, MatchOption}
 use Rattle.std.proofs.lemmas.Bool.{cases_lt, cases_order}
-use Rattle.lalrpop_book.specs.Tree.{Tree}
-use Rattle.lalrpop_book.specs.Tokens.{IsToken}
+use Rattle.lalrpop_hir.specs.Tree.{Tree}
+use Rattle.lalrpop_hir.specs.Tokens.{IsToken}
 use Rattle.lalrpop_lexer.specs.SameTokens.{IsSameToken}
-use Rattle.lalrpop_book.specs.declared.token.Token.{Token as Cut}
+use Rattle.lalrpop_hir.specs.declared.token.Token.{Token as Cut}
 use Rattle.lalrpop_lexer.proofs.UniqueTokens.{token-unique}
 use Rattle.lalrpop_rules.specs.Found.{NoMatchBefore, IsFound, NothingFound}
 use Rattle.lalrpop_rules.specs.Pieces.{ArePieces, first_token}

@@ -4,14 +4,14 @@ use Rattle.std.specs.Prelude.{Option, Some, None, slice_get}
 use Rattle.std.specs.List.{list_any}
 use Rattle.std.proofs.lemmas.List.{take_more, drop_more}
 use Rattle.std.proofs.lemmas.Option.{get_or_from_slice_get, slice_get_read, same_Some}
-use Rattle.lalrpop_book.specs.Tree.{Tree, alternation}
-use Rattle.lalrpop_book.specs.Fault.{fault, first_fault}
-use Rattle.lalrpop_book.specs.Language.{Matches, SomeMatches}
-use Rattle.lalrpop_book.specs.Winners.{TreeMatches}
+use Rattle.lalrpop_hir.specs.Tree.{Tree, alternation}
+use Rattle.lalrpop_hir.specs.Fault.{fault, first_fault}
+use Rattle.lalrpop_hir.specs.Language.{Matches, SomeMatches}
+use Rattle.lalrpop_hir.specs.Winners.{TreeMatches}
 use Rattle.std.proofs.lemmas.Bool.{false≢true}
 use Rattle.std.proofs.lemmas.List.Folds.{list_any-append}
 use Rattle.std.proofs.lemmas.Bool.Decides.{Decides-eqb}
-use Rattle.lalrpop_book.specs.Report.{NoFault}
+use Rattle.lalrpop_hir.specs.Report.{NoFault}
 use Rattle.lalrpop_hir.specs.Parts.{trees}
 use Rattle.lalrpop_rules.specs.Kinds.{IsFirstSame, is_kind, trees_of_kind, one_tree, gathered, merged_behind, merged}
 

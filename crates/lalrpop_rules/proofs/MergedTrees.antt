@@ -5,11 +5,11 @@ use Rattle.std.specs.List.{list_any}
 use Rattle.std.proofs.lemmas.Bool.{cases_order, ne_eqb}
 use Rattle.std.proofs.lemmas.Option.{slice_get_cases, slice_get_within}
 use Rattle.std.proofs.lemmas.List.{length-map}
-use Rattle.lalrpop_book.specs.Tree.{Tree}
-use Rattle.lalrpop_book.specs.Report.{NoFault, FirstFault, IsReport}
-use Rattle.lalrpop_book.specs.declared.error.DfaConstructionError.{DfaConstructionError}
-use Rattle.lalrpop_book.specs.declared.error.DfaConstructionError.TheVariants as built
-use Rattle.lalrpop_book.specs.declared.error.NfaConstructionError.{NfaConstructionError}
+use Rattle.lalrpop_hir.specs.Tree.{Tree}
+use Rattle.lalrpop_hir.specs.Report.{NoFault, FirstFault, IsReport}
+use Rattle.lalrpop_hir.specs.declared.error.DfaConstructionError.{DfaConstructionError}
+use Rattle.lalrpop_hir.specs.declared.error.DfaConstructionError.TheVariants as built
+use Rattle.lalrpop_hir.specs.declared.error.NfaConstructionError.{NfaConstructionError}
 use Rattle.lalrpop_rules.specs.Kinds.{AreKinds, AreOneKind, all_at_work, gathered, is_kind, merged_behind, one_tree, trees_of_kind}
 use Rattle.lalrpop_rules.specs.RuleSet.{AreTrees, AreMergedTrees, IsRulesError, precedences_of}
 use Rattle.lalrpop_rules.specs.RulesErrors.{of_construction}

@@ -5,11 +5,11 @@ use Rattle.std.specs.Iterator.{Yields, Drains}
 use Rattle.std.specs.Str.{chars, IsUtf8}
 use Rattle.std.proofs.lemmas.Str.{IsUtf8-drop, chars-append}
 use Rattle.std.proofs.lemmas.List.{append-nil, drop_at, drop-drop}
-use Rattle.lalrpop_book.specs.Tree.{Tree}
-use Rattle.lalrpop_book.specs.Prefix.{IsPrefix}
+use Rattle.lalrpop_hir.specs.Tree.{Tree}
+use Rattle.lalrpop_hir.specs.Prefix.{IsPrefix}
 use Rattle.lalrpop_lexer.specs.Rules.{Rules}
-use Rattle.lalrpop_book.specs.Tokens.{AreTokens}
-use Rattle.lalrpop_book.proofs.LastFaults.{tokens_to_fault}
+use Rattle.lalrpop_hir.specs.Tokens.{AreTokens}
+use Rattle.lalrpop_hir.proofs.LastFaults.{tokens_to_fault}
 use Rattle.lalrpop_rules.specs.Found.{MatchesAt}
 use Rattle.lalrpop_rules.specs.Pieces.{IsFault, IsPiece, ArePieces, AreApart, slice_of, joined, up_to_fault}
 use Rattle.lalrpop_rules.specs.CutToEnd.{CutToEnd, Memo, uncut, left_text, pieces_left, GivesPiece}

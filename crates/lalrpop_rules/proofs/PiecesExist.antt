@@ -5,14 +5,14 @@ use Rattle.std.specs.Borrow.{Bor}
 use Rattle.std.specs.Str.{chars, IsUtf8}
 use Rattle.std.proofs.lemmas.Bool.{cases_lt}
 use Rattle.std.proofs.lemmas.List.{nil_from_length}
-use Rattle.lalrpop_book.specs.Tree.{Tree}
-use Rattle.lalrpop_book.specs.Clash.{NoClash}
-use Rattle.lalrpop_book.specs.Longest.{IsLongest}
-use Rattle.lalrpop_book.specs.Tokens.{IsToken}
-use Rattle.lalrpop_book.specs.declared.token.Token.{Token as Cut}
+use Rattle.lalrpop_hir.specs.Tree.{Tree}
+use Rattle.lalrpop_hir.specs.Clash.{NoClash}
+use Rattle.lalrpop_hir.specs.Longest.{IsLongest}
+use Rattle.lalrpop_hir.specs.Tokens.{IsToken}
+use Rattle.lalrpop_hir.specs.declared.token.Token.{Token as Cut}
 use Rattle.lalrpop_lexer.proofs.Decided.{longest-exists}
 use Rattle.lalrpop_lexer.proofs.UniqueTokens.{less_left}
-use Rattle.lalrpop_book.proofs.Strongest.{IsOnlyStrongest-from_greatest}
+use Rattle.lalrpop_hir.proofs.Strongest.{IsOnlyStrongest-from_greatest}
 use Rattle.lalrpop_rules.specs.Found.{MatchesAt, NoMatchBefore, NothingFound}
 use Rattle.lalrpop_rules.specs.Pieces.{IsPiece, ArePieces, slice_of}
 use Rattle.lalrpop_rules.specs.declared.item.Item.{Item}

@@ -5,11 +5,11 @@ use Rattle.std.specs.Option.{option_map}
 use Rattle.std.proofs.lemmas.List.{take_more, get_or-take}
 use Rattle.std.proofs.lemmas.Option.{slice_get-get_or, slice_get_read, get_or_from_slice_get}
 use Rattle.std.specs.Str.{IsUtf8, chars}
-use Rattle.lalrpop_book.specs.Tree.{Tree}
+use Rattle.lalrpop_hir.specs.Tree.{Tree}
 use Rattle.lalrpop_hir.specs.Parts.{of_text}
-use Rattle.lalrpop_grammar.specs.Unescaped.{Unescapes}
-use Rattle.lalrpop_grammar.specs.declared.error.RegexError.{RegexError}
-use Rattle.lalrpop_grammar.specs.declared.error.RegexError.TheVariants as read
+use Rattle.lalrpop_re.specs.Unescaped.{Unescapes}
+use Rattle.lalrpop_re.specs.declared.error.RegexError.{RegexError}
+use Rattle.lalrpop_re.specs.declared.error.RegexError.TheVariants as read
 use Rattle.lalrpop_re.specs.Refusal.{PointsInto, SaysNoText}
 use Rattle.lalrpop_rules.specs.RuleText.{HasTree, IsEscapedTree}
 use Rattle.lalrpop_rules.specs.RuleSet.{AreTrees, IsFirstBad, IsTextError}

@@ -5,10 +5,10 @@ use Rattle.std.specs.Char.{encode_utf8}
 use Rattle.std.specs.Str.{chars, IsUtf8, IsCharBoundary}
 use Rattle.std.proofs.lemmas.Str.{IsUtf8-drop, IsUtf8-take, IsUtf8-past_char, IsCharBoundary-at_seam, IsCharBoundary-from_drop, IsCharBoundary-from_rest, length-encode, len_utf8_bounds}
 use Rattle.std.proofs.lemmas.List.{drop-drop, take-append-drop}
-use Rattle.lalrpop_book.specs.Longest.{IsMatch}
-use Rattle.lalrpop_book.specs.Prefix.{IsPrefix}
-use Rattle.lalrpop_book.specs.Tokens.{IsToken}
-use Rattle.lalrpop_book.specs.Tree.{Tree}
+use Rattle.lalrpop_hir.specs.Longest.{IsMatch}
+use Rattle.lalrpop_hir.specs.Prefix.{IsPrefix}
+use Rattle.lalrpop_hir.specs.Tokens.{IsToken}
+use Rattle.lalrpop_hir.specs.Tree.{Tree}
 use Rattle.lalrpop_lexer.proofs.Cuttings.{some_char}
 use Rattle.lalrpop_lexer.proofs.Standings.{count_between}
 use Rattle.lalrpop_lexer.proofs.Strongest.{IsOnlyStrongest-from_greatest}

@@ -1,10 +1,10 @@
 -- cases: proofs/Cases/Found.antt
 -- The leftmost longest match of a text.
 use Rattle.std.specs.Prelude.{ℕ, ◌<◌, List, drop}
-use Rattle.lalrpop_book.specs.Tree.{Tree}
-use Rattle.lalrpop_book.specs.Longest.{IsMatch}
-use Rattle.lalrpop_book.specs.Tokens.{IsToken}
-use Rattle.lalrpop_book.specs.declared.token.Token.{Token}
+use Rattle.lalrpop_hir.specs.Tree.{Tree}
+use Rattle.lalrpop_hir.specs.Longest.{IsMatch}
+use Rattle.lalrpop_hir.specs.Tokens.{IsToken}
+use Rattle.lalrpop_hir.specs.declared.token.Token.{Token}
 
 -- some tree matches a nonempty prefix of the text from this place on; places are in bytes
 abbrev pub MatchesAt : List Tree → List ℕ → ℕ → Type 0

@@ -2,7 +2,7 @@
 -- Rules of one kind: a token of one of them is a token of the first.
 use Rattle.std.specs.Prelude.{◌≡◌, ℕ, ◌<◌, ◌==◌, if◌then◌else◌, Bool, false, List, [], ◌∷◌, ◌++◌, length, map, Option, Some, None, slice_get}
 use Rattle.std.specs.List.{list_any}
-use Rattle.lalrpop_book.specs.Tree.{Tree, alternation}
+use Rattle.lalrpop_hir.specs.Tree.{Tree, alternation}
 use Rattle.lalrpop_hir.specs.Parts.{trees}
 use Rattle.lalrpop_rules.specs.declared.rule.Rule.{Rule}
 

@@ -1,13 +1,13 @@
 -- cases: proofs/Cases/Pieces.antt
 -- The pieces of a text that is cut to its end.
 use Rattle.std.specs.Prelude.{◌≡◌, ◌≢◌, ℕ, ◌⊎◌, Bool, true, List, [], ◌∷◌, ◌++◌, length, drop, slice_get, Option, Some, None, Result, Ok, Err}
-use Rattle.lalrpop_book.specs.Prefix.{IsPrefix}
-use Rattle.lalrpop_book.specs.Tree.{Tree}
-use Rattle.lalrpop_book.specs.Chain.{Chain, AtEnd}
-use Rattle.lalrpop_book.specs.Tokens.{IsToken}
+use Rattle.lalrpop_hir.specs.Prefix.{IsPrefix}
+use Rattle.lalrpop_hir.specs.Tree.{Tree}
+use Rattle.lalrpop_hir.specs.Chain.{Chain, AtEnd}
+use Rattle.lalrpop_hir.specs.Tokens.{IsToken}
 use Rattle.lalrpop_lexer.specs.SameTokens.{IsSameToken}
-use Rattle.lalrpop_book.specs.declared.token.Token.{Token as Cut}
-use Rattle.lalrpop_book.specs.declared.token.TokenFault.{TokenFault}
+use Rattle.lalrpop_hir.specs.declared.token.Token.{Token as Cut}
+use Rattle.lalrpop_hir.specs.declared.token.TokenFault.{TokenFault}
 use Rattle.lalrpop_rules.specs.Found.{MatchesAt, NoMatchBefore}
 use Rattle.lalrpop_rules.specs.declared.item.Item.{Item}
 use Rattle.lalrpop_rules.specs.declared.item.Item.TheVariants.{Token, Skipped, Fault}

@@ -2,17 +2,17 @@
 -- The text of a rule, and the trees that it has.
 use Rattle.std.specs.Prelude.{◌≡◌, ◌≢◌, ℕ, ◌<◌, ◌≤◌, ◌↔◌, List, [], length, All, None}
 use Rattle.std.specs.Str.{IsUtf8, chars}
-use Rattle.lalrpop_book.specs.Tree.{Tree}
-use Rattle.lalrpop_book.specs.Language.{Matches}
-use Rattle.lalrpop_book.specs.Fault.{fault}
+use Rattle.lalrpop_hir.specs.Tree.{Tree}
+use Rattle.lalrpop_hir.specs.Language.{Matches}
+use Rattle.lalrpop_hir.specs.Fault.{fault}
 use Rattle.lalrpop_hir.specs.Runs.{IsScalar}
-use Rattle.lalrpop_delimited.specs.UpTo.{IsFromTo}
-use Rattle.lalrpop_delimited.specs.declared.error.FromToError.{FromToError}
-use Rattle.lalrpop_delimited.specs.declared.error.FromToError.TheVariants.{EmptyEnd, LongEnd, OutOfMemory}
-use Rattle.lalrpop_grammar.specs.AnyCase.{SameButForCase}
-use Rattle.lalrpop_grammar.specs.NamedPart.{NamedPart}
-use Rattle.lalrpop_grammar.specs.Pattern as grammar
-use Rattle.lalrpop_grammar.specs.Unescaped.{Unescapes}
+use Rattle.lalrpop_re.specs.UpTo.{IsFromTo}
+use Rattle.lalrpop_re.specs.declared.from_to_error.FromToError.{FromToError}
+use Rattle.lalrpop_re.specs.declared.from_to_error.FromToError.TheVariants.{EmptyEnd, LongEnd, OutOfMemory}
+use Rattle.lalrpop_re.specs.AnyCase.{SameButForCase}
+use Rattle.lalrpop_re.specs.NamedPart.{NamedPart}
+use Rattle.lalrpop_re.specs.Pattern as grammar
+use Rattle.lalrpop_re.specs.Unescaped.{Unescapes}
 use Rattle.lalrpop_lexer.specs.Spelled.{Spells}
 use Rattle.lalrpop_lexer.specs.declared.form.Form.TheVariants as forms
 use Rattle.lalrpop_rules.specs.declared.rule_text.RuleText.{RuleText}

@@ -1,7 +1,7 @@
 -- cases: proofs/Cases/RulesErrors.antt
 -- Errors of texts and of the construction, as errors of rules.
-use Rattle.lalrpop_book.specs.declared.error.DfaConstructionError.{DfaConstructionError}
-use Rattle.lalrpop_book.specs.declared.error.DfaConstructionError.TheVariants as built
+use Rattle.lalrpop_hir.specs.declared.error.DfaConstructionError.{DfaConstructionError}
+use Rattle.lalrpop_hir.specs.declared.error.DfaConstructionError.TheVariants as built
 use Rattle.lalrpop_rules.specs.declared.text_error.TextError.{TextError}
 use Rattle.lalrpop_rules.specs.declared.text_error.TextError.TheVariants as texts
 use Rattle.lalrpop_rules.specs.declared.error.RulesError.{RulesError}

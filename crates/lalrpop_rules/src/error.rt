@@ -4,7 +4,7 @@ ghost use Rattle.lalrpop_rules.specs.RulesErrors.{of_texts, of_construction};
 ghost use Rattle.lalrpop_rules.specs.declared.error.RulesError.TheVariants.{OutOfMemory};
 
 use crate::text_error::TextError;
-use lalrpop_delimited::FromToError;
+use lalrpop_re::FromToError;
 use lalrpop_lexer::ShownWord;
 use lalrpop_lexer::lexer::dfa::DfaConstructionError;
 use lalrpop_lexer::lexer::nfa::NfaConstructionError;

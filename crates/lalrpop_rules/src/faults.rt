@@ -1,8 +1,8 @@
 //! Trees that can't be compiled.
 ghost use Rattle.std.specs.Prelude.{◌≡◌, ◌<◌, None, Some, ℕ, length, slice_get, OnOk, IfErr};
-ghost use Rattle.lalrpop_book.specs.Fault.{fault};
-ghost use Rattle.lalrpop_book.specs.Report.{NoFault};
-ghost use Rattle.lalrpop_book.specs.Tree.{Tree};
+ghost use Rattle.lalrpop_hir.specs.Fault.{fault};
+ghost use Rattle.lalrpop_hir.specs.Report.{NoFault};
+ghost use Rattle.lalrpop_hir.specs.Tree.{Tree};
 ghost use Rattle.lalrpop_rules.specs.Internal.Faults.{IsFaultError, NoFaultBefore, of_tree};
 
 use crate::text_error::TextError;

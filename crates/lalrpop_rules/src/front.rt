@@ -2,8 +2,8 @@
 
 ghost use Rattle.std.specs.Prelude.{◌≡◌, ◌≢◌, ◌+◌, ◌<◌, ℕ, List, [], true, false, length, drop};
 ghost use Rattle.std.specs.Str.{IsCharBoundary};
-ghost use Rattle.lalrpop_book.specs.Tree.{Tree};
-ghost use Rattle.lalrpop_book.specs.Tokens.{IsToken};
+ghost use Rattle.lalrpop_hir.specs.Tree.{Tree};
+ghost use Rattle.lalrpop_hir.specs.Tokens.{IsToken};
 ghost use Rattle.lalrpop_lexer.specs.Rules.{IsBuiltFrom};
 ghost use Rattle.lalrpop_rules.specs.Pieces.{IsPiece, IsFault, IsSkipped, slice_of};
 ghost use Rattle.lalrpop_rules.specs.CutToEnd.{IsPaid};

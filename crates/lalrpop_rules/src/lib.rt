@@ -23,7 +23,7 @@ pub use error::RulesError;
 pub use front::piece_at;
 pub use item::Item;
 pub use kinds::{are_one_kind, merged_trees};
-pub use lalrpop_delimited::FromToError;
+pub use lalrpop_re::FromToError;
 pub use leftmost::find;
 pub use pieces::Items;
 pub use rule::Rule;

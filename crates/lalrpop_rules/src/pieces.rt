@@ -92,7 +92,7 @@ fn take_or_find<'text>(
 impl<'text> Items<'text> {
     ghost use Rattle.std.specs.Prelude.{◌<◌, ◌≤◌, ◌+◌, ◌*◌, length, drop, IfOk, IfSome, IsSomeAnd, OnSome};
     ghost use Rattle.std.specs.Str.{chars, IsCharBoundary};
-    ghost use Rattle.lalrpop_book.specs.Clash.{NoClash};
+    ghost use Rattle.lalrpop_hir.specs.Clash.{NoClash};
     ghost use Rattle.lalrpop_lexer.specs.Matching.{open_states};
     ghost use Rattle.lalrpop_rules.specs.CutToEnd.{uncut, left_text, pieces_left, GivesPiece, IsSoughtBehind, PassesTo};
 

@@ -1,6 +1,6 @@
 //! The trees of the texts of rules.
 ghost use Rattle.std.specs.Prelude.{◌≡◌, IfOk, IfErr};
-ghost use Rattle.lalrpop_book.specs.Report.{NoFault};
+ghost use Rattle.lalrpop_hir.specs.Report.{NoFault};
 ghost use Rattle.lalrpop_rules.specs.RuleSet.{AreTrees, IsTextError};
 ghost use Rattle.lalrpop_rules.specs.RuleText.{HasTree, IsEscapedTree};
 ghost use Rattle.lalrpop_rules.specs.Internal.TextFaults.{IsEscapeFault, IsTextFault, of_end, of_syntax};
@@ -9,7 +9,7 @@ use crate::faults::all_compile;
 use crate::rule::Rule;
 use crate::rule_text::RuleText;
 use crate::text_error::TextError;
-use lalrpop_delimited::{FromToError, from_to};
+use lalrpop_re::{FromToError, from_to};
 use lalrpop_lexer::lexer::re::{
     Regex, RegexError, parse_any_case, parse_literal, parse_regex, parse_with, unescape,
 };

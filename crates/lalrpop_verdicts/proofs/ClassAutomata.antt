@@ -3,8 +3,8 @@ use Rattle.std.proofs.Common.{◌≡◌, ℕ, suc, zero, ◌<◌, ◌≤◌, ◌
 use Rattle.std.specs.Prelude.{slice_get, slice_index, Some, None, IsSomeAnd, nat_le, ◌&&◌, if◌then◌else◌}
 use Rattle.std.proofs.lemmas.Bool.{cases_lt}
 use Rattle.std.proofs.lemmas.Option.{slice_get_cases, slice_get_within}
-use Rattle.lalrpop_book.specs.Range.{Range}
-use Rattle.lalrpop_book.specs.Tree.{Tree}
+use Rattle.lalrpop_hir.specs.Range.{Range}
+use Rattle.lalrpop_hir.specs.Tree.{Tree}
 use Rattle.lalrpop_dfa.specs.declared.Kind.{Kind}
 use Rattle.lalrpop_dfa.specs.declared.Kind.TheVariants.{Accepts, Reject, Neither}
 use Rattle.lalrpop_dfa.specs.Dfa.{Row, edge_target, step, run, after, IsReject, IsRightKind, Recognizes, RecognizesAll, AreAscendingTests, IsWellFormed}

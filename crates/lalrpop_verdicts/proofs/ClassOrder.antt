@@ -3,8 +3,8 @@ use Rattle.std.proofs.Common.{◌≡◌, ℕ, suc, ◌<◌, ◌≤◌, inl, inr,
 use Rattle.std.specs.Prelude.{slice_get, slice_index, Some, None}
 use Rattle.std.proofs.lemmas.Bool.{cases_lt}
 use Rattle.std.proofs.lemmas.Option.{slice_get_within}
-use Rattle.lalrpop_book.proofs.Pushed.{pushed_cases}
-use Rattle.lalrpop_book.specs.Range.{Range}
+use Rattle.lalrpop_hir.proofs.Pushed.{pushed_cases}
+use Rattle.lalrpop_hir.specs.Range.{Range}
 use Rattle.lalrpop_dfa.specs.Dfa.{Row}
 use Rattle.lalrpop_verdicts.specs.Smallest.{AreInOrder, AreNext, edges_of}
 use Rattle.lalrpop_verdicts.specs.Internal.ClassRows.{AreMetInTurn, AreRowsInOrder, targets_of}

@@ -4,8 +4,8 @@ use Rattle.std.specs.Prelude.{slice_get, slice_index, Option, Some, None}
 use Rattle.std.proofs.lemmas.Bool.{cases_lt}
 use Rattle.std.proofs.lemmas.List.{length-set}
 use Rattle.std.proofs.lemmas.Option.{slice_get-get_or, slice_get_within}
-use Rattle.lalrpop_book.proofs.Pushed.{pushed_cases}
-use Rattle.lalrpop_book.specs.Range.{Range}
+use Rattle.lalrpop_hir.proofs.Pushed.{pushed_cases}
+use Rattle.lalrpop_hir.specs.Range.{Range}
 use Rattle.lalrpop_dfa.specs.declared.Kind.TheVariants.{Accepts, Reject, Neither}
 use Rattle.lalrpop_dfa.specs.Dfa.{Row, edge_target, step, after, AreAscendingTests}
 use Rattle.lalrpop_dfa.proofs.AfterLaws.{after_push}

@@ -3,8 +3,8 @@ use Rattle.std.proofs.Common.{◌≡◌, ◌≢◌, ℕ, ◌+◌, ◌<◌, ◌�
 use Rattle.std.proofs.lemmas.Bool.{cases_lt, cases_order, eqb-true, eq-eqb, both_ways, not-true, not-false}
 use Rattle.std.specs.Option.{option_eq}
 use Rattle.std.proofs.lemmas.Option.{slice_get_within, slice_get_cases}
-use Rattle.lalrpop_book.specs.Word.{Shortlex}
-use Rattle.lalrpop_book.proofs.Words.{Shortlex-transitive}
+use Rattle.lalrpop_hir.specs.Word.{Shortlex}
+use Rattle.lalrpop_hir.proofs.Words.{Shortlex-transitive}
 use Rattle.lalrpop_dfa.specs.Dfa.{Row, StoredState, AreStored, after}
 use Rattle.lalrpop_dfa.specs.declared.Kind.{Kind}
 use Rattle.lalrpop_dfa.specs.Witness.{IsLeast}

@@ -3,8 +3,8 @@ use Rattle.std.proofs.Common.{◌≡◌, ℕ, zero, suc, ◌+◌, ◌<◌, ◌�
 use Rattle.std.specs.Str.{chars, IsUtf8, encode_utf8_all}
 use Rattle.std.proofs.lemmas.Bool.{eqb-true}
 use Rattle.std.proofs.lemmas.Str.{encodes-chars, chars-nil}
-use Rattle.lalrpop_book.specs.Tree.{Tree, literal, repetition}
-use Rattle.lalrpop_book.specs.Language.{Words, Then, Power, IsCount, Matches, MatchInTurn}
+use Rattle.lalrpop_hir.specs.Tree.{Tree, literal, repetition}
+use Rattle.lalrpop_hir.specs.Language.{Words, Then, Power, IsCount, Matches, MatchInTurn}
 use Rattle.lalrpop_hir.specs.Counts.{AreOrdered}
 use Rattle.lalrpop_hir.specs.Parts.{trees}
 

@@ -3,8 +3,8 @@ use Rattle.std.proofs.Common.{◌≡◌, ℕ, suc, zero, ◌+◌, ◌<◌, ◌�
 use Rattle.std.specs.Prelude.{slice_get, slice_index, Option, Some, IsSomeAnd, nat_le, ◌&&◌, if◌then◌else◌}
 use Rattle.std.proofs.lemmas.Bool.{cases_lt}
 use Rattle.std.proofs.lemmas.Option.{slice_get_within}
-use Rattle.lalrpop_book.proofs.Pushed.{pushed_cases, pushed_keeps, pushed_last}
-use Rattle.lalrpop_book.specs.Range.{Range, Covers}
+use Rattle.lalrpop_hir.proofs.Pushed.{pushed_cases, pushed_keeps, pushed_last}
+use Rattle.lalrpop_hir.specs.Range.{Range, Covers}
 use Rattle.lalrpop_dfa.specs.Dfa.{Row, edge_target, AreAscendingTests, IsWellFormed}
 use Rattle.lalrpop_dfa.proofs.EdgeTargets.{place_of, before_at, has_value_at, leads_first, leads_later, leads_none, the_some}
 use Rattle.lalrpop_dfa.proofs.Marking.{row_tests, test_in}

@@ -4,7 +4,7 @@ use Rattle.std.specs.Prelude.{slice_get, Option, Some, None, option_map}
 use Rattle.std.specs.List.{Contains}
 use Rattle.std.proofs.lemmas.Bool.{cases_eq}
 use Rattle.std.proofs.lemmas.Option.{slice_get_within}
-use Rattle.lalrpop_book.proofs.Contained.{contains_none, contains_cases, contains_later}
+use Rattle.lalrpop_hir.proofs.Contained.{contains_none, contains_cases, contains_later}
 use Rattle.lalrpop_dfa.specs.Dfa.{Row}
 use Rattle.lalrpop_dfa.specs.Witness.{IsLeast}
 use Rattle.lalrpop_verdicts.specs.WonWord.{WonWord}

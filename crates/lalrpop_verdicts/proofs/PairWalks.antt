@@ -6,7 +6,7 @@ use Rattle.std.specs.Char.{IsScalar}
 use Rattle.std.proofs.lemmas.List.{length-map, get_or-map, append-nil, length_push, get_or_append_left, get_or_push}
 use Rattle.std.proofs.lemmas.List.Elements.{All-nil, All-push}
 use Rattle.std.proofs.lemmas.Option.{slice_get_cases, slice_get_within, get_or_from_slice_get}
-use Rattle.lalrpop_book.proofs.Words.{Shortlex-irreflexive}
+use Rattle.lalrpop_hir.proofs.Words.{Shortlex-irreflexive}
 use Rattle.lalrpop_dfa.specs.Dfa.{Row, step, after as after_word, IsWellFormed}
 use Rattle.lalrpop_dfa.specs.declared.Kind.{Kind}
 use Rattle.lalrpop_dfa.specs.declared.Kind.TheVariants.{Accepts, Reject, Neither}

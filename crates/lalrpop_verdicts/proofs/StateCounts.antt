@@ -6,7 +6,7 @@ use Rattle.std.specs.List.{Contains}
 use Rattle.std.proofs.lemmas.Bool.{cases_lt}
 use Rattle.std.proofs.lemmas.List.{length-map}
 use Rattle.std.proofs.lemmas.Option.{slice_get_cases, slice_get_within, slice_get-get_or, get_or_from_slice_get}
-use Rattle.lalrpop_book.specs.Range.{Range}
+use Rattle.lalrpop_hir.specs.Range.{Range}
 use Rattle.lalrpop_dfa.specs.Dfa.{Row, edge_target, step, after, AreAscendingTests, IsWellFormed}
 use Rattle.lalrpop_dfa.specs.declared.Kind.TheVariants.{Neither}
 use Rattle.lalrpop_dfa.proofs.EdgeTargets.{place_of, step_of}

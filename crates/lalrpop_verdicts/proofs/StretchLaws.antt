@@ -9,9 +9,9 @@ use Rattle.std.proofs.lemmas.Grind.{get_or_default_zero}
 use Rattle.std.proofs.lemmas.List.{get_or-map, length-replicate, map_more, take_all}
 use Rattle.std.proofs.lemmas.List.Sorted.{Contains-permutation}
 use Rattle.std.proofs.lemmas.Option.{slice_get_cases, slice_get_within}
-use Rattle.lalrpop_book.specs.Range.{Range, Covers}
+use Rattle.lalrpop_hir.specs.Range.{Range, Covers}
 use Rattle.lalrpop_dfa.specs.Dfa.{Row, StoredState, IsStored, edge_target, step}
-use Rattle.lalrpop_dfa.specs.Internal.Stored.{EndBefore}
+use Rattle.lalrpop_dfa.specs.Stored.{EndBefore}
 use Rattle.lalrpop_dfa.proofs.EdgeTargets.{leads_first, leads_later, leads_none, place_of, step_of, tests_of, the_some}
 use Rattle.lalrpop_verdicts.specs.Internal.Classes.{AreColumns, AreSplit, AreTried, HasFirsts, IsBounded, IsMore, leads_of, other_at}
 

@@ -1,9 +1,9 @@
 -- Stretches of values that lead from a state to one state.
 use Rattle.std.proofs.Common.{◌≡◌, ℕ, ◌<◌, ◌≤◌, List, length, subst, ◌∙◌, arith}
 use Rattle.std.specs.Prelude.{slice_get, Some}
-use Rattle.lalrpop_book.specs.Range.{Range}
+use Rattle.lalrpop_hir.specs.Range.{Range}
 use Rattle.lalrpop_dfa.specs.Dfa.{Row, edge_target, step, AreAscendingTests}
-use Rattle.lalrpop_dfa.specs.Internal.Stored.{EndBefore}
+use Rattle.lalrpop_dfa.specs.Stored.{EndBefore}
 use Rattle.lalrpop_dfa.proofs.EdgeTargets.{step_of, step_within, leads_at, leads_between}
 use Rattle.lalrpop_verdicts.specs.Internal.Pairs.{AreEdges}
 

@@ -2,10 +2,10 @@
 use Rattle.std.proofs.Common.{◌≡◌, ◌≢◌, ℕ, zero, suc, ◌+◌, ◌-◌, ◌<◌, ◌↔◌, inl, inr, List, [], ◌∷◌, ◌++◌, length, length-append, take, drop, get_or, slice_range, Global, Vec, arith, subst, sym, ap, ◌∙◌, refl}
 use Rattle.std.specs.Prelude.{slice_get, Option, Some, None, IsSomeAnd, option_map}
 use Rattle.std.proofs.lemmas.Option.{slice_get-get_or}
-use Rattle.lalrpop_book.specs.Tree.{Tree, empty}
-use Rattle.lalrpop_book.specs.Language.{Matches}
-use Rattle.lalrpop_book.specs.Winners.{TreeMatches, Matched, IsOnlyStrongest}
-use Rattle.lalrpop_book.proofs.Pushed.{pushed_cases}
+use Rattle.lalrpop_hir.specs.Tree.{Tree, empty}
+use Rattle.lalrpop_hir.specs.Language.{Matches}
+use Rattle.lalrpop_hir.specs.Winners.{TreeMatches, Matched, IsOnlyStrongest}
+use Rattle.lalrpop_hir.proofs.Pushed.{pushed_cases}
 use Rattle.lalrpop_dfa.specs.Dfa.{Row, after, Recognizes, RecognizesAll, IsRightKind}
 use Rattle.lalrpop_dfa.specs.Lookahead.{Accepted}
 use Rattle.lalrpop_dfa.specs.Witness.{IsLeast}

@@ -10,9 +10,9 @@ use Rattle.std.proofs.lemmas.Option.{slice_get_cases, slice_get_within, slice_ge
 use Rattle.std.proofs.lemmas.Map.Keys.{below_from_sorted}
 use Rattle.std.proofs.lemmas.Map.Lookups.{exact_unsigned}
 use Rattle.std.proofs.lemmas.Map.Views.{Contains-from_lookup}
-use Rattle.lalrpop_book.specs.Word.{Shortlex}
-use Rattle.lalrpop_book.proofs.Words.{Shortlex-transitive}
-use Rattle.lalrpop_book.proofs.Pushed.{pushed_cases}
+use Rattle.lalrpop_hir.specs.Word.{Shortlex}
+use Rattle.lalrpop_hir.proofs.Words.{Shortlex-transitive}
+use Rattle.lalrpop_hir.proofs.Pushed.{pushed_cases}
 use Rattle.lalrpop_dfa.specs.Dfa.{Row, StoredState, AreStored, after}
 use Rattle.lalrpop_dfa.specs.Lookahead.{IsAccepting}
 use Rattle.lalrpop_dfa.specs.Witness.{IsLeast}

@@ -1,9 +1,9 @@
 -- from the book: what this crate's contracts name
-pub use Rattle.lalrpop_book.specs.Word
-pub use Rattle.lalrpop_book.specs.Tree
-pub use Rattle.lalrpop_book.specs.Language
-pub use Rattle.lalrpop_book.specs.Winners
-pub use Rattle.lalrpop_book.specs.Report
+pub use Rattle.lalrpop_hir.specs.Word
+pub use Rattle.lalrpop_hir.specs.Tree
+pub use Rattle.lalrpop_hir.specs.Language
+pub use Rattle.lalrpop_hir.specs.Winners
+pub use Rattle.lalrpop_hir.specs.Report
 -- from the crates below: what this crate's contracts name
 pub use Rattle.lalrpop_dfa.specs.Dfa
 pub use Rattle.lalrpop_dfa.specs.Lookahead

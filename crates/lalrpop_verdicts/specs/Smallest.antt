@@ -1,7 +1,7 @@
 -- cases: proofs/Cases/Smallest.antt
 -- Automata with as few states as their answers allow.
 use Rattle.std.specs.Prelude.{◌≡◌, ℕ, suc, ◌+◌, ◌<◌, ◌≤◌, ◌⊎◌, ◌↔◌, List, [], ◌∷◌, length, slice_get, Some, None}
-use Rattle.lalrpop_book.specs.Range.{Range}
+use Rattle.lalrpop_hir.specs.Range.{Range}
 use Rattle.lalrpop_dfa.specs.Dfa.{Row, IsWellFormed}
 use Rattle.lalrpop_dfa.specs.declared.Kind.TheVariants.{Reject}
 use Rattle.lalrpop_verdicts.specs.Answers.{answer, answer_from}

@@ -2,9 +2,9 @@
 -- Which trees of a list can win, and which hide a tree that can't.
 use Rattle.std.specs.Prelude.{◌≡◌, ◌≢◌, ℕ, ◌<◌, List, [], slice_get, Some}
 use Rattle.std.specs.List.{Contains}
-use Rattle.lalrpop_book.specs.Language.{Words}
-use Rattle.lalrpop_book.specs.Tree.{Tree}
-use Rattle.lalrpop_book.specs.Winners.{TreeMatches, IsOnlyStrongest}
+use Rattle.lalrpop_hir.specs.Language.{Words}
+use Rattle.lalrpop_hir.specs.Tree.{Tree}
+use Rattle.lalrpop_hir.specs.Winners.{TreeMatches, IsOnlyStrongest}
 use Rattle.lalrpop_dfa.specs.Witness.{IsLeast}
 use Rattle.lalrpop_verdicts.specs.Answers.{IsTextWord}
 use Rattle.lalrpop_verdicts.specs.WonWord.{WonWord}

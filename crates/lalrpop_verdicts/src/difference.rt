@@ -6,7 +6,7 @@ ghost use Rattle.lalrpop_verdicts.specs.Differences.{TellsApart, label_of};
 
 use crate::answer::accepted;
 use crate::pairs::{Follow, pairs, word_to};
-use lalrpop_book::NfaIndex;
+use lalrpop_hir::NfaIndex;
 use lalrpop_dfa::Dfa;
 use std::alloc::{AllocError, Global};
 use std::marker::Model;

@@ -1,7 +1,7 @@
 //! Whether a pattern matches the empty text.
 ghost use Rattle.std.specs.Prelude.{[], ◌↔◌, IsTrue};
 ghost use Rattle.lalrpop_hir.specs.Parts.{trees};
-ghost use Rattle.lalrpop_book.specs.Language.{Matches, MatchInTurn, SomeMatches};
+ghost use Rattle.lalrpop_hir.specs.Language.{Matches, MatchInTurn, SomeMatches};
 
 use lalrpop_hir::{Hir, HirKind};
 

@@ -1,7 +1,7 @@
 //! The pairs of states that the texts lead to in two automata, by breadth first search.
 ghost use Rattle.std.specs.Prelude.{◌≡◌, ℕ, ◌<◌, ◌≤◌, ◌+◌, List, [], Some, length, slice_get, IfOk, IfSome, IfNone, OnOk, MatchOption, not, true};
 ghost use Rattle.lalrpop_dfa.specs.Dfa.{Row, edge_target, AreAscendingTests};
-ghost use Rattle.lalrpop_dfa.specs.Internal.Stored.{EndBefore};
+ghost use Rattle.lalrpop_dfa.specs.Stored.{EndBefore};
 ghost use Rattle.lalrpop_verdicts.specs.Internal.Pairs.{ArePairs, ends_at, is_character, number_of, AreEdges, AreMet, IsAdded, IsLastCharacter, IsNextCharacter, IsTaken, IsTurn};
 
 use lalrpop_dfa::{Dfa, DfaStateIndex, Kind, START};

@@ -1,7 +1,7 @@
 //! The smallest automaton with the same answers: one state for each class of states that answer alike.
 ghost use Rattle.std.specs.Prelude.{◌≡◌, ℕ, ◌+◌, ◌<◌, ◌↔◌, ◌++◌, ◌∷◌, List, [], length, slice_get, slice_index, IsSomeAnd, IsTrue, IfOk, OnOk, Some};
-ghost use Rattle.lalrpop_book.specs.Range.{Range};
-ghost use Rattle.lalrpop_book.specs.Tree.{Tree};
+ghost use Rattle.lalrpop_hir.specs.Range.{Range};
+ghost use Rattle.lalrpop_hir.specs.Tree.{Tree};
 ghost use Rattle.lalrpop_dfa.specs.Dfa.{Row, IsWellFormed, Recognizes, RecognizesAll};
 ghost use Rattle.lalrpop_verdicts.specs.Smallest.{AnswerAlike, IsCanonical, IsSmallest, edges_of};
 ghost use Rattle.lalrpop_verdicts.specs.Internal.Classes.{AreAlikeClasses};

@@ -1,15 +1,15 @@
 //! What becomes of each pattern of a list: it wins, or others hide it, or it matches nothing.
 ghost use Rattle.std.specs.Prelude.{◌≡◌, ℕ, ◌<◌, List, Option, Some, None, Vec, length, option_map, slice_get, IfOk, IfErr};
 ghost use Rattle.std.specs.Global.{Global};
-ghost use Rattle.lalrpop_book.specs.Report.{IsFaultOf};
+ghost use Rattle.lalrpop_hir.specs.Report.{IsFaultOf};
 ghost use Rattle.lalrpop_dfa.specs.Dfa.{Recognizes};
-ghost use Rattle.lalrpop_book.specs.Tree.{Tree};
+ghost use Rattle.lalrpop_hir.specs.Tree.{Tree};
 ghost use Rattle.lalrpop_verdicts.specs.Verdicts.{AreWinners, IsVerdict, words_of};
 ghost use Rattle.lalrpop_verdicts.specs.Internal.WonWords.{IsLeastWon, IsOwn, StaysDead};
 
 use crate::won_word::WonWord;
 use crate::won_words::won_words;
-use lalrpop_book::{DfaConstructionError, NfaConstructionError, NfaIndex, Precedence};
+use lalrpop_hir::{DfaConstructionError, NfaConstructionError, NfaIndex, Precedence};
 use lalrpop_build::build_dfa;
 use lalrpop_dfa::Dfa;
 use lalrpop_hir::Regex;

@@ -1,5 +1,5 @@
 //! A word, and the pattern that wins it.
-use lalrpop_book::NfaIndex;
+use lalrpop_hir::NfaIndex;
 use std::marker::Model;
 
 /// A pattern that wins a word of another one, and the word.

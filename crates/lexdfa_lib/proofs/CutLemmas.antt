@@ -7,10 +7,10 @@ use Rattle.std.proofs.lemmas.Grind.{flat_map-append}
 use Rattle.std.proofs.lemmas.List.{length-map, map-append}
 use Rattle.std.proofs.lemmas.Str.{encodes-chars, length-le-encodes}
 use Rattle.std.proofs.iter.Next.{Yields-more}
-use Rattle.lalrpop_book.specs.Tree.{Tree}
-use Rattle.lalrpop_book.specs.Tokens.{Item, AreItems, AreTokens, bare}
-use Rattle.lalrpop_book.specs.declared.token.Token.{Token as Cut}
-use Rattle.lalrpop_book.specs.declared.token.TokenFault.{TokenFault}
+use Rattle.lalrpop_hir.specs.Tree.{Tree}
+use Rattle.lalrpop_hir.specs.Tokens.{Item, AreItems, AreTokens, bare}
+use Rattle.lalrpop_hir.specs.declared.token.Token.{Token as Cut}
+use Rattle.lalrpop_hir.specs.declared.token.TokenFault.{TokenFault}
 use Rattle.lalrpop_lexer.specs.Cutting.{Cutting, start_of}
 use Rattle.lalrpop_lexer.specs.Dfa.{Row}
 use Rattle.lalrpop_lexer.specs.LexerTokens.{LexerCutting, CutsToken, GivesToken}

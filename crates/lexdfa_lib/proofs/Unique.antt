@@ -2,11 +2,11 @@
 use Rattle.std.proofs.Common.{◌≡◌, ℕ, ◌<◌, ◌⊎◌, inl, inr, List, length, Some, None, refl, sym, ap, subst}
 use Rattle.std.specs.Prelude.{slice_get}
 use Rattle.std.proofs.lemmas.Bool.{cases_order}
-use Rattle.lalrpop_book.specs.Tree.{Tree}
+use Rattle.lalrpop_hir.specs.Tree.{Tree}
 use Rattle.lalrpop_lexer.specs.Clash.{NoClash}
 use Rattle.lalrpop_lexer.specs.Fault.{fault}
 use Rattle.lalrpop_lexer.specs.Report.{NoFault, FirstFault}
-use Rattle.lalrpop_book.specs.declared.error.NfaConstructionError.{NfaConstructionError}
+use Rattle.lalrpop_hir.specs.declared.error.NfaConstructionError.{NfaConstructionError}
 use Rattle.lalrpop_lexer.proofs.ClashLaws.{clash-unique, clash_or_none}
 use Rattle.lalrpop_lexer.proofs.Longests.{longest-unique}
 use Rattle.lalrpop_lexer.proofs.TerminalLaws.{terminals-unique, NoTerminal, stop_or_terminals, stop-unique}

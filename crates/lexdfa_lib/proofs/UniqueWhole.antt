@@ -1,8 +1,8 @@
 -- The answer for bytes and a text that is cut into tokens is unique.
 use Rattle.std.proofs.Common.{◌≡◌, ℕ, suc, ◌+◌, inl, inr, List, [], ◌∷◌, ◌++◌, length, map, drop, refl, sym, ap, subst, ◌∙◌, append-nil}
 use Rattle.std.specs.Prelude.{Option, Some, None, Ok, Err, flat_map}
-use Rattle.lalrpop_book.specs.Tree.{Tree}
-use Rattle.lalrpop_book.specs.Tokens.{Item, AreItems}
+use Rattle.lalrpop_hir.specs.Tree.{Tree}
+use Rattle.lalrpop_hir.specs.Tokens.{Item, AreItems}
 use Rattle.lalrpop_lexer.specs.Longest.{IsLongest, IsMatch}
 use Rattle.lalrpop_lexer.proofs.Longests.{longest-unique}
 use Rattle.lexdfa_lib.specs.Printed.{line_of}

@@ -1,7 +1,7 @@
 -- cases: proofs/Cases/Answer.antt
 -- The answer for bytes and a text: one outcome, and its line.
 use Rattle.std.specs.Prelude.{◌≡◌, ℕ, ◌⊎◌, List, length, Option, Some, None}
-use Rattle.lalrpop_book.specs.Tree.{Tree}
+use Rattle.lalrpop_hir.specs.Tree.{Tree}
 use Rattle.lalrpop_lexer.specs.Clash.{IsClash, NoClash}
 use Rattle.lalrpop_lexer.specs.Longest.{IsLongest}
 use Rattle.lalrpop_lexer.specs.Report.{NoFault, FirstFault}

@@ -1,8 +1,8 @@
 -- cases: proofs/Cases/Printed.antt
 -- The line of an outcome.
 use Rattle.std.specs.Prelude.{ℕ, List, [], ◌++◌, codes, decimal, flat_map}
-use Rattle.lalrpop_book.specs.declared.error.NfaConstructionError.{NfaConstructionError}
-use Rattle.lalrpop_book.specs.declared.error.NfaConstructionError.TheVariants.{NamedCaptures, NonGreedy, LookAround, ByteRegex, OutOfMemory}
+use Rattle.lalrpop_hir.specs.declared.error.NfaConstructionError.{NfaConstructionError}
+use Rattle.lalrpop_hir.specs.declared.error.NfaConstructionError.TheVariants.{NamedCaptures, NonGreedy, LookAround, ByteRegex, OutOfMemory}
 use Rattle.lexdfa_lib.specs.Word.{value_text}
 use Rattle.lexdfa_lib.specs.declared.outcome.Outcome.{Outcome}
 use Rattle.lexdfa_lib.specs.declared.outcome.Outcome.TheVariants.{Match, NoMatch, All, Stopped, Refused, Ambiguous, Syntax, Line}

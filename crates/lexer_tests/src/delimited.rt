@@ -2,7 +2,7 @@
 
 use crate::built::{expect, halves};
 use crate::lookaheads::lexer_from;
-use lalrpop_delimited::{FromToError, from_to};
+use lalrpop_re::{FromToError, from_to};
 use lalrpop_lexer::Lexer;
 use lalrpop_lexer::lexer::dfa::Precedence;
 use std::alloc::{AllocError, Global};

@@ -1,7 +1,7 @@
 -- What is written and reported for all clashes.
 use Rattle.std.proofs.Common.{◌≡◌, ℕ, List, [], ◌∷◌, flat_map, sym, subst}
 use Rattle.std.specs.Prelude.{Option}
-use Rattle.lalrpop_book.specs.Tree.{Tree}
+use Rattle.lalrpop_hir.specs.Tree.{Tree}
 use Rattle.lalrpop_lexer.proofs.ClashListLaws.{first_is_clash}
 use Rattle.lalrpop_lexer.specs.Clashes.{Entry, AreClashes}
 use Rattle.lalrpop_lexer.specs.Report.{NoFault}

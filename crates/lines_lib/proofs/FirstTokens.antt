@@ -5,16 +5,16 @@ use Rattle.std.proofs.lemmas.Str.{IsUtf8-nil, IsUtf8-append}
 use Rattle.std.specs.Prelude.{Option, Some, None, Result, Ok, Err, unwrap_or}
 use Rattle.std.specs.Iterator.{Yields}
 use Rattle.std.specs.Str.{IsUtf8, IsCharBoundary}
-use Rattle.lalrpop_book.specs.Tree.{Tree}
+use Rattle.lalrpop_hir.specs.Tree.{Tree}
 use Rattle.lalrpop_lexer.proofs.Cuttings.{cut_behind, rest_behind}
 use Rattle.lalrpop_lexer.proofs.Longests.{longest-unique}
 use Rattle.lalrpop_lexer.specs.Cutting.{Cutting, start_of, rest_of}
 use Rattle.lalrpop_lexer.specs.Dfa.{Row, Recognizes}
 use Rattle.lalrpop_lexer.specs.LexerTokens.{CutsToken}
-use Rattle.lalrpop_book.specs.Tokens.{AreTokens}
+use Rattle.lalrpop_hir.specs.Tokens.{AreTokens}
 use Rattle.lalrpop_lexer.specs.Longest.{IsLongest}
-use Rattle.lalrpop_book.specs.declared.token.Token.{Token}
-use Rattle.lalrpop_book.specs.declared.token.TokenFault.{TokenFault}
+use Rattle.lalrpop_hir.specs.declared.token.Token.{Token}
+use Rattle.lalrpop_hir.specs.declared.token.TokenFault.{TokenFault}
 use Rattle.lalrpop_lexer.specs.Quoted.{quoted}
 use Rattle.lines_lib.specs.TokenLines.{place_text, token_line, token_lines}
 

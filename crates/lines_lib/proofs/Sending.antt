@@ -8,15 +8,15 @@ use Rattle.std.specs.Prelude.{Option, Some, None, Result, Ok, Err, IfOk, OnOk, I
 use Rattle.std.specs.Io.KnownBytes.{Appends}
 use Rattle.std.specs.Iterator.{Yields, Drains}
 use Rattle.std.specs.Str.{chars, IsUtf8, IsCharBoundary}
-use Rattle.lalrpop_book.specs.Clash.{NoClash}
-use Rattle.lalrpop_book.specs.Tree.{Tree}
+use Rattle.lalrpop_hir.specs.Clash.{NoClash}
+use Rattle.lalrpop_hir.specs.Tree.{Tree}
 use Rattle.lalrpop_lexer.proofs.Recognized.{on_words}
 use Rattle.lalrpop_lexer.specs.Cutting.{Cutting, start_of}
 use Rattle.lalrpop_lexer.specs.LexerTokens.{CutsToken}
 use Rattle.lalrpop_lexer.proofs.UniqueTokens.{tokens-exist}
-use Rattle.lalrpop_book.specs.Tokens.{AreTokens}
-use Rattle.lalrpop_book.specs.declared.token.Token.{Token}
-use Rattle.lalrpop_book.specs.declared.token.TokenFault.{TokenFault}
+use Rattle.lalrpop_hir.specs.Tokens.{AreTokens}
+use Rattle.lalrpop_hir.specs.declared.token.Token.{Token}
+use Rattle.lalrpop_hir.specs.declared.token.TokenFault.{TokenFault}
 use Rattle.lexdfa_lib.proofs.Known.{Appends-again}
 use Rattle.lexdfa_lib.specs.Watch.{Watch, AppendsPrefix}
 use Rattle.lexdfa_lib.specs.declared.error.RunError.{RunError}

@@ -2,7 +2,7 @@
 -- What is written for all clashes of terminals.
 use Rattle.std.specs.Prelude.{◌≡◌, ℕ, List, [], ◌∷◌, Option, Some, None, flat_map}
 use Rattle.std.specs.Io.KnownBytes.{Appends}
-use Rattle.lalrpop_book.specs.Tree.{Tree}
+use Rattle.lalrpop_hir.specs.Tree.{Tree}
 use Rattle.lalrpop_lexer.specs.Clashes.{Entry, AreClashes}
 use Rattle.lalrpop_lexer.specs.Report.{NoFault}
 use Rattle.lexdfa_lib.specs.Answer.{IsReported}

@@ -1,6 +1,6 @@
 //! A line for each clash of the terminals of a file.
 ghost use Rattle.std.specs.Prelude.{◌≡◌, ◌≢◌, ◌++◌, [], ℕ, List, Some, false, true, length, map, flat_map, string_bytes, IfOk, OnOk, IfErr};
-ghost use Rattle.lalrpop_book.specs.Tree.{Tree};
+ghost use Rattle.lalrpop_hir.specs.Tree.{Tree};
 ghost use Rattle.lalrpop_lexer.specs.Report.{IsFaultOf};
 ghost use Rattle.lalrpop_lexer.specs.Lines.{lines};
 ghost use Rattle.lalrpop_lexer.specs.Terminals.{AreTerminals};

@@ -1,6 +1,6 @@
 //! Members of sets that are folded or have a name.
 
-use lalrpop_grammar::{fold, named_set, posix_class, range_class, words};
+use lalrpop_re::{fold, named_set, posix_class, range_class, words};
 use lalrpop_hir::ClassUnicode;
 use std::alloc::{AllocError, Global};
 

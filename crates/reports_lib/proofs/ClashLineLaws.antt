@@ -3,7 +3,7 @@ use Rattle.std.proofs.Common.{◌≡◌, ℕ, suc, ◌+◌, ◌<◌, List, [], �
 use Rattle.std.specs.Prelude.{Option, option_map, unwrap_or, slice_get, flat_map}
 use Rattle.std.proofs.lemmas.List.{append-nil, take_more, map-append, length-map, length-take-le}
 use Rattle.std.proofs.lemmas.Option.{slice_get-map}
-use Rattle.lalrpop_book.specs.Clashes.{Entry}
+use Rattle.lalrpop_hir.specs.Clashes.{Entry}
 use Rattle.lalrpop_modes.specs.ModeSet.{rules_of}
 use Rattle.lalrpop_modes.specs.declared.mode_rule.ModeRule.{ModeRule}
 use Rattle.lalrpop_rules.specs.RuleSet.{names_of}

@@ -2,7 +2,7 @@
 -- The rules of a file, as a lexer takes them.
 use Rattle.std.specs.Prelude.{◌≡◌, List, map}
 use Rattle.lalrpop_modes.specs.declared.mode_rule.ModeRule.{ModeRule}
-use Rattle.lalrpop_grammar.specs.NamedPart.{NamedPart}
+use Rattle.lalrpop_re.specs.NamedPart.{NamedPart}
 use Rattle.lalrpop_rule_file.specs.RuleFile as file
 use Rattle.lalrpop_rule_file.specs.declared.file_rule.FileRule.{FileRule}
 

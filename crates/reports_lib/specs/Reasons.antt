@@ -2,12 +2,12 @@
 -- What is said of a bad line, and of rules or terminals that make no lexer.
 use Rattle.std.specs.Prelude.{◌≡◌, ℕ, ◌+◌, ◌⊎◌, List, [], ◌∷◌, ◌++◌, length, take, decimal, slice_get, option_map, unwrap_or, Option, Some, None, codes}
 use Rattle.std.specs.Str.{IsCharBoundary, IsUtf8, chars}
-use Rattle.lalrpop_book.specs.declared.error.NfaConstructionError.{NfaConstructionError}
-use Rattle.lalrpop_book.specs.declared.error.NfaConstructionError.TheVariants.{NamedCaptures, NonGreedy, LookAround, ByteRegex, OutOfMemory}
-use Rattle.lalrpop_delimited.specs.declared.error.FromToError.{FromToError}
-use Rattle.lalrpop_delimited.specs.declared.error.FromToError.TheVariants as ends
-use Rattle.lalrpop_grammar.specs.declared.error.SyntaxKind.{SyntaxKind}
-use Rattle.lalrpop_grammar.specs.declared.error.SyntaxKind.TheVariants as kinds
+use Rattle.lalrpop_hir.specs.declared.error.NfaConstructionError.{NfaConstructionError}
+use Rattle.lalrpop_hir.specs.declared.error.NfaConstructionError.TheVariants.{NamedCaptures, NonGreedy, LookAround, ByteRegex, OutOfMemory}
+use Rattle.lalrpop_re.specs.declared.from_to_error.FromToError.{FromToError}
+use Rattle.lalrpop_re.specs.declared.from_to_error.FromToError.TheVariants as ends
+use Rattle.lalrpop_re.specs.declared.error.SyntaxKind.{SyntaxKind}
+use Rattle.lalrpop_re.specs.declared.error.SyntaxKind.TheVariants as kinds
 use Rattle.lalrpop_lexer.specs.Line.{IsLine}
 use Rattle.lalrpop_lexer.specs.declared.form.Form.TheVariants.{Pattern}
 use Rattle.lalrpop_lexer.specs.declared.position.Position.{Position}

@@ -3,7 +3,7 @@
 use Rattle.std.specs.Prelude.{ℕ, ◌+◌, List, [], ◌∷◌, ◌++◌, Option, Some, None, codes, encode_utf8, flat_map, map, if◌then◌else◌}
 use Rattle.json.specs.Token as json
 use Rattle.json.specs.Print.{print}
-use Rattle.lalrpop_book.specs.Clashes.{Entry}
+use Rattle.lalrpop_hir.specs.Clashes.{Entry}
 use Rattle.lalrpop_dfa.specs.Witness.{OpenMatch}
 use Rattle.lalrpop_lexer.specs.Quoted.{is_character}
 use Rattle.lalrpop_review.specs.declared.idle.IdleRule.{IdleRule}

@@ -2,7 +2,7 @@
 -- What a review says, in plain lines, and the whole of it.
 use Rattle.std.specs.Prelude.{ℕ, ◌+◌, nat_lt, Bool, ◌||◌, ◌==◌, List, [], ◌∷◌, ◌++◌, length, Option, Some, None, codes, decimal, flat_map, if◌then◌else◌}
 use Rattle.std.specs.List.{join_by, list_any}
-use Rattle.lalrpop_book.specs.Clashes.{Entry}
+use Rattle.lalrpop_hir.specs.Clashes.{Entry}
 use Rattle.lalrpop_dfa.specs.Witness.{OpenMatch}
 use Rattle.lalrpop_lexer.specs.Quoted.{quoted_word}
 use Rattle.lalrpop_lexer.specs.declared.position.Position.{Position}

@@ -4,7 +4,7 @@ ghost use Rattle.std.specs.Str.{IsCharBoundary};
 ghost use Rattle.lalrpop_lexer.specs.Quoted.{quoted_word};
 ghost use Rattle.reports_lib.specs.Reasons.{bad_end_text, clash_advice, numbered, placed, refusal_text, syntax_text};
 
-use lalrpop_delimited::FromToError;
+use lalrpop_re::FromToError;
 use lalrpop_lexer::lexer::nfa::NfaConstructionError;
 use lalrpop_lexer::lexer::re::SyntaxKind;
 use lalrpop_lexer::{ShownWord, is_unseen};

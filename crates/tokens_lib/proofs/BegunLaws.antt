@@ -1,15 +1,14 @@
 -- What was written before an error: a prefix of an answer, or nothing.
 use Rattle.std.proofs.Common.{Global, ◌≡◌, ◌≢◌, ℕ, ◌+◌, ◌<◌, get_or, Bool, inl, inr, List, [], ◌∷◌, ◌++◌, length, take, drop, map, string_bytes, refl, sym, ap, subst, ◌∙◌, arith}
-use Rattle.std.specs.Prelude.{◌⊎◌, Option, Some, None, Result, Ok, OnErr, option_map}
+use Rattle.std.specs.Prelude.{◌⊎◌, Option, Some, None, Result, Ok, OnErr, option_map, String}
 use Rattle.std.specs.Bool.{then_some}
 use Rattle.std.specs.Borrow.{Bor}
-use Rattle.std.specs.Prelude.{String}
 use Rattle.std.specs.Io.KnownBytes.{Appends}
 use Rattle.std.specs.Str.{IsUtf8}
 use Rattle.std.proofs.Math.Seq.{take-nil}
 use Rattle.std.proofs.lemmas.List.{append-nil, map-append, take-append-drop, drop_more, length-map, length-take-le}
 use Rattle.std.proofs.lemmas.Result.{on_err_weaker}
-use Rattle.lalrpop_book.specs.Tree.{Tree}
+use Rattle.lalrpop_hir.specs.Tree.{Tree}
 use Rattle.lalrpop_rule_file.specs.RuleFile.{without_mark}
 use Rattle.lalrpop_modes.specs.Modes.{ModeRules}
 use Rattle.lalrpop_edits.specs.Chunked.{Chunked}

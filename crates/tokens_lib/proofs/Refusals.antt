@@ -3,7 +3,7 @@ use Rattle.std.proofs.Common.{◌≡◌, ℕ, ◌<◌, List, [], inl, inr, Conta
 use Rattle.std.specs.Prelude.{Option, Some, None, option_map, slice_get, unwrap_or}
 use Rattle.std.specs.Str.{IsCharBoundary}
 use Rattle.std.proofs.lemmas.Option.{slice_get-map}
-use Rattle.lalrpop_grammar.specs.NamedPart.{NamedPart}
+use Rattle.lalrpop_re.specs.NamedPart.{NamedPart}
 use Rattle.lalrpop_rules.specs.RuleText.{IsParsed}
 use Rattle.lalrpop_rules.specs.declared.rule_text.RuleText.{RuleText}
 use Rattle.lalrpop_rules.specs.declared.rule_text.RuleText.TheVariants as texts

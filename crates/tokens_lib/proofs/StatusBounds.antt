@@ -1,8 +1,8 @@
 -- No status is above 6.
 use Rattle.std.proofs.Common.{◌≡◌, ℕ, ◌+◌, ◌≤◌, inl, inr, List, [], ◌∷◌, ap, arith}
 use Rattle.std.specs.Prelude.{nat_lt, length, map, slice_get, Bool, true, false, if◌then◌else◌, Option, Some, None}
-use Rattle.lalrpop_book.specs.Clashes.{Entry}
-use Rattle.lalrpop_book.specs.Tree.{Tree}
+use Rattle.lalrpop_hir.specs.Clashes.{Entry}
+use Rattle.lalrpop_hir.specs.Tree.{Tree}
 use Rattle.lalrpop_lexer.specs.Lines.{lines}
 use Rattle.lalrpop_rule_file.specs.RuleFile.{without_mark}
 use Rattle.lalrpop_modes.specs.Modes.{ModeRules}

@@ -1,13 +1,12 @@
 -- The answer for what is read of a text, by what was written for it and how cutting ended.
 use Rattle.std.proofs.Common.{Global, ◌≡◌, ℕ, Bool, true, false, List, map, string_bytes, refl, ap, subst, ◌∙◌}
-use Rattle.std.specs.Prelude.{Option, Result, Ok, Err, IfOk, OnOk, option_map}
+use Rattle.std.specs.Prelude.{Option, Result, Ok, Err, IfOk, OnOk, option_map, String}
 use Rattle.std.specs.Bool.{then_some}
 use Rattle.std.specs.Borrow.{Bor}
-use Rattle.std.specs.Prelude.{String}
 use Rattle.std.specs.Io.KnownBytes.{Appends}
-use Rattle.lalrpop_book.specs.Tree.{Tree}
-use Rattle.lalrpop_book.specs.declared.token.Token.{Token}
-use Rattle.lalrpop_book.specs.declared.token.TokenFault.{TokenFault}
+use Rattle.lalrpop_hir.specs.Tree.{Tree}
+use Rattle.lalrpop_hir.specs.declared.token.Token.{Token}
+use Rattle.lalrpop_hir.specs.declared.token.TokenFault.{TokenFault}
 use Rattle.lalrpop_modes.specs.Modes.{ModeRules}
 use Rattle.lalrpop_modes.specs.Stack.{start}
 use Rattle.lalrpop_rules.specs.declared.item.Item.{Item}

@@ -1,7 +1,7 @@
 -- cases: proofs/Cases/Checked.antt
 -- What is answered by a check of named rules.
 use Rattle.std.specs.Prelude.{◌≡◌, ℕ, ◌⊎◌, List, [], length, if◌then◌else◌}
-use Rattle.lalrpop_book.specs.Clashes.{Entry}
+use Rattle.lalrpop_hir.specs.Clashes.{Entry}
 use Rattle.lalrpop_lexer.specs.declared.position.Position.{Position}
 use Rattle.lalrpop_modes.specs.ModeClashes.{AreModeClashes}
 use Rattle.lalrpop_modes.specs.ModeSet.{AreModeRules, rules_of}

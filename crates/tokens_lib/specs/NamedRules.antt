@@ -1,7 +1,7 @@
 -- cases: proofs/Cases/NamedRules.antt
 -- What is answered by a file of named rules.
 use Rattle.std.specs.Prelude.{◌≡◌, ℕ, ◌⊎◌, List, [], ◌∷◌, length, map}
-use Rattle.lalrpop_book.specs.Clashes.{Entry}
+use Rattle.lalrpop_hir.specs.Clashes.{Entry}
 use Rattle.lalrpop_lexer.specs.Lines.{lines}
 use Rattle.lalrpop_lexer.specs.declared.position.Position.{Position}
 use Rattle.lalrpop_modes.specs.ModeClashes.{AreModeClashes, IsModesFault}
@@ -11,7 +11,7 @@ use Rattle.lalrpop_modes.specs.declared.error.ModesError.{ModesError}
 use Rattle.lalrpop_modes.specs.declared.error.ModesError.TheVariants.{NotParsed, BadEnd}
 use Rattle.lalrpop_modes.specs.declared.mode_rule.ModeRule.{ModeRule}
 use Rattle.lalrpop_rules.specs.RuleSet.{names_of}
-use Rattle.lalrpop_grammar.specs.NamedPart.{NamedPart}
+use Rattle.lalrpop_re.specs.NamedPart.{NamedPart}
 use Rattle.lalrpop_rule_file.specs.RuleFile.{AreFileParts, AreRules, ArePlaces, IsRuleFileError, without_mark}
 use Rattle.lalrpop_rule_file.specs.declared.file_rule.FileRule.{FileRule}
 use Rattle.lalrpop_rule_file.specs.declared.error.RuleFileError.{RuleFileError}

@@ -3,7 +3,7 @@
 use Rattle.std.specs.Prelude.{◌≡◌, ℕ, ◌⊎◌, true, false, List, [], ◌∷◌, ◌++◌, Option, Some, None, codes, length, map, filter, flat_map, slice_get}
 use Rattle.std.specs.List.{AllZip, zip}
 use Rattle.std.specs.Str.{bytes_eq}
-use Rattle.lalrpop_book.specs.Tree.{Tree}
+use Rattle.lalrpop_hir.specs.Tree.{Tree}
 use Rattle.lalrpop_dfa.specs.Dfa.{RecognizesAll, Row}
 use Rattle.lalrpop_modes.specs.Modes.{ModeRules}
 use Rattle.lalrpop_verdicts.specs.Picture.{dot}

@@ -2,10 +2,10 @@
 -- The answer for what is read of a text.
 use Rattle.std.specs.Prelude.{◌≡◌, ℕ, Bool, true, false, List, [], ◌++◌, take, drop, Option, Some, None, Result, codes, chars, flat_map}
 use Rattle.std.specs.Bool.{then_some}
-use Rattle.lalrpop_book.specs.Tree.{Tree}
-use Rattle.lalrpop_book.specs.Tokens.{AreTokens}
-use Rattle.lalrpop_book.specs.declared.token.Token.{Token}
-use Rattle.lalrpop_book.specs.declared.token.TokenFault.{TokenFault}
+use Rattle.lalrpop_hir.specs.Tree.{Tree}
+use Rattle.lalrpop_hir.specs.Tokens.{AreTokens}
+use Rattle.lalrpop_hir.specs.declared.token.Token.{Token}
+use Rattle.lalrpop_hir.specs.declared.token.TokenFault.{TokenFault}
 use Rattle.lalrpop_edits.specs.Chunked.{Chunked}
 use Rattle.lalrpop_lexer.specs.Position.{position_of}
 use Rattle.lalrpop_lexer.specs.Quoted.{told}

@@ -1,11 +1,11 @@
 //! What rules with modes say.
 
 ghost use Rattle.std.specs.Prelude.{◌≢◌, ◌<◌, ◌↔◌, ℕ, [], List, length, IfOk, IfSome, IsTrue};
-ghost use Rattle.lalrpop_book.specs.Winners.{TreeMatches};
+ghost use Rattle.lalrpop_hir.specs.Winners.{TreeMatches};
 ghost use Rattle.lalrpop_review.specs.Apart.{IsTokenIn, TellsApart};
 ghost use Rattle.lalrpop_review.specs.Review.{AreThose};
 
-use lalrpop_book::NfaIndex;
+use lalrpop_hir::NfaIndex;
 use lalrpop_modes::ModeLexer;
 use lalrpop_review::{Difference, difference_in, review};
 use std::alloc::{AllocError, Global};

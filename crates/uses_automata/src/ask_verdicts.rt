@@ -1,9 +1,9 @@
 //! What a list of patterns says.
 
 ghost use Rattle.std.specs.Prelude.{◌≡◌, ◌≢◌, ◌≤◌, ℕ, [], List, length, string_bytes, slice_get, Ok, true, IsTrue, ◌<◌, IfOk, IfErr, IfSome};
-ghost use Rattle.lalrpop_book.specs.Language.{Matches};
-ghost use Rattle.lalrpop_book.specs.Report.{IsFaultOf};
-ghost use Rattle.lalrpop_book.specs.Tree.{Tree};
+ghost use Rattle.lalrpop_hir.specs.Language.{Matches};
+ghost use Rattle.lalrpop_hir.specs.Report.{IsFaultOf};
+ghost use Rattle.lalrpop_hir.specs.Tree.{Tree};
 ghost use Rattle.lalrpop_dfa.specs.Dfa.{IsWellFormed, Recognizes, RecognizesAll};
 ghost use Rattle.lalrpop_verdicts.specs.Answers.{IsTextWord, answer};
 ghost use Rattle.lalrpop_verdicts.specs.Differences.{label_of};
@@ -11,7 +11,7 @@ ghost use Rattle.lalrpop_verdicts.specs.Picture.{dot};
 ghost use Rattle.lalrpop_verdicts.specs.Smallest.{IsCanonical};
 ghost use Rattle.lalrpop_verdicts.specs.Verdicts.{IsWonBy, words_of};
 
-use lalrpop_book::DfaConstructionError;
+use lalrpop_hir::DfaConstructionError;
 use lalrpop_dfa::Dfa;
 use lalrpop_hir::{Hir, Regex};
 use lalrpop_verdicts::{

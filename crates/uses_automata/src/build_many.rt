@@ -2,15 +2,15 @@
 
 ghost use Rattle.std.specs.Prelude.{◌≡◌, ◌<◌, ◌≤◌, List, length, map, IfOk, IfErr, IfSome, IfNone};
 ghost use Rattle.std.specs.Option.{option_map};
-ghost use Rattle.lalrpop_book.specs.Clash.{NoClash};
+ghost use Rattle.lalrpop_hir.specs.Clash.{NoClash};
 ghost use Rattle.lalrpop_build.specs.Items.{HoldsItems, OthersReject, IsInWordOrder};
-ghost use Rattle.lalrpop_book.specs.Report.{NoFault, IsReport};
-ghost use Rattle.lalrpop_book.specs.declared.error.DfaConstructionError.TheVariants.{OutOfMemory};
+ghost use Rattle.lalrpop_hir.specs.Report.{NoFault, IsReport};
+ghost use Rattle.lalrpop_hir.specs.declared.error.DfaConstructionError.TheVariants.{OutOfMemory};
 ghost use Rattle.lalrpop_dfa.specs.Automata.{AreCompiled};
 ghost use Rattle.lalrpop_nfa.specs.Graph.{Graph};
 ghost use Rattle.lalrpop_dfa.specs.Counts.{state_bound};
 ghost use Rattle.lalrpop_dfa.specs.Dfa.{RecognizesAll};
-ghost use Rattle.lalrpop_book.specs.Longest.{IsLongest};
+ghost use Rattle.lalrpop_hir.specs.Longest.{IsLongest};
 
 use lalrpop_build::{DfaConstructionError, NfaIndex, Precedence, build_dfa};
 use lalrpop_dfa::Dfa;
@@ -85,8 +85,8 @@ pub fn to_be_drawn(
     build_dfa(alloc, regexs, precedences)
 }
 
-// Needs lalrpop_book::DfaConstructionError::from: ghost from_gives.
-// Needs lalrpop_book::DfaConstructionError::from: ghost from_gives.
+// Needs lalrpop_hir::DfaConstructionError::from: ghost from_gives.
+// Needs lalrpop_hir::DfaConstructionError::from: ghost from_gives.
 /// A precedence for each pattern: earlier patterns are stronger.
 pub fn falling_precedences(
     alloc: Global,

@@ -1,13 +1,13 @@
 //! The classes of values that automata distinguish.
 
 ghost use Rattle.std.specs.Prelude.{◌≡◌, ◌<◌, ◌-◌, Some, length, slice_get, IsSomeAnd, IfSome, IfNone, IfOk};
-ghost use Rattle.lalrpop_alphabet.specs.Internal.Alphabet.{IsAlphabetOf, IsSound, HasState, AreEdgeGroupsOf, LeadsBy};
+ghost use Rattle.lalrpop_build.specs.Internal.Alphabet.{IsAlphabetOf, IsSound, HasState, AreEdgeGroupsOf, LeadsBy};
 
-use lalrpop_alphabet::{Alphabet, EdgeGroup, Group};
+use lalrpop_build::alphabet::{Alphabet, EdgeGroup, Group};
 use lalrpop_nfa::{Nfa, NfaStateIndex};
 use std::alloc::{AllocError, Global};
 
-// Needs lalrpop_alphabet::Alphabet::new: alphabet.
+// Needs lalrpop_build::alphabet::Alphabet::new: alphabet.
 /// The classes of the automata's values.
 pub fn classes_of(alloc: Global, nfas: &[Nfa]) -> Result<Alphabet, AllocError>
     ensures { IfOk result (IsAlphabetOf nfas.now) }
@@ -15,7 +15,7 @@ pub fn classes_of(alloc: Global, nfas: &[Nfa]) -> Result<Alphabet, AllocError>
     Alphabet::new(alloc, nfas)
 }
 
-// Needs lalrpop_alphabet::Alphabet::count: count, sound.
+// Needs lalrpop_build::alphabet::Alphabet::count: count, sound.
 /// A mark for each class.
 pub fn marks(alloc: Global, alphabet: &Alphabet) -> Result<Vec<bool>, AllocError>
     ensures count { IfOk result (λ marks. length marks.items ≡ alphabet.now.count) }
@@ -24,7 +24,7 @@ pub fn marks(alloc: Global, alphabet: &Alphabet) -> Result<Vec<bool>, AllocError
     vec![in alloc; false; alphabet.count()]
 }
 
-// Needs lalrpop_alphabet::Alphabet::cell: cell.
+// Needs lalrpop_build::alphabet::Alphabet::cell: cell.
 /// The first value of a cell, and the cell's class.
 pub fn first_and_class(alphabet: &Alphabet, place: usize) -> (u64, usize)
     requires { place < length alphabet.now.cells }
@@ -35,8 +35,8 @@ pub fn first_and_class(alphabet: &Alphabet, place: usize) -> (u64, usize)
     (cell.first, cell.class)
 }
 
-// Needs lalrpop_alphabet::Alphabet::group_count: count.
-// Needs lalrpop_alphabet::Alphabet::group: group.
+// Needs lalrpop_build::alphabet::Alphabet::group_count: count.
+// Needs lalrpop_build::alphabet::Alphabet::group: group.
 /// The last group of labels, if there is one.
 pub fn last_group(alphabet: &Alphabet) -> Option<&Group>
     ensures some { IfSome result (λ group.
@@ -50,7 +50,7 @@ pub fn last_group(alphabet: &Alphabet) -> Option<&Group>
     }
 }
 
-// Needs lalrpop_alphabet::Alphabet::group: group, sound.
+// Needs lalrpop_build::alphabet::Alphabet::group: group, sound.
 /// The classes of a group, all of which are counted.
 pub fn classes_in(alphabet: &Alphabet, number: usize) -> &[usize]
     requires { number < length alphabet.now.groups }
@@ -61,7 +61,7 @@ pub fn classes_in(alphabet: &Alphabet, number: usize) -> &[usize]
     &alphabet.group(number).classes
 }
 
-// Needs lalrpop_alphabet::Alphabet::edge_groups: edge_groups, sound.
+// Needs lalrpop_build::alphabet::Alphabet::edge_groups: edge_groups, sound.
 /// The edge groups of the state.
 pub fn edge_groups_of(alphabet: &Alphabet, automaton: usize, state: NfaStateIndex) -> &[EdgeGroup]
     requires { HasState alphabet.now.nfas automaton state }
@@ -71,8 +71,8 @@ pub fn edge_groups_of(alphabet: &Alphabet, automaton: usize, state: NfaStateInde
     alphabet.edge_groups(automaton, state)
 }
 
-// Needs lalrpop_alphabet::Alphabet::edge_groups: edge_groups, sound.
-// Needs lalrpop_alphabet::Alphabet::group: group.
+// Needs lalrpop_build::alphabet::Alphabet::edge_groups: edge_groups, sound.
+// Needs lalrpop_build::alphabet::Alphabet::group: group.
 /// A state that the values of the class lead to.
 pub fn target_by(
     alphabet: &Alphabet,

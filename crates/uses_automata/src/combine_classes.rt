@@ -1,6 +1,6 @@
 //! Classes made of other classes.
 ghost use Rattle.std.specs.Prelude.{IfOk};
-ghost use Rattle.lalrpop_book.specs.Range.{Covered};
+ghost use Rattle.lalrpop_hir.specs.Range.{Covered};
 ghost use Rattle.lalrpop_hir.specs.Runs.{IsCanon, InEither, InBoth, InFirstAlone, InJustOne};
 
 use lalrpop_hir::ClassUnicode;

@@ -3,16 +3,16 @@
 ghost use Rattle.std.specs.Prelude.{◌≡◌, ◌≢◌, ◌+◌, ◌*◌, ◌^◌, ◌<◌, ◌≤◌, ◌++◌, [], ◌∷◌, None, Some, length, map, slice_get, IfSome, IfNone, IfOk, IfErr, OnOk, MatchBool, option_map};
 ghost use Rattle.std.specs.List.{filter};
 ghost use Rattle.std.specs.Str.{chars};
-ghost use Rattle.lalrpop_book.specs.Language.{Matches};
+ghost use Rattle.lalrpop_hir.specs.Language.{Matches};
 ghost use Rattle.lalrpop_hir.specs.Size.{size};
-ghost use Rattle.lalrpop_book.specs.Tree.{Tree};
+ghost use Rattle.lalrpop_hir.specs.Tree.{Tree};
 ghost use Rattle.lalrpop_nfa.specs.Compiled.{IsCompiled, HasFixedEdges};
-ghost use Rattle.lalrpop_book.specs.Fault.{fault};
+ghost use Rattle.lalrpop_hir.specs.Fault.{fault};
 ghost use Rattle.lalrpop_nfa.specs.Graph.{Graph};
-ghost use Rattle.lalrpop_book.specs.Prefix.{IsPrefix, IsLongestOf};
+ghost use Rattle.lalrpop_hir.specs.Prefix.{IsPrefix, IsLongestOf};
 ghost use Rattle.lalrpop_nfa.specs.Walk.{leaves};
 ghost use Rattle.lalrpop_nfa.specs.declared.edge.StateKind.TheVariants.{Accept, Reject};
-ghost use Rattle.lalrpop_book.specs.declared.error.NfaConstructionError.TheVariants.{OutOfMemory};
+ghost use Rattle.lalrpop_hir.specs.declared.error.NfaConstructionError.TheVariants.{OutOfMemory};
 
 use lalrpop_hir::Regex;
 use lalrpop_nfa::interpret::{interpret, interpret_counted};
@@ -40,7 +40,7 @@ pub fn compiled(alloc: Global, regex: &Regex) -> Result<Nfa, NfaConstructionErro
 }
 
 // Needs lalrpop_nfa::Nfa::from_re: ok, err.
-// Needs lalrpop_book::NfaConstructionError::from: ghost from_gives.
+// Needs lalrpop_hir::NfaConstructionError::from: ghost from_gives.
 /// Adds the automaton of the pattern to a list.
 pub fn add_compiled(
     alloc: Global,
@@ -161,7 +161,7 @@ pub fn other_target(nfa: &Nfa, state: NfaStateIndex) -> Option<NfaStateIndex>
 
 // Needs lalrpop_nfa::Nfa::from_re: ok, err.
 // Needs lalrpop_nfa::interpret: answer.
-// Needs lalrpop_book::NfaConstructionError::from: ghost from_gives.
+// Needs lalrpop_hir::NfaConstructionError::from: ghost from_gives.
 /// The longest prefix of the text that the pattern matches, or the pattern's fault.
 pub fn longest_prefix<'text>(
     alloc: Global,

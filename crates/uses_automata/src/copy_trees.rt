@@ -2,7 +2,7 @@
 ghost use Rattle.std.specs.Prelude.{◌≡◌, ◌∷◌, [], IfOk};
 ghost use Rattle.lalrpop_hir.specs.Level.{class_of, kind_tree};
 ghost use Rattle.lalrpop_hir.specs.Parts.{trees};
-ghost use Rattle.lalrpop_book.specs.Tree.{class, repetition, capture, concat};
+ghost use Rattle.lalrpop_hir.specs.Tree.{class, repetition, capture, concat};
 
 use lalrpop_hir::{Capture, Class, Hir, HirKind, Repetition};
 use std::alloc::{AllocError, Global};

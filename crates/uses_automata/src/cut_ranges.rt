@@ -2,7 +2,7 @@
 
 ghost use Rattle.std.specs.Prelude.{◌≡◌, ◌+◌, ◌-◌, ◌*◌, ◌≤◌, List, length, IfOk};
 ghost use Rattle.std.specs.List.{Contains, count_by};
-ghost use Rattle.lalrpop_book.specs.Range.{Range};
+ghost use Rattle.lalrpop_hir.specs.Range.{Range};
 ghost use Rattle.lalrpop_nfa.specs.Partition.{IsPartition, has_value};
 
 use lalrpop_nfa::overlap::{remove_overlap, remove_overlap_counted};

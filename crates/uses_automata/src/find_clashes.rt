@@ -1,9 +1,9 @@
 //! All clashes of a list of patterns with precedences.
 
 ghost use Rattle.std.specs.Prelude.{◌≡◌, ◌↔◌, ℕ, List, length, map, IfOk, IfErr, IfSome, IsTrue};
-ghost use Rattle.lalrpop_book.specs.Clash.{IsClash, NoClash};
-ghost use Rattle.lalrpop_book.specs.Clashes.{AreClashes, Entry};
-ghost use Rattle.lalrpop_book.specs.Report.{NoFault, IsFaultOf};
+ghost use Rattle.lalrpop_hir.specs.Clash.{IsClash, NoClash};
+ghost use Rattle.lalrpop_hir.specs.Clashes.{AreClashes, Entry};
+ghost use Rattle.lalrpop_hir.specs.Report.{NoFault, IsFaultOf};
 
 use lalrpop_build::{DfaConstructionError, NfaIndex, Precedence, clashes};
 use lalrpop_hir::Regex;

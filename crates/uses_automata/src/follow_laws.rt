@@ -2,14 +2,14 @@
 ghost use Rattle.std.specs.Prelude.{ℕ, ◌≡◌, ◌+◌, ◌≤◌, ◌↔◌, ◌⊎◌, List, [], ◌∷◌, IfOk};
 ghost use Rattle.std.specs.List.{Contains};
 ghost use Rattle.std.specs.Option.{option_map};
-ghost use Rattle.lalrpop_book.specs.Range.{Range, Covers};
-ghost use Rattle.lalrpop_book.specs.Tree.{Tree};
+ghost use Rattle.lalrpop_hir.specs.Range.{Range, Covers};
+ghost use Rattle.lalrpop_hir.specs.Tree.{Tree};
 ghost use Rattle.lalrpop_build.specs.Agree.{Agree};
 ghost use Rattle.lalrpop_nfa.specs.Compiled.{IsCompiled};
 ghost use Rattle.lalrpop_nfa.specs.Partition.{Alike, IsCovered, IsUniform};
 ghost use Rattle.lalrpop_dfa.specs.Dfa.{Recognizes};
 
-use lalrpop_book::NfaIndex;
+use lalrpop_hir::NfaIndex;
 use lalrpop_dfa::Dfa;
 use lalrpop_dfa::interpret::interpret;
 use lalrpop_nfa::interpret::interpret as run_alone;

@@ -3,15 +3,15 @@
 ghost use Rattle.std.specs.Prelude.{◌≡◌, ◌+◌, ◌^◌, ◌<◌, ℕ, Some, slice_get, IfOk, OnOk};
 ghost use Rattle.std.specs.List.{list_any};
 ghost use Rattle.std.specs.List.Sorted.{IsSorted};
-ghost use Rattle.lalrpop_dfa.specs.Internal.Ascending.{AreByPattern, item_cmp};
+ghost use Rattle.lalrpop_dfa.specs.Ascending.{AreByPattern, item_cmp};
 ghost use Rattle.lalrpop_build.specs.Internal.Given.{AreAutomata, AreItemsOf, IsItemOf};
-ghost use Rattle.lalrpop_dfa.specs.Internal.ItemOrder.{item_eq, set_cmp, set_eq};
-ghost use Rattle.lalrpop_dfa.specs.Internal.LiveItems.{live_of};
+ghost use Rattle.lalrpop_dfa.specs.ItemOrder.{item_eq, set_cmp, set_eq};
+ghost use Rattle.lalrpop_dfa.specs.LiveItems.{live_of};
 ghost use Rattle.lalrpop_build.specs.Internal.Subsets.{closed, move};
 ghost use Rattle.lalrpop_build.specs.Internal.Transitions.{AreTransitions, transition_cmp};
 ghost use Rattle.lalrpop_nfa.specs.Graph.{Graph};
 
-use lalrpop_book::NfaIndex;
+use lalrpop_hir::NfaIndex;
 use lalrpop_build::Transition;
 use lalrpop_build::closure::{Workspace, closure, goto};
 use lalrpop_dfa::{DfaStateIndex, Item, ItemSet};
@@ -19,8 +19,8 @@ use lalrpop_nfa::{ACCEPT, Nfa, START, StateKind};
 use std::alloc::{AllocError, Global};
 use std::cmp::Ordering;
 
-// Needs lalrpop_book::NfaIndex::new: value.
-// Needs lalrpop_book::NfaIndex::index: value.
+// Needs lalrpop_hir::NfaIndex::new: value.
+// Needs lalrpop_hir::NfaIndex::index: value.
 /// The pattern after a pattern.
 pub fn pattern_after(pattern: NfaIndex) -> NfaIndex
     requires { pattern + 1 < 2 ^ 64 }

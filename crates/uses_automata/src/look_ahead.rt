@@ -1,8 +1,8 @@
 //! How far an automaton reads past a match.
 
 ghost use Rattle.std.specs.Prelude.{◌≡◌, ℕ, ◌<◌, ◌↔◌, List, Some, length, slice_get, true, false, IfOk, IfSome};
-ghost use Rattle.lalrpop_book.specs.Tree.{Tree};
-ghost use Rattle.lalrpop_book.specs.Winners.{Matched};
+ghost use Rattle.lalrpop_hir.specs.Tree.{Tree};
+ghost use Rattle.lalrpop_hir.specs.Winners.{Matched};
 ghost use Rattle.lalrpop_dfa.specs.Dfa.{RecognizesAll};
 ghost use Rattle.lalrpop_dfa.specs.Lookahead.{Accepted, AcceptedAs, CanStayOpen, IsLookahead, LooksAtMost, ReadsAtMost, StaysOpenEver};
 

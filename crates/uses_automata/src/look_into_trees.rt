@@ -3,7 +3,7 @@ ghost use Rattle.std.specs.Prelude.{◌≡◌, ◌≢◌, ℕ, List, [], option_
 ghost use Rattle.std.specs.Str.{chars};
 ghost use Rattle.lalrpop_hir.specs.Counts.{AreOrdered};
 ghost use Rattle.lalrpop_hir.specs.Level.{kind_tree};
-ghost use Rattle.lalrpop_book.specs.Tree.{literal, repetition, capture};
+ghost use Rattle.lalrpop_hir.specs.Tree.{literal, repetition, capture};
 
 use lalrpop_hir::{Capture, Hir, HirKind, Literal, Repetition};
 

@@ -1,6 +1,6 @@
 //! Classes of characters, made of ranges, and their runs.
 ghost use Rattle.std.specs.Prelude.{◌≡◌, ◌∷◌, [], min, max, IfOk};
-ghost use Rattle.lalrpop_book.specs.Range.{Covers, Covered};
+ghost use Rattle.lalrpop_hir.specs.Range.{Covers, Covered};
 ghost use Rattle.lalrpop_hir.specs.Runs.{IsCanonical, IsCanon};
 
 use lalrpop_hir::{ClassUnicode, ClassUnicodeRange};

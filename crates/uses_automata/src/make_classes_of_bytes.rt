@@ -1,6 +1,6 @@
 //! Classes of bytes, made of ranges, and their runs.
 ghost use Rattle.std.specs.Prelude.{◌≡◌, ◌∷◌, [], min, max, IfOk};
-ghost use Rattle.lalrpop_book.specs.Range.{Covers, Covered};
+ghost use Rattle.lalrpop_hir.specs.Range.{Covers, Covered};
 ghost use Rattle.lalrpop_hir.specs.Runs.{AreByteRuns, IsByteCanon};
 
 use lalrpop_hir::{ClassBytes, ClassBytesRange};

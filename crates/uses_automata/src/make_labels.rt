@@ -1,7 +1,7 @@
 //! Ranges of values, as labels of edges: making and querying them.
 
 ghost use Rattle.std.specs.Prelude.{◌≡◌, ◌≢◌, ◌↔◌, ◌+◌, ◌-◌, ◌<◌, ◌≤◌, ◌^◌, ◌⊎◌, IsTrue, IfSome, IfNone};
-ghost use Rattle.lalrpop_book.specs.Range.{Covers};
+ghost use Rattle.lalrpop_hir.specs.Range.{Covers};
 ghost use Rattle.lalrpop_nfa.specs.Meet.{Meet};
 
 use lalrpop_hir::{ClassBytesRange, ClassUnicodeRange};

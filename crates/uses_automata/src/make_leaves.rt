@@ -1,19 +1,19 @@
 //! The trees of the leaves of a pattern, under its flags.
 ghost use Rattle.std.specs.Prelude.{◌≡◌, ◌≤◌, not, is_some, true, IfOk, IfSome};
-ghost use Rattle.lalrpop_grammar.specs.CharacterSet.{Set, range, set_tree, HasRuns};
-ghost use Rattle.lalrpop_grammar.specs.Bracket.{leaf, leaf_or_complement};
-ghost use Rattle.lalrpop_grammar.specs.GroupName.{names, are_distinct, IsFirstRepeated};
-ghost use Rattle.lalrpop_grammar.specs.Pattern.{literal_tree, dot_tree};
+ghost use Rattle.lalrpop_re.specs.CharacterSet.{Set, range, set_tree, HasRuns};
+ghost use Rattle.lalrpop_re.specs.Bracket.{leaf, leaf_or_complement};
+ghost use Rattle.lalrpop_re.specs.GroupName.{names, are_distinct, IsFirstRepeated};
+ghost use Rattle.lalrpop_re.specs.Pattern.{literal_tree, dot_tree};
 
-use lalrpop_grammar::{
+use lalrpop_re::{
     Flags, leaf_of_range, leaf_of_set, repeated_name, tree_of_character, tree_of_class, tree_of_dot,
 };
 use lalrpop_hir::{ClassUnicode, Hir};
 use std::alloc::{AllocError, Global};
 
 /// One character of a range, as a tree.
-// Needs lalrpop_grammar::leaf_of_range: runs.
-// Needs lalrpop_grammar::tree_of_class: tree.
+// Needs lalrpop_re::leaf_of_range: runs.
+// Needs lalrpop_re::tree_of_class: tree.
 pub fn from_to(alloc: Global, flags: Flags, low: char, high: char) -> Result<Hir, AllocError>
     requires { low ≤ high }
     ensures { IfOk result (λ t. t ≡ set_tree (leaf flags (range low high))) }
@@ -22,8 +22,8 @@ pub fn from_to(alloc: Global, flags: Flags, low: char, high: char) -> Result<Hir
 }
 
 /// One character that is a member, or one that isn't.
-// Needs lalrpop_grammar::leaf_of_set: runs.
-// Needs lalrpop_grammar::tree_of_class: tree.
+// Needs lalrpop_re::leaf_of_set: runs.
+// Needs lalrpop_re::tree_of_class: tree.
 pub fn member_or_other(
     alloc: Global,
     flags: Flags,
@@ -37,7 +37,7 @@ pub fn member_or_other(
 }
 
 /// One character.
-// Needs lalrpop_grammar::tree_of_character: tree.
+// Needs lalrpop_re::tree_of_character: tree.
 pub fn character(alloc: Global, flags: Flags, c: char) -> Result<Hir, AllocError>
     ensures { IfOk result (λ t. t ≡ literal_tree flags c) }
 {
@@ -45,7 +45,7 @@ pub fn character(alloc: Global, flags: Flags, c: char) -> Result<Hir, AllocError
 }
 
 /// Any character, as `.` means it.
-// Needs lalrpop_grammar::tree_of_dot: tree.
+// Needs lalrpop_re::tree_of_dot: tree.
 pub fn any_character(alloc: Global, flags: Flags) -> Result<Hir, AllocError>
     ensures { IfOk result (λ t. t ≡ dot_tree flags) }
 {
@@ -53,7 +53,7 @@ pub fn any_character(alloc: Global, flags: Flags) -> Result<Hir, AllocError>
 }
 
 /// Whether two groups of the tree have the same name.
-// Needs lalrpop_grammar::repeated_name: repeated.
+// Needs lalrpop_re::repeated_name: repeated.
 pub fn has_a_name_twice(alloc: Global, tree: &Hir) -> Result<bool, AllocError>
     ensures { IfOk result (λ twice. twice ≡ not (are_distinct (names tree.now))) }
 {
@@ -61,7 +61,7 @@ pub fn has_a_name_twice(alloc: Global, tree: &Hir) -> Result<bool, AllocError>
 }
 
 /// The number of the first group whose name an earlier group has too, counted among the named groups.
-// Needs lalrpop_grammar::repeated_name: first.
+// Needs lalrpop_re::repeated_name: first.
 pub fn group_to_rename(alloc: Global, tree: &Hir) -> Result<Option<usize>, AllocError>
     ensures { IfOk result (λ number. IfSome number (IsFirstRepeated (names tree.now))) }
 {

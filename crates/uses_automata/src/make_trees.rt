@@ -3,7 +3,7 @@ ghost use Rattle.std.specs.Prelude.{◌≡◌, ◌∷◌, [], Some, None, string
 ghost use Rattle.lalrpop_hir.specs.Counts.{AreOrdered};
 ghost use Rattle.lalrpop_hir.specs.Level.{class_of};
 ghost use Rattle.lalrpop_hir.specs.Parts.{trees, of_text};
-ghost use Rattle.lalrpop_book.specs.Tree.{empty, class, look, repetition, capture, concat, alternation};
+ghost use Rattle.lalrpop_hir.specs.Tree.{empty, class, look, repetition, capture, concat, alternation};
 
 use lalrpop_hir::{Capture, Class, Hir, Look, Repetition};
 use std::alloc::{AllocError, Global};

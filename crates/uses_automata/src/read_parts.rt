@@ -1,9 +1,9 @@
 //! Parts, and patterns in which they stand.
 ghost use Rattle.std.specs.Prelude.{◌≡◌, List, IfOk, IfErr};
 ghost use Rattle.std.specs.Str.{chars};
-ghost use Rattle.lalrpop_book.specs.Tree.{Tree};
-ghost use Rattle.lalrpop_grammar.specs.NamedPart.{NamedPart};
-ghost use Rattle.lalrpop_grammar.specs.Pattern.{Pattern, PatternWith, IsPart};
+ghost use Rattle.lalrpop_hir.specs.Tree.{Tree};
+ghost use Rattle.lalrpop_re.specs.NamedPart.{NamedPart};
+ghost use Rattle.lalrpop_re.specs.Pattern.{Pattern, PatternWith, IsPart};
 ghost use Rattle.lalrpop_re.specs.Refusal.{HasNoTreeWith, MakesNoPart, PointsInto};
 
 use lalrpop_re::{Hir, Part, RegexError, parse_with};

@@ -1,8 +1,8 @@
 //! Patterns, parsed from text.
 ghost use Rattle.std.specs.Prelude.{◌≡◌, ℕ, List, take, IfOk, IfErr, IfSome};
 ghost use Rattle.std.specs.Str.{chars, IsCharBoundary};
-ghost use Rattle.lalrpop_book.specs.Tree.{Tree};
-ghost use Rattle.lalrpop_grammar.specs.Pattern.{Pattern};
+ghost use Rattle.lalrpop_hir.specs.Tree.{Tree};
+ghost use Rattle.lalrpop_re.specs.Pattern.{Pattern};
 ghost use Rattle.lalrpop_re.specs.Refusal.{HasNoTree};
 
 use lalrpop_re::{Hir, RegexError, parse_regex};

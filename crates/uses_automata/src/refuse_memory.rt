@@ -1,12 +1,12 @@
 //! Refusals of memory other than those of parsing patterns.
 ghost use Rattle.std.specs.Prelude.{◌≡◌, ◌∷◌, [], IfErr};
 
-use lalrpop_grammar::RegexError;
+use lalrpop_re::RegexError;
 use lalrpop_hir::Hir;
 use std::alloc::Global;
 
 /// Room for the tree. The only error is refused memory.
-// Needs lalrpop_grammar::RegexError::from: ghost from_gives.
+// Needs lalrpop_re::RegexError::from: ghost from_gives.
 pub fn boxed(alloc: Global, tree: Hir) -> Result<Box<Hir>, RegexError>
     ensures { IfErr result (λ e. e ≡ RegexError.OutOfMemory) }
 {
@@ -14,7 +14,7 @@ pub fn boxed(alloc: Global, tree: Hir) -> Result<Box<Hir>, RegexError>
 }
 
 /// A text of its own. The only error is refused memory.
-// Needs lalrpop_grammar::RegexError::from: ghost from_gives.
+// Needs lalrpop_re::RegexError::from: ghost from_gives.
 pub fn kept(alloc: Global, pattern: &str) -> Result<String, RegexError>
     ensures { IfErr result (λ e. e ≡ RegexError.OutOfMemory) }
 {

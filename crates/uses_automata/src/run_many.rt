@@ -3,14 +3,14 @@
 ghost use Rattle.std.specs.Prelude.{◌≢◌, ℕ, ◌+◌, ◌*◌, ◌^◌, ◌<◌, ◌≤◌, [], length, List, IfSome};
 ghost use Rattle.std.specs.Option.{option_map};
 ghost use Rattle.std.specs.Str.{chars};
-ghost use Rattle.lalrpop_book.specs.Tree.{Tree};
-ghost use Rattle.lalrpop_book.specs.Prefix.{IsPrefix};
+ghost use Rattle.lalrpop_hir.specs.Tree.{Tree};
+ghost use Rattle.lalrpop_hir.specs.Prefix.{IsPrefix};
 ghost use Rattle.lalrpop_dfa.specs.Counts.{HaveAtMost};
 ghost use Rattle.lalrpop_dfa.specs.Dfa.{Recognizes};
-ghost use Rattle.lalrpop_book.specs.Longest.{IsLongest};
+ghost use Rattle.lalrpop_hir.specs.Longest.{IsLongest};
 ghost use Rattle.lalrpop_dfa.specs.Lookahead.{ReadsAtMost};
 
-use lalrpop_book::NfaIndex;
+use lalrpop_hir::NfaIndex;
 use lalrpop_dfa::Dfa;
 use lalrpop_dfa::interpret::{interpret, interpret_counted, interpret_probed};
 use lalrpop_nfa::Steps;

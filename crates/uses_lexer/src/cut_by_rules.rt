@@ -1,7 +1,7 @@
 //! A text is cut to its end by named rules.
 ghost use Rattle.std.specs.Prelude.{◌≡◌, ◌≤◌, ◌++◌, List, false, IfOk, IfSome, length};
 ghost use Rattle.std.specs.Str.{chars};
-ghost use Rattle.lalrpop_book.specs.Tokens.{AreTokens};
+ghost use Rattle.lalrpop_hir.specs.Tokens.{AreTokens};
 ghost use Rattle.lalrpop_rules.specs.Pieces.{ArePieces, AreApart, joined, up_to_fault};
 ghost use Rattle.lalrpop_rules.specs.declared.item.Item.{Item as ItemValue};
 

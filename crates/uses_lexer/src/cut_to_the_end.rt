@@ -1,7 +1,7 @@
 //! A text is cut to its end.
 ghost use Rattle.std.specs.Prelude.{◌≡◌, ◌≤◌, ◌++◌, ℕ, List, Bool, false, IfSome, length};
 ghost use Rattle.std.specs.Str.{chars};
-ghost use Rattle.lalrpop_book.specs.Tokens.{AreTokens};
+ghost use Rattle.lalrpop_hir.specs.Tokens.{AreTokens};
 ghost use Rattle.lalrpop_lexer.specs.Rules.{Rules};
 ghost use Rattle.lalrpop_rules.specs.Pieces.{IsPiece, ArePieces, AreApart, joined, up_to_fault};
 ghost use Rattle.lalrpop_rules.specs.declared.item.Item.{Item as ItemValue};

@@ -2,7 +2,7 @@
 ghost use Rattle.std.specs.Prelude.{◌≡◌, ◌++◌, ◌⊎◌, List, ℕ, [], true, false, length, string_bytes, take, slice_get, Some, IfOk, OnOk, IfSome, IfNone};
 ghost use Rattle.std.specs.Borrow.{Bor};
 ghost use Rattle.std.specs.Str.{chars};
-ghost use Rattle.lalrpop_book.specs.Winners.{Matched};
+ghost use Rattle.lalrpop_hir.specs.Winners.{Matched};
 ghost use Rattle.lalrpop_edits.specs.Chunked.{Came, IsHeldBack, BeginsFault};
 ghost use Rattle.lalrpop_modes.specs.Modes.{ArePiecesFrom, ModeRules, trees_in};
 ghost use Rattle.lalrpop_rules.specs.Found.{MatchesAt};

@@ -1,7 +1,7 @@
 //! The leftmost longest match anywhere in a text.
 ghost use Rattle.std.specs.Prelude.{◌≡◌, ℕ, true, Some, IfSome, IfNone, length, slice_get};
 ghost use Rattle.lalrpop_rules.specs.Found.{MatchesAt, IsFound, NothingFound};
-ghost use Rattle.lalrpop_book.specs.declared.token.Token.{Token as TokenValue};
+ghost use Rattle.lalrpop_hir.specs.declared.token.Token.{Token as TokenValue};
 
 use lalrpop_lexer::Lexer;
 use lalrpop_rules::{RuleLexer, find};

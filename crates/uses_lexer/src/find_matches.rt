@@ -4,13 +4,13 @@ ghost use Rattle.std.specs.Prelude.{◌≡◌, ◌≢◌, ℕ, ◌+◌, ◌*◌,
 ghost use Rattle.std.specs.Option.{option_map};
 ghost use Rattle.std.specs.Char.{encode_utf8};
 ghost use Rattle.std.specs.Str.{chars};
-ghost use Rattle.lalrpop_book.specs.Longest.{IsLongest};
-ghost use Rattle.lalrpop_book.specs.Prefix.{IsPrefix};
-ghost use Rattle.lalrpop_book.specs.Tree.{Tree};
+ghost use Rattle.lalrpop_hir.specs.Longest.{IsLongest};
+ghost use Rattle.lalrpop_hir.specs.Prefix.{IsPrefix};
+ghost use Rattle.lalrpop_hir.specs.Tree.{Tree};
 ghost use Rattle.lalrpop_lexer.specs.Matching.{characters_of, open_states, rest_of};
 ghost use Rattle.lalrpop_dfa.specs.Dfa.{Recognizes};
 ghost use Rattle.lalrpop_dfa.specs.Lookahead.{ReadsAtMost};
-ghost use Rattle.lalrpop_book.specs.Clash.{NoClash};
+ghost use Rattle.lalrpop_hir.specs.Clash.{NoClash};
 
 use lalrpop_dense::DenseDfa;
 use lalrpop_dfa::NfaIndex;

@@ -1,7 +1,7 @@
 //! Writes tokens so that they are cut again.
 ghost use Rattle.std.specs.Prelude.{◌≡◌, ◌∷◌, ◌++◌, [], ℕ, List, map, not, true, ◌==◌, IfOk, IfErr, string_bytes};
 ghost use Rattle.std.specs.List.{filter};
-ghost use Rattle.lalrpop_book.specs.Tokens.{AreTokens};
+ghost use Rattle.lalrpop_hir.specs.Tokens.{AreTokens};
 ghost use Rattle.lalrpop_lexer.specs.Joined.{IsJoinError, plain};
 ghost use Rattle.lalrpop_lexer.specs.Neighbours.{IsWhole, placed, text_of};
 

@@ -1,11 +1,11 @@
 //! Named rules, and their lexer.
 ghost use Rattle.std.specs.Prelude.{◌≡◌, ◌≢◌, ℕ, true, false, List, length, IfOk, IfErr, IfSome, IsSome, slice_get, Some};
 ghost use Rattle.std.specs.Str.{chars};
-ghost use Rattle.lalrpop_book.specs.Clash.{NoClash};
-ghost use Rattle.lalrpop_book.specs.Report.{NoFault};
-ghost use Rattle.lalrpop_book.specs.Tokens.{IsToken};
-ghost use Rattle.lalrpop_book.specs.Tree.{Tree};
-ghost use Rattle.lalrpop_book.specs.declared.token.Token.{Token as TokenValue};
+ghost use Rattle.lalrpop_hir.specs.Clash.{NoClash};
+ghost use Rattle.lalrpop_hir.specs.Report.{NoFault};
+ghost use Rattle.lalrpop_hir.specs.Tokens.{IsToken};
+ghost use Rattle.lalrpop_hir.specs.Tree.{Tree};
+ghost use Rattle.lalrpop_hir.specs.declared.token.Token.{Token as TokenValue};
 ghost use Rattle.lalrpop_lexer.specs.Parts.{of_text};
 ghost use Rattle.lalrpop_lexer.specs.Pattern.{Pattern};
 ghost use Rattle.lalrpop_rules.specs.Found.{IsFound};

@@ -1,15 +1,15 @@
 //! Patterns up to the first end, as of a comment.
 ghost use Rattle.std.specs.Prelude.{◌≡◌, ◌≢◌, ℕ, ◌≤◌, ◌↔◌, List, [], All, None, length, chars, codes, true, IfOk};
-ghost use Rattle.lalrpop_delimited.specs.Fault.{fault};
-ghost use Rattle.lalrpop_delimited.specs.Language.{Matches};
-ghost use Rattle.lalrpop_delimited.specs.Runs.{IsScalar};
-ghost use Rattle.lalrpop_delimited.specs.UpTo.{IsFromTo};
+ghost use Rattle.lalrpop_re.specs.Fault.{fault};
+ghost use Rattle.lalrpop_re.specs.Language.{Matches};
+ghost use Rattle.lalrpop_re.specs.Runs.{IsScalar};
+ghost use Rattle.lalrpop_re.specs.UpTo.{IsFromTo};
 
-use lalrpop_delimited::{FromToError, from_to};
+use lalrpop_re::{FromToError, from_to};
 use lalrpop_lexer::lexer::re::Regex;
 use std::alloc::{AllocError, Global};
 
-// Needs lalrpop_delimited::from_to: tree, no_fault.
+// Needs lalrpop_re::from_to: tree, no_fault.
 /// The pattern of a block comment. Each text from `/*` up to the first `*/` is a word of it, and nothing else is; it can be compiled.
 ///
 /// # Errors
@@ -26,7 +26,7 @@ pub fn block_comment(alloc: Global) -> Result<Regex, AllocError>
     }
 }
 
-// Needs lalrpop_delimited::from_to: empty, long.
+// Needs lalrpop_re::from_to: empty, long.
 /// Whether `to` is an end that a pattern can have.
 pub fn can_end(alloc: Global, to: &str) -> bool
     ensures some { result ≡ true → to.now ≢ [] }

@@ -1,6 +1,6 @@
 -- The lexer is lent on to a function, and the number is passed on.
 use Rattle.bajofeki_c.proofs.Walking.{◌≡◌, [], ◌∷◌, refl, w64, proved, id⊢, ftrue, flft, named, vptr, vint, fact, tables, ‵, raw, ◌⊛◌, some, later, prop, ◌$◌, ◌∵◌, !, qed, done, move, drop, use1, use2, split, fsplit, join, fjoin, pick, await, regoal, suffices, frame, group, enter, of_opd, addr, stop, no_more, and_then, returns, alloc_all, pass_all, free_all, look_at, get, through, sets, lands_as, usize, bool, yes, Is, shows, uint_vals, uint_Tells, Ptr, RawPtr, block_ptr, in_a_block, rawptr_vals, rawptr_Tells, ShrRef, plain, nothing, heard, peeks, calls_at, lasts, triple_of, Stays, walk_of, says, stay_dropped, Goes-dropped, ends_at, framed, WpFn}
-use Rattle.std.proofs.Common.{◌++◌}
+use Rattle.std.proofs.Common.{◌++◌, Bool}
 use denote.RattleType.{owns}
 use denote.Signature.{types_at}
 use denote.Struct.Lending.{lent_at}
@@ -8,7 +8,6 @@ use Rattle.bajofeki_c.specs.Room.{seen_at}
 use Rattle.bajofeki_c.specs.contracts.held.Held.{the_row}
 use Rattle.bajofeki_c.proofs.Seen.{seen, none_at_null, lent_out}
 use denote.Plain.{bool_Lawful}
-use Rattle.std.proofs.Common.{Bool}
 use Rattle.bajofeki_c.specs.Rules.{skips_rule}
 use Rattle.bajofeki_c.specs.contracts.bajofeki_skips as f
 use Rattle.bajofeki_c.proofs.bajofeki_skips.Statement.{statement}

@@ -3,9 +3,9 @@ use Rattle.std.proofs.Common.{◌≡◌, ◌≢◌, ℕ, zero, suc, ◌<◌, ◌
 use Rattle.std.specs.Prelude.{◌↔◌, map, slice_get}
 use Rattle.std.specs.List.{Contains}
 use Rattle.std.proofs.lemmas.Bool.{lt-leb}
-use Rattle.lalrpop_book.specs.Word.{IsWord, FirstDifferenceLess, Shortlex}
-use Rattle.lalrpop_book.specs.Range.{Range, Covers}
-use Rattle.lalrpop_book.specs.Tree.{Tree, empty, literal, class, unicode, alternation, none, also}
+use Rattle.lalrpop_hir.specs.Word.{IsWord, FirstDifferenceLess, Shortlex}
+use Rattle.lalrpop_hir.specs.Range.{Range, Covers}
+use Rattle.lalrpop_hir.specs.Tree.{Tree, empty, literal, class, unicode, alternation, none, also}
 use Rattle.lalrpop_nfa.specs.Graph.{Graph, Lists}
 use Rattle.lalrpop_nfa.specs.Path.{IsUntested, Path, here, epsilon, read, otherwise, noop, test, other}
 use Rattle.lalrpop_nfa.specs.Compiled.{IsLabel, IsCompiled}

@@ -1,8 +1,8 @@
 -- The values from boundary to boundary, where the boundaries are cells of an alphabet.
 use Rattle.std.specs.Prelude.{ℕ, ◌-◌, Bool, false, nat_lt, cond, List, [], ◌∷◌, ◌++◌, length, slice_get, Option, Some, None}
 use Rattle.std.proofs.Common.{get_or, zero, suc}
-use Rattle.lalrpop_book.specs.Range.{Range}
-use Rattle.lalrpop_alphabet.specs.declared.Cell.{Cell}
+use Rattle.lalrpop_hir.specs.Range.{Range}
+use Rattle.lalrpop_build.specs.declared.alphabet.Cell.{Cell}
 use Rattle.lalrpop_build.specs.declared.build.scratch.Transitions.{Transitions}
 
 -- values that lie in the same labels, and the class of the first of them

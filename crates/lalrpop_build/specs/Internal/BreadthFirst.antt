@@ -1,7 +1,7 @@
 -- Sets of items numbered in the order in which they are first met.
 use Rattle.std.specs.Prelude.{◌≡◌, ℕ, ◌<◌, ◌≤◌, ◌⊎◌, List, [], ◌∷◌, ◌++◌, length, Bool, true}
 use Rattle.std.proofs.Common.{get_or, zero, suc}
-use Rattle.lalrpop_book.specs.Word.{Shortlex}
+use Rattle.lalrpop_hir.specs.Word.{Shortlex}
 
 -- the word is at most the other in the shortlex order
 abbrev pub ShortlexAtMost : List ℕ → List ℕ → Type 0

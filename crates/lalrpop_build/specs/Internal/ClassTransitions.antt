@@ -3,10 +3,10 @@ use Rattle.std.specs.Prelude.{◌≡◌, ℕ, ◌<◌, ◌⊎◌, ◌↔◌, Lis
 use Rattle.std.specs.List.{Contains}
 use Rattle.std.specs.Cmp.Lexicographic.{slice_cmp}
 use Rattle.std.specs.declared.cmp.Ordering.{Ordering}
-use Rattle.lalrpop_book.specs.Range.{Range}
+use Rattle.lalrpop_hir.specs.Range.{Range}
 use Rattle.lalrpop_nfa.specs.Graph.{Graph}
-use Rattle.lalrpop_alphabet.specs.Internal.Alphabet.{Classes, LeadsBy, HasBoundaryAt, IsEndOf, IsInCell, IsFirstOf}
-use Rattle.lalrpop_alphabet.specs.declared.Cell.{Cell}
+use Rattle.lalrpop_build.specs.Internal.Alphabet.{Classes, LeadsBy, HasBoundaryAt, IsEndOf, IsInCell, IsFirstOf}
+use Rattle.lalrpop_build.specs.declared.alphabet.Cell.{Cell}
 use Rattle.lalrpop_dfa.specs.Automata.{Item}
 use Rattle.lalrpop_build.specs.Items.{IsLeaving}
 use Rattle.lalrpop_build.specs.declared.transitions.Transition.{Transition}

@@ -3,12 +3,12 @@ use Rattle.std.specs.Prelude.{◌≡◌, ◌≢◌, ℕ, ◌+◌, ◌<◌, ◌�
 use Rattle.std.proofs.Common.{zero, suc}
 use Rattle.std.specs.List.{Contains}
 use Rattle.std.specs.BTreeMap.{BTreeMap, get}
-use Rattle.lalrpop_book.specs.Range.{Range, Covers}
-use Rattle.lalrpop_book.specs.Tree.{Tree}
+use Rattle.lalrpop_hir.specs.Range.{Range, Covers}
+use Rattle.lalrpop_hir.specs.Tree.{Tree}
 use Rattle.lalrpop_nfa.specs.Graph.{Graph}
-use Rattle.lalrpop_book.specs.Fault.{fault}
+use Rattle.lalrpop_hir.specs.Fault.{fault}
 use Rattle.lalrpop_nfa.specs.Compiled.{IsCompiled, HasFixedEdges}
-use Rattle.lalrpop_book.specs.Clash.{IsClash}
+use Rattle.lalrpop_hir.specs.Clash.{IsClash}
 use Rattle.lalrpop_dfa.specs.Dfa.{Row}
 use Rattle.lalrpop_dfa.specs.Automata.{Item}
 use Rattle.lalrpop_build.specs.Items.{IsLeaving}
@@ -20,10 +20,10 @@ use Rattle.lalrpop_build.specs.declared.build.sets.Sets.{Sets}
 use Rattle.lalrpop_build.specs.Internal.BreadthFirst.{IsBreadthFirst, nth, value_of}
 use Rattle.lalrpop_build.specs.Internal.Built.{subset_automaton, IsRowOf, IsTied}
 use Rattle.lalrpop_nfa.specs.Partition.{IsPartition}
-use Rattle.lalrpop_book.specs.declared.error.NfaConstructionError.{NfaConstructionError}
-use Rattle.lalrpop_book.specs.declared.error.NfaConstructionError.TheVariants.{OutOfMemory as NoMemory}
-use Rattle.lalrpop_book.specs.declared.error.DfaConstructionError.{DfaConstructionError}
-use Rattle.lalrpop_book.specs.declared.error.DfaConstructionError.TheVariants.{NfaConstructionError as Refused, Ambiguity, OutOfMemory}
+use Rattle.lalrpop_hir.specs.declared.error.NfaConstructionError.{NfaConstructionError}
+use Rattle.lalrpop_hir.specs.declared.error.NfaConstructionError.TheVariants.{OutOfMemory as NoMemory}
+use Rattle.lalrpop_hir.specs.declared.error.DfaConstructionError.{DfaConstructionError}
+use Rattle.lalrpop_hir.specs.declared.error.DfaConstructionError.TheVariants.{NfaConstructionError as Refused, Ambiguity, OutOfMemory}
 
 -- the set has the number j: it already had it, or it was added last, with its origin
 abbrev pub AddedTo : List (List Item) → List (ℕ × ℕ) → ℕ → ℕ → List Item → ℕ → List (List Item) → List (ℕ × ℕ) → Type 0

@@ -5,9 +5,9 @@ use Rattle.lalrpop_nfa.specs.Graph.{Graph}
 use Rattle.lalrpop_nfa.specs.Partition.{IsPartition}
 use Rattle.lalrpop_dfa.specs.Automata.{Item}
 use Rattle.lalrpop_build.specs.Items.{IsLeaving}
-use Rattle.lalrpop_alphabet.specs.Internal.Alphabet.{Classes, HasBoundary, IsInCell, IsSound}
-use Rattle.lalrpop_alphabet.specs.declared.Cell.{Cell}
-use Rattle.lalrpop_alphabet.specs.declared.Group.{Group}
+use Rattle.lalrpop_build.specs.Internal.Alphabet.{Classes, HasBoundary, IsInCell, IsSound}
+use Rattle.lalrpop_build.specs.declared.alphabet.Cell.{Cell}
+use Rattle.lalrpop_build.specs.declared.alphabet.Group.{Group}
 use Rattle.lalrpop_build.specs.Internal.Blocks.{Block, blocks_of}
 use Rattle.lalrpop_build.specs.Internal.ClassTransitions.{HaveNoEdges, AreBelow, HaveTransitions}
 use Rattle.lalrpop_build.specs.declared.build.scratch.Boundaries.{Boundaries}

@@ -6,7 +6,7 @@ use Rattle.lalrpop_build.specs.Internal.Given.{AreAutomata, AreItemsOf}
 use Rattle.lalrpop_build.specs.Internal.Subsets.{move}
 use Rattle.lalrpop_build.specs.Internal.Transitions.{AreTransitions}
 use Rattle.lalrpop_dfa.specs.Internal.Written.{Written}
-use Rattle.lalrpop_alphabet.specs.declared.Cell.{Cell}
+use Rattle.lalrpop_build.specs.declared.alphabet.Cell.{Cell}
 use Rattle.lalrpop_build.specs.Internal.Blocks.{has_edges}
 use Rattle.lalrpop_build.specs.Internal.Expansion.{AddedTo, IsBuiltTo}
 use Rattle.lalrpop_build.specs.Internal.Labelled.{Labelled}

@@ -2,7 +2,7 @@
 use Rattle.std.specs.Prelude.{◌≡◌, ℕ, ◌<◌, ◌≤◌, ◌⊎◌, ◌↔◌, List, [], ◌∷◌, ◌++◌, length, slice_get, slice_index, Some}
 use Rattle.std.specs.List.{Contains}
 use Rattle.std.specs.BTreeSet.{BTreeSet}
-use Rattle.lalrpop_book.specs.Clashes.{Entry, AreInOrder}
+use Rattle.lalrpop_hir.specs.Clashes.{Entry, AreInOrder}
 
 -- some entry has this pair
 abbrev pub HasPair : List Entry → ℕ → ℕ → Type 0

@@ -4,11 +4,11 @@ use Rattle.std.specs.Prelude.{◌≡◌, ℕ, ◌↔◌, List, slice_get, Some}
 use Rattle.std.specs.List.{Contains}
 use Rattle.std.specs.Ordering.{nat_cmp, ordering_then}
 use Rattle.std.specs.declared.cmp.Ordering.{Ordering}
-use Rattle.lalrpop_book.specs.Range.{Range, Covers}
+use Rattle.lalrpop_hir.specs.Range.{Range, Covers}
 use Rattle.lalrpop_nfa.specs.Graph.{Graph}
 use Rattle.lalrpop_nfa.specs.Path.{test}
 use Rattle.lalrpop_dfa.specs.Automata.{Item}
-use Rattle.lalrpop_dfa.specs.Internal.Ascending.{item_cmp}
+use Rattle.lalrpop_dfa.specs.Ascending.{item_cmp}
 use Rattle.lalrpop_build.specs.declared.transitions.Transition.{Transition}
 
 -- first by the item, then by the state that the edge leads to

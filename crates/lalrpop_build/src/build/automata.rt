@@ -5,7 +5,7 @@
 ghost use Rattle.std.specs.Prelude.{◌≡◌, ℕ, ◌<◌, ◌↔◌, length, map, slice_get, Some, IfOk, IfErr, OnOk};
 ghost use Rattle.std.specs.List.{Contains};
 ghost use Rattle.std.specs.List.Sorted.{IsSorted};
-ghost use Rattle.lalrpop_dfa.specs.Internal.Ascending.{AreAscendingItems};
+ghost use Rattle.lalrpop_dfa.specs.Ascending.{AreAscendingItems};
 ghost use Rattle.lalrpop_build.specs.Internal.Given.{AreAutomata, AreItemsOf};
 ghost use Rattle.lalrpop_build.specs.Internal.Subsets.{move, starts_from, first_set_of};
 ghost use Rattle.lalrpop_build.specs.Internal.Transitions.{transition_cmp, AreTransitions};
@@ -17,7 +17,7 @@ use super::best::{Tie, kind_of, strongest_of};
 use super::scratch::Scratch;
 use crate::closure::{Workspace, closure, goto};
 use crate::{Kind, NfaIndex, Precedence, Transition};
-use lalrpop_alphabet::{Alphabet, Cell};
+use crate::alphabet::{Alphabet, Cell};
 use lalrpop_dfa::{Item, ItemSet};
 use lalrpop_nfa::{Nfa, START};
 use std::alloc::{AllocError, Global};
@@ -32,7 +32,7 @@ pub(crate) struct Automata<'nfas> {
 
 impl<'nfas> Model for Automata<'nfas> {
     ghost use Rattle.lalrpop_build.specs.Internal.Given.{AreAutomata};
-    ghost use Rattle.lalrpop_alphabet.specs.Internal.Alphabet.{IsAlphabetOf};
+    ghost use Rattle.lalrpop_build.specs.Internal.Alphabet.{IsAlphabetOf};
     ghost use Rattle.lalrpop_build.specs.Internal.Labelled.{Labelled};
 
     ghost Value = { Labelled };

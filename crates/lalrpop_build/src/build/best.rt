@@ -2,7 +2,7 @@
 
 ghost use Rattle.std.specs.Prelude.{◌≡◌, ℕ, ◌<◌, ◌==◌, ◌↔◌, map, length, IfOk, IfErr};
 ghost use Rattle.std.specs.List.{Contains};
-ghost use Rattle.lalrpop_dfa.specs.Internal.Ascending.{AreAscendingItems};
+ghost use Rattle.lalrpop_dfa.specs.Ascending.{AreAscendingItems};
 ghost use Rattle.lalrpop_build.specs.Internal.Given.{IsItemOf, AreAutomata, AreItemsOf};
 ghost use Rattle.lalrpop_build.specs.Internal.Best.{IsBest, accepts, accepts_with, raised};
 ghost use Rattle.lalrpop_build.specs.Internal.Built.{IsKindOf, IsStrongestIn, IsTied};

@@ -4,7 +4,7 @@ ghost use Rattle.std.specs.Prelude.{◌≡◌, ◌-◌, ◌^◌, ◌↔◌, IsTr
 
 use super::origin::Origin;
 use crate::DfaStateIndex;
-use lalrpop_alphabet::Cell;
+use crate::alphabet::Cell;
 use lalrpop_dfa::RowWriter;
 use lalrpop_nfa::Test;
 use std::alloc::AllocError;

@@ -3,7 +3,7 @@ ghost use Rattle.std.specs.Prelude.{◌≡◌, ◌<◌, length, IfOk, IfErr};
 ghost use Rattle.lalrpop_build.specs.Internal.Given.{AreFixed};
 ghost use Rattle.lalrpop_build.specs.Internal.Expansion.{IsRefusalOf, NoFaultBefore, IsCompiledAt};
 ghost use Rattle.lalrpop_dfa.specs.Automata.{AreCompiled};
-ghost use Rattle.lalrpop_book.specs.Report.{NoFault, IsFaultOf};
+ghost use Rattle.lalrpop_hir.specs.Report.{NoFault, IsFaultOf};
 
 use crate::{DfaConstructionError, NfaIndex};
 use lalrpop_hir::Regex;

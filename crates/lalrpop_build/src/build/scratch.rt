@@ -3,14 +3,14 @@
 ghost use Rattle.std.specs.Prelude.{◌≡◌, ℕ, ◌<◌, ◌⊎◌, ◌↔◌, [], length, slice_get, not, IfOk, OnOk};
 ghost use Rattle.lalrpop_build.specs.Internal.Blocks.{has_edges};
 ghost use Rattle.std.specs.List.{Contains};
-ghost use Rattle.lalrpop_alphabet.specs.Internal.Alphabet.{HasState, HasBoundary, LeadsBy, HasBoundaryAt, IsAlphabetOf};
+ghost use Rattle.lalrpop_build.specs.Internal.Alphabet.{HasState, HasBoundary, LeadsBy, HasBoundaryAt, IsAlphabetOf};
 ghost use Rattle.lalrpop_build.specs.Internal.Given.{AreAutomata, AreItemsOf};
 ghost use Rattle.lalrpop_build.specs.Internal.Scratch.{AreNoted, AreMarked, AreUnmarked, HoldMarked, IsTidy, StaysTidy, IsCleared, IsScratchOf, IsFilled};
 ghost use Rattle.lalrpop_dfa.specs.Automata.{Item as ItemValue};
 ghost use Rattle.lalrpop_build.specs.Internal.ClassTransitions.{HaveNoEdges, AreBelow, Gained, AreGathered, AreBoundariesOf};
 
 use crate::Transition;
-use lalrpop_alphabet::Alphabet;
+use crate::alphabet::Alphabet;
 use lalrpop_dfa::{Item, ItemSet};
 use lalrpop_nfa::{Nfa, NfaStateIndex};
 use std::alloc::{AllocError, Global};

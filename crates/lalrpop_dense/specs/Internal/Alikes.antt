@@ -1,6 +1,6 @@
 -- States that lead most values where an earlier state leads them.
 use Rattle.std.specs.Prelude.{◌≡◌, ℕ, ◌-◌, ◌≤◌, List, length, drop, slice_get, Some}
-use Rattle.lalrpop_book.specs.Range.{Range}
+use Rattle.lalrpop_hir.specs.Range.{Range}
 use Rattle.lalrpop_dfa.specs.Dfa.{Row, step}
 use Rattle.lalrpop_dense.specs.declared.alike.Alike.{Alike}
 

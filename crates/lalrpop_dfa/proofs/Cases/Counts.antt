@@ -1,6 +1,6 @@
 -- Cases of specs/Counts.antt.
 use Rattle.std.proofs.Common.{◌≡◌, ℕ, zero, suc, ◌≤◌, [], ◌∷◌, length, Some, refl, subst, arith}
-use Rattle.lalrpop_book.specs.Tree.{empty, literal}
+use Rattle.lalrpop_hir.specs.Tree.{empty, literal}
 use Rattle.lalrpop_dfa.specs.Dfa.{Row}
 use Rattle.lalrpop_dfa.specs.Counts.{state_bound, HaveAtMost}
 use Rattle.lalrpop_dfa.proofs.Cases.Dfa.{automaton_of_a}

@@ -1,7 +1,7 @@
 -- Cases of specs/ItemOrder.antt.
 use Rattle.std.proofs.Common.{◌≡◌, [], ◌∷◌, true, false, refl}
 use Rattle.std.specs.declared.cmp.Ordering.TheVariants.{Less, Equal, Greater}
-use Rattle.lalrpop_dfa.specs.Internal.ItemOrder.{item_eq, rejects_cmp, hash_of, items_cmp, set_cmp, set_eq}
+use Rattle.lalrpop_dfa.specs.ItemOrder.{item_eq, rejects_cmp, hash_of, items_cmp, set_cmp, set_eq}
 
 same_item : item_eq (1, 2) (1, 2) ≡ true
 same_item = refl

@@ -1,6 +1,6 @@
 -- Cases of specs/LiveItems.antt.
 use Rattle.std.proofs.Common.{◌≡◌, [], ◌∷◌, true, false, refl}
-use Rattle.lalrpop_dfa.specs.Internal.LiveItems.{is_live, live_of, rejects_of}
+use Rattle.lalrpop_dfa.specs.LiveItems.{is_live, live_of, rejects_of}
 
 -- ACCEPT of the first pattern, and START of the second
 live_items : (is_live (0, 0) ≡ true) × (is_live (1, 2) ≡ true)

@@ -1,6 +1,6 @@
 -- Cases of specs/Witness.antt: two words, `a` and `abc`.
 use Rattle.std.proofs.Common.{◌≡◌, ◌≢◌, ℕ, ◌⊎◌, inl, inr, List, [], ◌∷◌, ◌++◌, length, refl, ap, lit≤, arith, length-append}
-use Rattle.lalrpop_book.specs.Word.{Shortlex}
+use Rattle.lalrpop_hir.specs.Word.{Shortlex}
 use Rattle.lalrpop_dfa.specs.Witness.{IsOpenMatch, IsWitness}
 
 abbrev Two : List ℕ → Type 0

@@ -1,6 +1,6 @@
 -- Values by which a match runs on into the next one, and where to look for them.
 use Rattle.std.specs.Prelude.{◌≡◌, ℕ, ◌+◌, ◌<◌, ◌⊎◌, List, slice_get, Some, IsSomeAnd, Bool}
-use Rattle.lalrpop_book.specs.Range.{Range}
+use Rattle.lalrpop_hir.specs.Range.{Range}
 use Rattle.lalrpop_dfa.specs.Dfa.{Row, step}
 use Rattle.lalrpop_dfa.specs.Internal.Marks.{IsAcceptingAs, Marked}
 

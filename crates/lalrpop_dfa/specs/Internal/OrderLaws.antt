@@ -9,9 +9,9 @@ use Rattle.std.proofs.Common.{arith}
 use Rattle.std.proofs.lemmas.Bool.Decides.{nat_tests}
 use Rattle.std.proofs.lemmas.Cmp.{then_total, on_total, back_total, eq_by_cmp_equiv, and_equiv, on_equiv, nat_cmp_total, nat_eq_equiv}
 use Rattle.lalrpop_dfa.specs.Automata.{Item}
-use Rattle.lalrpop_dfa.specs.Internal.Ascending.{item_cmp}
-use Rattle.lalrpop_dfa.specs.Internal.LiveItems.{live_of, rejects_of}
-use Rattle.lalrpop_dfa.specs.Internal.ItemOrder.{item_eq, rejects_cmp, hash_of, items_cmp, set_cmp, set_eq}
+use Rattle.lalrpop_dfa.specs.Ascending.{item_cmp}
+use Rattle.lalrpop_dfa.specs.LiveItems.{live_of, rejects_of}
+use Rattle.lalrpop_dfa.specs.ItemOrder.{item_eq, rejects_cmp, hash_of, items_cmp, set_cmp, set_eq}
 
 pub item_total : IsTotalOrder item_cmp
 item_total = then_total (on_total (λ (x : Item). x.0) nat_cmp_total) (on_total (λ (x : Item). x.1) nat_cmp_total)

@@ -1,7 +1,7 @@
 -- States with ranks, and the least values and words that lead to states of some ranks.
 use Rattle.std.specs.Prelude.{◌≡◌, ℕ, ◌<◌, ◌≤◌, ◌⊎◌, ◌↔◌, List, [], ◌∷◌, length, slice_index, count_by, ◌==◌, Option, Some, None}
 use Rattle.std.proofs.Common.{zero, suc}
-use Rattle.lalrpop_book.specs.Word.{IsWord}
+use Rattle.lalrpop_hir.specs.Word.{IsWord}
 use Rattle.lalrpop_dfa.specs.Dfa.{Row, step, run, IsWellFormed}
 use Rattle.lalrpop_dfa.specs.Lookahead.{IsAccepting}
 use Rattle.lalrpop_dfa.specs.Internal.Marks.{IsWaiting, WaitsAlong}

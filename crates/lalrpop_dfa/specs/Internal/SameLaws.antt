@@ -2,7 +2,7 @@
 use Rattle.std.specs.Prelude.{◌≡◌, ℕ, true, refl}
 use Rattle.std.specs.Cmp.{IsEquivalence}
 use Rattle.std.proofs.lemmas.Cmp.{and_equiv, on_equiv, lists_equiv, nat_eq_equiv}
-use Rattle.lalrpop_book.specs.Range.{Range}
+use Rattle.lalrpop_hir.specs.Range.{Range}
 use Rattle.lalrpop_dfa.specs.Dfa.{Row, StoredState, bare}
 use Rattle.lalrpop_dfa.specs.SameAutomata.{same_kind, same_test, same_state, same_row, same_automaton}
 use Rattle.lalrpop_dfa.specs.declared.Kind.{Kind}

@@ -2,10 +2,10 @@
 use Rattle.std.proofs.Common.{◌≡◌, ℕ, zero, suc, ◌+◌, ◌⊎◌, inl, inr, List, [], ◌∷◌, length, take, drop, get_or, codes, refl, sym, ap, subst, arith}
 use Rattle.std.specs.Prelude.{Some, None}
 use Rattle.std.specs.Str.{chars, IsUtf8}
-use Rattle.lalrpop_book.specs.Tree.{Tree, literal, alternation, none}
-use Rattle.lalrpop_book.specs.Language.{Matches}
-use Rattle.lalrpop_book.specs.Winners.{TreeMatches, Matched}
-use Rattle.lalrpop_book.specs.Longest.{IsMatch}
+use Rattle.lalrpop_hir.specs.Tree.{Tree, literal, alternation, none}
+use Rattle.lalrpop_hir.specs.Language.{Matches}
+use Rattle.lalrpop_hir.specs.Winners.{TreeMatches, Matched}
+use Rattle.lalrpop_hir.specs.Longest.{IsMatch}
 use Rattle.lalrpop_rules.specs.Found.{MatchesAt}
 use Rattle.lalrpop_modes.specs.declared.action.Action.TheVariants.{Push, Pop}
 use Rattle.lalrpop_modes.specs.Stack.{Stack, start}

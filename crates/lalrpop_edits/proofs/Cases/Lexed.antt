@@ -4,8 +4,8 @@ use Rattle.std.specs.Prelude.{Some, None}
 use Rattle.std.specs.Borrow.{Bor}
 use Rattle.std.specs.Str.{chars}
 use Rattle.std.proofs.lemmas.Str.{chars-nil}
-use Rattle.lalrpop_book.specs.Tree.{Tree, literal}
-use Rattle.lalrpop_book.specs.Winners.{Matched}
+use Rattle.lalrpop_hir.specs.Tree.{Tree, literal}
+use Rattle.lalrpop_hir.specs.Winners.{Matched}
 use Rattle.lalrpop_rules.specs.declared.item.Item.{Item}
 use Rattle.lalrpop_rules.specs.declared.item.Item.TheVariants.{Token, Skipped, Fault}
 use Rattle.lalrpop_rules.proofs.UniquePieces.{no_piece_left}

@@ -4,10 +4,10 @@ use Rattle.std.specs.List.{All}
 use Rattle.std.specs.Str.{chars}
 use Rattle.std.proofs.lemmas.List.Elements.{All-nil, All-cons}
 use Rattle.std.proofs.lemmas.Str.{chars-nil}
-use Rattle.lalrpop_book.specs.Tree.{Tree, literal}
-use Rattle.lalrpop_book.specs.Language.{Matches}
-use Rattle.lalrpop_book.specs.Winners.{Matched}
-use Rattle.lalrpop_book.specs.Longest.{IsMatch}
+use Rattle.lalrpop_hir.specs.Tree.{Tree, literal}
+use Rattle.lalrpop_hir.specs.Language.{Matches}
+use Rattle.lalrpop_hir.specs.Winners.{Matched}
+use Rattle.lalrpop_hir.specs.Longest.{IsMatch}
 use Rattle.lalrpop_edits.specs.Internal.Reach.{AreAlike, IsClosed, IsSettledBy, IsFaultSettledBy}
 
 abbrev pub a : Tree

@@ -3,10 +3,10 @@
 use Rattle.std.specs.Prelude.{◌≡◌, ◌≢◌, ℕ, ◌+◌, ◌<◌, ◌≤◌, ◌⊎◌, List, [], ◌++◌, length, take, drop}
 use Rattle.std.specs.List.{All}
 use Rattle.std.specs.Str.{chars, IsCharBoundary}
-use Rattle.lalrpop_book.specs.Tree.{Tree}
-use Rattle.lalrpop_book.specs.Prefix.{IsPrefix}
-use Rattle.lalrpop_book.specs.Winners.{Matched}
-use Rattle.lalrpop_book.specs.Longest.{IsMatch}
+use Rattle.lalrpop_hir.specs.Tree.{Tree}
+use Rattle.lalrpop_hir.specs.Prefix.{IsPrefix}
+use Rattle.lalrpop_hir.specs.Winners.{Matched}
+use Rattle.lalrpop_hir.specs.Longest.{IsMatch}
 
 -- the texts are alike in their first n bytes; if one ends before, the other ends there too
 abbrev pub AreAlike : ℕ → List ℕ → List ℕ → Type 0

@@ -1,7 +1,7 @@
 -- Cases of specs/BytePieces.antt.
 use Rattle.std.proofs.Common.{◌≡◌, ℕ, zero, suc, Bool, true, false, List, [], ◌∷◌, inl, inr, refl, ap, arith}
 use Rattle.std.specs.Prelude.{Option, Some, None}
-use Rattle.lalrpop_book.specs.Tree.{Tree}
+use Rattle.lalrpop_hir.specs.Tree.{Tree}
 use Rattle.lalrpop_rules.specs.Found.{MatchesAt}
 use Rattle.lalrpop_modes.specs.declared.action.Action.TheVariants.{Push, Pop}
 use Rattle.lalrpop_modes.specs.Stack.{Stack, start, actions_of}

@@ -1,8 +1,8 @@
 -- A block of a text that a table has run through: the bits of its ends, and the place in it where the next token begins.
 use Rattle.std.specs.Prelude.{◌≡◌, ℕ, ◌+◌, ◌-◌, ◌*◌, ◌/◌, ◌^◌, ◌<◌, ◌≤◌, ◌⊎◌, ◌↔◌, List, length, take, drop, slice_get, slice_index, Some}
 use Rattle.std.specs.Int.{bit_at}
-use Rattle.lalrpop_book.specs.Tree.{Tree}
-use Rattle.lalrpop_book.specs.Longest.{IsLongest}
+use Rattle.lalrpop_hir.specs.Tree.{Tree}
+use Rattle.lalrpop_hir.specs.Longest.{IsLongest}
 use Rattle.lalrpop_dfa.specs.Dfa.{Row, Recognizes}
 use Rattle.lalrpop_dense.specs.DenseTable.{TableNumbers, AreClasses, IsTableFor}
 use Rattle.lalrpop_emit.specs.Ahead.{AheadNumbers, IsAheadOf, StandsFor, standing_after}

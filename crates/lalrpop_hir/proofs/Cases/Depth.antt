@@ -1,8 +1,8 @@
 -- Cases of specs/Internal/Depth.antt.
 use Rattle.std.proofs.Common.{◌≡◌, [], ◌∷◌, true, None, refl}
-use Rattle.lalrpop_book.specs.Tree.{Tree, literal, look, repetition, capture, alternation, none, also}
+use Rattle.lalrpop_hir.specs.Tree.{Tree, literal, look, repetition, capture, alternation, none, also}
 use Rattle.lalrpop_hir.specs.Internal.Depth.{depth}
-use Rattle.lalrpop_book.specs.declared.look.Look.TheVariants.{Start}
+use Rattle.lalrpop_hir.specs.declared.look.Look.TheVariants.{Start}
 
 abbrev a : Tree
 a = literal (97 ∷ [])

@@ -1,11 +1,11 @@
 -- Cases of specs/Level.antt.
 use Rattle.std.proofs.Common.{◌≡◌, List, [], ◌∷◌, refl}
 use Rattle.std.specs.Str.{chars}
-use Rattle.lalrpop_book.specs.Tree as tree
+use Rattle.lalrpop_hir.specs.Tree as tree
 use Rattle.lalrpop_hir.specs.Level.{class_of, kind_tree}
-use Rattle.lalrpop_book.specs.Range.{Range}
+use Rattle.lalrpop_hir.specs.Range.{Range}
 use Rattle.lalrpop_hir.specs.declared.class.Class.TheVariants.{Unicode, Bytes}
-use Rattle.lalrpop_book.specs.declared.look.Look.TheVariants.{End}
+use Rattle.lalrpop_hir.specs.declared.look.Look.TheVariants.{End}
 use Rattle.lalrpop_hir.specs.declared.hir.HirKind.TheVariants.{Empty, Literal, Look}
 
 -- a class keeps its kind and its ranges

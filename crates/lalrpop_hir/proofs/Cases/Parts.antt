@@ -1,7 +1,7 @@
 -- Cases of specs/Parts.antt.
 use Rattle.std.proofs.Common.{◌≡◌, [], ◌∷◌, refl}
 use Rattle.std.specs.Str.{chars}
-use Rattle.lalrpop_book.specs.Tree.{Tree, empty, literal, none, also}
+use Rattle.lalrpop_hir.specs.Tree.{Tree, empty, literal, none, also}
 use Rattle.lalrpop_hir.specs.Parts.{trees, of_text}
 
 abbrev a : Tree

@@ -1,7 +1,7 @@
 -- Cases of specs/Runs.antt.
 use Rattle.std.proofs.Common.{◌≡◌, ℕ, ◌<◌, ◌≤◌, ◌⊎◌, inl, inr, List, [], ◌∷◌, refl, arith}
 use Rattle.std.proofs.lemmas.Bool.{cases_lt}
-use Rattle.lalrpop_book.specs.Range.{Range, Covered}
+use Rattle.lalrpop_hir.specs.Range.{Range, Covered}
 use Rattle.lalrpop_hir.specs.Runs.{InEither, InBoth, InFirstAlone, InJustOne, IsScalar, IsByte, next_scalar, next_byte, AreApart, HaveEndsIn, IsCanonical, IsCanon, AreByteRuns, IsByteCanon}
 
 -- the range from the first value to the second

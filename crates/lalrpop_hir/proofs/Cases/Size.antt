@@ -1,6 +1,6 @@
 -- Cases of specs/Size.antt: how many states the automata need, but for three.
 use Rattle.std.proofs.Common.{◌≡◌, [], ◌∷◌, true, Some, None, refl}
-use Rattle.lalrpop_book.specs.Tree.{Tree, literal, class, unicode, repetition, concat, alternation, none, also}
+use Rattle.lalrpop_hir.specs.Tree.{Tree, literal, class, unicode, repetition, concat, alternation, none, also}
 use Rattle.lalrpop_hir.specs.Size.{repeated_size, size}
 
 abbrev a : Tree

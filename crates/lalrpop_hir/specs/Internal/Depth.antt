@@ -1,7 +1,7 @@
 -- cases: proofs/Cases/Depth.antt
 -- The depth of a tree, which decreases in a walk over trees.
 use Rattle.std.specs.Prelude.{ℕ, ◌+◌, max}
-use Rattle.lalrpop_book.specs.Tree.{Tree, empty, literal, class, look, repetition, capture, concat, alternation, Trees, none, also}
+use Rattle.lalrpop_hir.specs.Tree.{Tree, empty, literal, class, look, repetition, capture, concat, alternation, Trees, none, also}
 
 -- the depth of a tree, and the greatest depth in a list
 abbrev mutual

@@ -1,7 +1,7 @@
 -- Numbers for the ten kinds of look.
 use Rattle.std.specs.Prelude.{◌≡◌, ℕ, zero, suc, refl}
-use Rattle.lalrpop_book.specs.declared.look.Look.{Look}
-use Rattle.lalrpop_book.specs.declared.look.Look.TheVariants.{Start, End, StartLF, EndLF, WordUnicode, WordUnicodeNegate, WordStartUnicode, WordEndUnicode, WordStartHalfUnicode, WordEndHalfUnicode}
+use Rattle.lalrpop_hir.specs.declared.look.Look.{Look}
+use Rattle.lalrpop_hir.specs.declared.look.Look.TheVariants.{Start, End, StartLF, EndLF, WordUnicode, WordUnicodeNegate, WordStartUnicode, WordEndUnicode, WordStartHalfUnicode, WordEndHalfUnicode}
 
 abbrev pub number_of_look : Look → ℕ
 number_of_look Start = 0

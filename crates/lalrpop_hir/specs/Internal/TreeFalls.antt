@@ -2,7 +2,7 @@
 use Rattle.std.specs.Prelude.{ℕ, zero, suc, ◌<◌, length, ◌+◌, ◌≤◌, List, [], ◌∷◌}
 use Rattle.std.proofs.Common.{arith, get_or}
 use denote.Param.Weighed.{most}
-use Rattle.lalrpop_book.specs.Tree.{Tree}
+use Rattle.lalrpop_hir.specs.Tree.{Tree}
 use Rattle.lalrpop_hir.specs.Parts.{trees}
 use Rattle.lalrpop_hir.specs.Internal.Depth.{depth, greatest_depth}
 use Rattle.lalrpop_hir.specs.Level.{kind_tree}

@@ -1,7 +1,7 @@
 //! Classes of characters.
 ghost use Rattle.std.specs.Prelude.{◌≡◌, ◌≤◌, min, max, IfOk};
 ghost use Rattle.std.specs.List.Sorted.{IsNonDecreasingBy};
-ghost use Rattle.lalrpop_book.specs.Range.{Covered};
+ghost use Rattle.lalrpop_hir.specs.Range.{Covered};
 ghost use Rattle.lalrpop_hir.specs.Runs.{IsCanonical, IsCanon, next_scalar};
 
 use super::{ClassUnicode, ClassUnicodeRange};

@@ -1,7 +1,7 @@
 //! Union, intersection, difference, symmetric difference and complement of sets of characters.
 ghost use Rattle.std.specs.Prelude.{◌≡◌, ℕ, ◌<◌, ◌↔◌, IfOk};
 ghost use Rattle.std.specs.List.Sorted.{IsNonDecreasingBy};
-ghost use Rattle.lalrpop_book.specs.Range.{Covered};
+ghost use Rattle.lalrpop_hir.specs.Range.{Covered};
 ghost use Rattle.lalrpop_hir.specs.Runs.{IsCanonical, IsCanon, IsScalar, InEither, InBoth, InFirstAlone, InJustOne, next_scalar};
 
 use super::characters::{code_after, join_characters};

@@ -3,7 +3,7 @@ use Rattle.std.proofs.Common.{◌≡◌, ℕ, List, [], true, inl, inr, codes, r
 use Rattle.std.specs.Prelude.{Some, None, Ok, Err}
 use Rattle.lalrpop_dfa.specs.Dfa.{Row}
 use Rattle.lalrpop_lexer.specs.Cutting.{Cutting, start_of, left_of, GivesItem}
-use Rattle.lalrpop_book.specs.Tokens.{Item}
+use Rattle.lalrpop_hir.specs.Tokens.{Item}
 
 -- ---- one call
 

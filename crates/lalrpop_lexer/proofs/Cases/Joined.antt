@@ -1,8 +1,8 @@
 -- Cases of specs/Joined.antt.
 use Rattle.std.proofs.Common.{◌≡◌, ℕ, List, [], ◌∷◌, length, refl, ap, ◌∙◌, arith}
 use Rattle.std.proofs.lemmas.List.Elements.{All-nil, All-cons, All-head}
-use Rattle.lalrpop_book.specs.Tree.{Tree}
-use Rattle.lalrpop_book.specs.declared.token.Token.{Token}
+use Rattle.lalrpop_hir.specs.Tree.{Tree}
+use Rattle.lalrpop_hir.specs.declared.token.Token.{Token}
 use Rattle.lalrpop_lexer.specs.Neighbours.{CanFollow, text_of, IsWhole, CanPart}
 use Rattle.lalrpop_lexer.specs.Joined.{plain, IsJoined, CanJoin, IsJoinError}
 use Rattle.lalrpop_lexer.specs.declared.join_error.JoinError.TheVariants.{NotAToken, NotASeparator, Inseparable}

@@ -1,8 +1,8 @@
 -- Cases of specs/LeadingTokens.antt.
 use Rattle.std.proofs.Common.{◌≡◌, ◌≢◌, ℕ, ◌+◌, List, [], ◌∷◌, length, drop, Some, refl}
-use Rattle.lalrpop_book.specs.Tree.{Tree}
-use Rattle.lalrpop_book.specs.Longest.{IsLongest}
-use Rattle.lalrpop_book.specs.declared.token.Token.{Token}
+use Rattle.lalrpop_hir.specs.Tree.{Tree}
+use Rattle.lalrpop_hir.specs.Longest.{IsLongest}
+use Rattle.lalrpop_hir.specs.declared.token.Token.{Token}
 use Rattle.lalrpop_lexer.specs.LeadingTokens.{IsStep, LeadTo}
 
 longest_match_is_a_step : (ts : List Tree) (ps text : List ℕ) (token : Token) → IsLongest ts ps (drop token.start text) (Some (token.index, token.slice.now))

@@ -1,8 +1,8 @@
 -- Cases of specs/LexerErrors.antt.
 use Rattle.std.proofs.Common.{◌≡◌, ◌≢◌, ℕ, refl}
-use Rattle.lalrpop_book.specs.declared.error.DfaConstructionError.TheVariants as built
-use Rattle.lalrpop_grammar.specs.declared.error.RegexError.TheVariants as read
-use Rattle.lalrpop_grammar.specs.declared.error.SyntaxKind.{SyntaxKind}
+use Rattle.lalrpop_hir.specs.declared.error.DfaConstructionError.TheVariants as built
+use Rattle.lalrpop_re.specs.declared.error.RegexError.TheVariants as read
+use Rattle.lalrpop_re.specs.declared.error.SyntaxKind.{SyntaxKind}
 use Rattle.lalrpop_lexer.specs.LexerErrors.{of_regex, of_construction}
 use Rattle.lalrpop_lexer.specs.declared.error.LexerError.TheVariants.{Syntax, OutOfMemory}
 

@@ -3,7 +3,7 @@ use Rattle.std.proofs.Common.{◌≡◌, ◌≢◌, ℕ, zero, suc, true, List, 
 use Rattle.std.proofs.lemmas.List.{append-nil}
 use Rattle.std.specs.Prelude.{Option, Some, None, Ok}
 use Rattle.std.specs.Str.{chars}
-use Rattle.lalrpop_book.specs.declared.token.Token.{Token}
+use Rattle.lalrpop_hir.specs.declared.token.Token.{Token}
 use Rattle.lalrpop_dfa.specs.Dfa.{Row, run}
 use Rattle.lalrpop_dfa.specs.Lookahead.{Accepted, IsAccepting, IsTrim, ReadsAtMost}
 use Rattle.lalrpop_dfa.specs.declared.Kind.TheVariants.{Accepts, Reject, Neither}

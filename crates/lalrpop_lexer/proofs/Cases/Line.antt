@@ -4,11 +4,11 @@ use Rattle.std.specs.Char.{digit_value}
 use Rattle.std.specs.Str.{chars}
 use Rattle.std.specs.Str.Parse.{AllDigits, digits_value}
 use Rattle.std.proofs.lemmas.Str.Parse.{digit_from_value}
-use Rattle.lalrpop_book.specs.Tree.{Tree, empty}
+use Rattle.lalrpop_hir.specs.Tree.{Tree, empty}
 use Rattle.lalrpop_hir.specs.Parts.{of_text}
 use Rattle.lalrpop_re.specs.GroupName.{names}
 use Rattle.lalrpop_re.specs.Pattern.{Pattern, no_piece, last_branch, of_branches}
-use Rattle.lalrpop_grammar.specs.Internal.Reading as reading
+use Rattle.lalrpop_re.specs.Internal.Reading as reading
 use Rattle.lalrpop_re.proofs.PatternLaws.{missing}
 use Rattle.lalrpop_lexer.specs.Line.{IsPrecedence, letter, IsLine, LineSays}
 use Rattle.lalrpop_lexer.specs.Spelled.{Spells}

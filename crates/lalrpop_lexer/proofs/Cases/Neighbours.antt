@@ -2,11 +2,11 @@
 use Rattle.std.proofs.Common.{◌≡◌, ◌≢◌, ℕ, zero, suc, ◌≤◌, inl, inr, List, [], ◌∷◌, ◌++◌, length, length-append, codes, refl, sym, ap, subst, ◌∙◌, arith}
 use Rattle.std.specs.Prelude.{Some, None, Ok, slice_index}
 use Rattle.std.specs.Str.{chars}
-use Rattle.lalrpop_book.specs.Tree.{Tree, literal}
-use Rattle.lalrpop_book.specs.Language.{Matches}
-use Rattle.lalrpop_book.specs.Longest.{IsMatch}
-use Rattle.lalrpop_book.specs.Winners.{TreeMatches, IsOnlyStrongest}
-use Rattle.lalrpop_book.specs.declared.token.Token.{Token}
+use Rattle.lalrpop_hir.specs.Tree.{Tree, literal}
+use Rattle.lalrpop_hir.specs.Language.{Matches}
+use Rattle.lalrpop_hir.specs.Longest.{IsMatch}
+use Rattle.lalrpop_hir.specs.Winners.{TreeMatches, IsOnlyStrongest}
+use Rattle.lalrpop_hir.specs.declared.token.Token.{Token}
 use Rattle.lalrpop_lexer.specs.Neighbours.{WordsOf, CanFollow, AllFollow, IsParted, text_of, IsWhole, CanPart, CanPartAll, placed}
 
 -- ---- the literals `a` and `aa`, which share no word, and a space

@@ -1,11 +1,11 @@
 -- Cases of specs/Renumbered.antt.
 use Rattle.std.proofs.Common.{◌≡◌, ℕ, zero, suc, ◌<◌, ◌≤◌, List, [], ◌∷◌, length, codes, refl, sym, ap, subst, ◌∙◌, arith}
 use Rattle.std.specs.Prelude.{Some, None, Ok, Err, ◌↔◌, slice_index}
-use Rattle.lalrpop_book.specs.Tree.{Tree, literal, capture}
-use Rattle.lalrpop_book.specs.Language.{Matches}
-use Rattle.lalrpop_book.specs.Winners.{TreeMatches}
+use Rattle.lalrpop_hir.specs.Tree.{Tree, literal, capture}
+use Rattle.lalrpop_hir.specs.Language.{Matches}
+use Rattle.lalrpop_hir.specs.Winners.{TreeMatches}
 use Rattle.lalrpop_lexer.specs.Renumbered.{AreRenumbered, AreAlike, renumbered}
-use Rattle.lalrpop_book.specs.declared.token.Token.{Token}
+use Rattle.lalrpop_hir.specs.declared.token.Token.{Token}
 
 abbrev a : Tree
 a = literal (codes "a")

@@ -1,10 +1,10 @@
 -- Cases of specs/Rules.antt.
 use Rattle.std.proofs.Common.{◌≡◌, ℕ, zero, suc, List, [], ◌∷◌, Some, None, refl, sym, subst, arith}
 use Rattle.std.specs.Prelude.{slice_get, slice_index, IsSomeAnd}
-use Rattle.lalrpop_book.specs.Tree.{Tree, empty}
+use Rattle.lalrpop_hir.specs.Tree.{Tree, empty}
 use Rattle.lalrpop_dfa.specs.Dfa.{Row, step, run, IsRightKind, IsReject}
 use Rattle.lalrpop_dfa.specs.declared.Kind.TheVariants.{Reject}
-use Rattle.lalrpop_book.specs.Winners.{Matched, IsStrongest}
+use Rattle.lalrpop_hir.specs.Winners.{Matched, IsStrongest}
 use Rattle.lalrpop_lexer.specs.Rules.{IsBuiltFrom}
 
 no_precedence : (j : ℕ) → slice_index (0 ∷ 0 ∷ []) j ≡ 0

@@ -3,13 +3,13 @@ use Rattle.std.proofs.Common.{◌≡◌, ◌≢◌, ℕ, List, [], ◌∷◌, ge
 use Rattle.std.proofs.lemmas.Option.{same_Some}
 use Rattle.std.specs.Borrow.{Bor}
 use Rattle.std.specs.Str.{chars}
-use Rattle.lalrpop_book.specs.Tree.{Tree, literal}
+use Rattle.lalrpop_hir.specs.Tree.{Tree, literal}
 use Rattle.lalrpop_hir.specs.Parts.{of_text}
 use Rattle.lalrpop_lexer.specs.Spelled.{Spells, AreSpelled, IsNotSpelled, IsLexerError, texts_of}
 use Rattle.lalrpop_lexer.specs.declared.error.LexerError.TheVariants.{Syntax, OutOfMemory}
 use Rattle.lalrpop_lexer.specs.declared.form.Form.{Form}
 use Rattle.lalrpop_lexer.specs.declared.form.Form.TheVariants as forms
-use Rattle.lalrpop_grammar.specs.declared.error.SyntaxKind.{SyntaxKind}
+use Rattle.lalrpop_re.specs.declared.error.SyntaxKind.{SyntaxKind}
 
 -- a literal spells its text, whatever stands in it
 literal_spells_its_text : Spells forms.Literal (codes "a*") (literal (codes "a*"))

@@ -1,6 +1,6 @@
 -- Cases of specs/Terminals.antt.
 use Rattle.std.proofs.Common.{ℕ, [], ◌∷◌, codes}
-use Rattle.lalrpop_book.specs.Tree.{Tree}
+use Rattle.lalrpop_hir.specs.Tree.{Tree}
 use Rattle.lalrpop_hir.specs.Parts.{of_text}
 use Rattle.lalrpop_lexer.specs.Terminals.{AreTerminals, FirstSays, AreSaid}
 use Rattle.lalrpop_lexer.specs.declared.terminal_line.TerminalLine.TheVariants as meaning

@@ -1,8 +1,8 @@
 -- Cases of specs/TokenList.antt.
 use Rattle.std.proofs.Common.{◌≡◌, ℕ, List, [], ◌∷◌, refl, sym, ◌∙◌, arith}
 use Rattle.std.specs.Prelude.{Some, None, Err}
-use Rattle.lalrpop_book.specs.Tree.{Tree}
-use Rattle.lalrpop_book.specs.declared.token.TokenFault.{TokenFault}
+use Rattle.lalrpop_hir.specs.Tree.{Tree}
+use Rattle.lalrpop_hir.specs.declared.token.TokenFault.{TokenFault}
 use Rattle.lalrpop_lexer.specs.TokenList.{between, IsTokenEnd, AreTokenEnds, AreCuts, Listing, GivesListed, fault_items}
 
 from_two_to_four : between (5 ∷ 6 ∷ 7 ∷ 8 ∷ 9 ∷ []) 2 4 ≡ 7 ∷ 8 ∷ []

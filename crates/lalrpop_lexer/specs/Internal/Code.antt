@@ -2,8 +2,8 @@
 use Rattle.std.specs.Prelude.{◌≡◌, ℕ, List, Option, Some, None, refl}
 use Rattle.std.specs.Coded.{Coded, code_by, coded×, coded_list, coded_option, coded_ℕ}
 use Rattle.lalrpop_hir.specs.Internal.Code.{range_code, tree_code}
-use Rattle.lalrpop_book.specs.Range.{Range}
-use Rattle.lalrpop_book.specs.Tree.{Tree}
+use Rattle.lalrpop_hir.specs.Range.{Range}
+use Rattle.lalrpop_hir.specs.Tree.{Tree}
 use Rattle.lalrpop_dfa.specs.Dfa.{Row}
 use Rattle.lalrpop_dfa.specs.declared.Kind.{Kind}
 use Rattle.lalrpop_dfa.specs.declared.Kind.TheVariants.{Accepts, Reject, Neither}

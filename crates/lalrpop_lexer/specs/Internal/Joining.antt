@@ -1,6 +1,6 @@
 -- A text of tokens that is being written.
 use Rattle.std.specs.Prelude.{◌≡◌, ℕ, ◌⊎◌, List, [], take}
-use Rattle.lalrpop_book.specs.Tree.{Tree}
+use Rattle.lalrpop_hir.specs.Tree.{Tree}
 use Rattle.lalrpop_lexer.specs.Neighbours.{CanFollow, IsParted, text_of, CanPart}
 use Rattle.lalrpop_lexer.specs.Joined.{CanJoin}
 

@@ -1,6 +1,6 @@
 -- Which tokens run on into which, as a table.
 use Rattle.std.specs.Prelude.{◌≡◌, ℕ, ◌<◌, ◌↔◌, Bool, true, List, length, slice_get, Some}
-use Rattle.lalrpop_book.specs.Winners.{Matched}
+use Rattle.lalrpop_hir.specs.Winners.{Matched}
 use Rattle.lalrpop_dfa.specs.Follow.{RunsOn}
 use Rattle.lalrpop_lexer.specs.Neighbours.{WordsOf}
 use Rattle.lalrpop_lexer.specs.Rules.{Rules}

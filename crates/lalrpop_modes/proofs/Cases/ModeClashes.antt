@@ -1,6 +1,6 @@
 -- Cases of specs/ModeClashes.antt.
 use Rattle.std.proofs.Common.{◌≡◌, ℕ, [], ◌∷◌, List, length, ap, arith}
-use Rattle.lalrpop_book.specs.Clashes.{Entry}
+use Rattle.lalrpop_hir.specs.Clashes.{Entry}
 use Rattle.lalrpop_modes.specs.ModeClashes.{AreModeClashes, IsModesFault}
 use Rattle.lalrpop_modes.specs.Modes.{ModeRules}
 use Rattle.lalrpop_modes.specs.declared.mode_rule.ModeRule.{ModeRule}

@@ -4,7 +4,7 @@ use Rattle.lalrpop_modes.specs.declared.action.Action.{Action}
 use Rattle.lalrpop_modes.specs.declared.action.Action.TheVariants.{Push, Pop}
 use Rattle.lalrpop_modes.specs.declared.mode_rule.ModeRule.{ModeRule}
 use Rattle.lalrpop_modes.specs.declared.error.ModesError.TheVariants.{NoSuchMode, BadEnd, OutOfMemory}
-use Rattle.lalrpop_delimited.specs.declared.error.FromToError.{FromToError}
+use Rattle.lalrpop_re.specs.declared.from_to_error.FromToError.{FromToError}
 use Rattle.lalrpop_modes.specs.Modes.{ModeRules, OneLeadsInto}
 use Rattle.lalrpop_modes.specs.ModeSet.{rules_of, AllThere, AreModeRules, AreOneModeKind, NamesMode, IsModesError}
 

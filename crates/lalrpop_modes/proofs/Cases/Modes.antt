@@ -2,7 +2,7 @@
 use Rattle.std.proofs.Common.{◌≡◌, ℕ, zero, suc, ◌<◌, true, false, inl, inr, List, [], ◌∷◌, length, refl, ap, arith}
 use Rattle.std.specs.Prelude.{Some, None}
 use Rattle.std.specs.Borrow.{Bor}
-use Rattle.lalrpop_book.specs.Tree.{Tree, alternation, none, also}
+use Rattle.lalrpop_hir.specs.Tree.{Tree, alternation, none, also}
 use Rattle.lalrpop_rules.specs.declared.item.Item.TheVariants.{Token, Skipped, Fault}
 use Rattle.lalrpop_modes.specs.declared.action.Action.{Action}
 use Rattle.lalrpop_modes.specs.declared.action.Action.TheVariants.{Mode, Push, Pop}

@@ -1,7 +1,7 @@
 -- Cases of specs/ModesErrors.antt.
 use Rattle.std.proofs.Common.{◌≡◌, refl}
-use Rattle.lalrpop_book.specs.declared.error.NfaConstructionError.{NfaConstructionError}
-use Rattle.lalrpop_delimited.specs.declared.error.FromToError.TheVariants.{LongEnd}
+use Rattle.lalrpop_hir.specs.declared.error.NfaConstructionError.{NfaConstructionError}
+use Rattle.lalrpop_re.specs.declared.from_to_error.FromToError.TheVariants.{LongEnd}
 use Rattle.lalrpop_rules.specs.declared.text_error.TextError.TheVariants as texts
 use Rattle.lalrpop_modes.specs.ModesErrors.{of_texts}
 use Rattle.lalrpop_modes.specs.declared.error.ModesError.TheVariants.{BadEnd, NotCompiled, OutOfMemory}

@@ -7,7 +7,7 @@ use Rattle.lalrpop_lexer.specs.Internal.Code.{row_code}
 use Rattle.lalrpop_lexer.specs.Dfa.{Row}
 use Rattle.lalrpop_rules.specs.Internal.Code.{memo_code}
 use Rattle.lalrpop_rules.specs.CutToEnd.{Memo}
-use Rattle.lalrpop_book.specs.Tree.{Tree}
+use Rattle.lalrpop_hir.specs.Tree.{Tree}
 use Rattle.lalrpop_modes.specs.declared.action.Action.{Action}
 use Rattle.lalrpop_modes.specs.declared.action.Action.TheVariants.{Mode, Push, Pop}
 use Rattle.lalrpop_modes.specs.Stack.{Stack}

@@ -1,8 +1,8 @@
 -- One lexer for each mode.
 use Rattle.std.specs.Prelude.{◌≡◌, ℕ, ◌<◌, List, [], length, slice_get, Some}
-use Rattle.lalrpop_book.specs.Tree.{Tree}
-use Rattle.lalrpop_book.specs.declared.error.DfaConstructionError.{DfaConstructionError}
-use Rattle.lalrpop_book.specs.declared.error.DfaConstructionError.TheVariants as report
+use Rattle.lalrpop_hir.specs.Tree.{Tree}
+use Rattle.lalrpop_hir.specs.declared.error.DfaConstructionError.{DfaConstructionError}
+use Rattle.lalrpop_hir.specs.declared.error.DfaConstructionError.TheVariants as report
 use Rattle.lalrpop_lexer.specs.Rules.{Rules}
 use Rattle.lalrpop_modes.specs.Stack.{actions_of}
 use Rattle.lalrpop_modes.specs.Modes.{ModeRules, trees_in, OneLeadsInto, NoModeClash, IsModeClash}

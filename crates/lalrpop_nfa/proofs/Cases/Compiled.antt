@@ -2,8 +2,8 @@
 use Rattle.std.proofs.Common.{◌≡◌, ◌≢◌, ℕ, zero, suc, ◌≤◌, List, [], ◌∷◌, length, get_or, true, None, Some, refl, sym, ap, subst, arith}
 use Rattle.std.specs.Prelude.{◌↔◌, slice_get}
 use Rattle.std.specs.List.{Contains}
-use Rattle.lalrpop_book.specs.Range.{Range}
-use Rattle.lalrpop_book.specs.Tree.{Tree, unicode, empty, literal, repetition}
+use Rattle.lalrpop_hir.specs.Range.{Range}
+use Rattle.lalrpop_hir.specs.Tree.{Tree, unicode, empty, literal, repetition}
 use Rattle.lalrpop_nfa.specs.Graph.{Graph, Lists}
 use Rattle.lalrpop_nfa.specs.Meet.{Meet}
 use Rattle.lalrpop_nfa.specs.Path.{noop, test, other, Path}

@@ -1,7 +1,7 @@
 -- Cases of specs/Path.antt: the automaton of the literal `a`. Its states are ACCEPT, REJECT, START, and 3, before the letter.
 use Rattle.std.proofs.Common.{◌≡◌, ℕ, zero, suc, ◌<◌, List, [], ◌∷◌, refl, sym, ap, subst, ◌∙◌, arith}
 use Rattle.std.specs.List.{Contains}
-use Rattle.lalrpop_book.specs.Range.{Range, Covers}
+use Rattle.lalrpop_hir.specs.Range.{Range, Covers}
 use Rattle.lalrpop_nfa.specs.Graph.{Lists}
 use Rattle.lalrpop_nfa.specs.Path.{noop, test, other, IsUntested, Path, here, epsilon, read, otherwise}
 use Rattle.lalrpop_nfa.specs.declared.edge.Edge.{Edge}

@@ -1,6 +1,6 @@
 -- The graph with one more state, or with more edges.
 use Rattle.std.specs.Prelude.{ℕ, List, ◌++◌, ◌∷◌, [], map}
-use Rattle.lalrpop_book.specs.Range.{Range}
+use Rattle.lalrpop_hir.specs.Range.{Range}
 use Rattle.lalrpop_nfa.specs.Graph.{Graph, Lists}
 use Rattle.lalrpop_nfa.specs.Path.{noop, test}
 use Rattle.lalrpop_nfa.specs.declared.edge.StateKind.{StateKind}

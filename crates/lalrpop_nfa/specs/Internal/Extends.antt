@@ -1,14 +1,14 @@
 -- How a graph is extended while a tree is compiled.
 use Rattle.std.specs.Prelude.{◌≡◌, ◌≢◌, ℕ, ◌<◌, List, ◌++◌, length, Some, None}
 use Rattle.std.specs.List.{filter}
-use Rattle.lalrpop_book.specs.Tree.{Tree, Trees}
+use Rattle.lalrpop_hir.specs.Tree.{Tree, Trees}
 use Rattle.lalrpop_nfa.specs.Graph.{Graph}
 use Rattle.lalrpop_nfa.specs.Walk.{leaves}
 use Rattle.lalrpop_nfa.specs.Internal.Fragment.{Construction, extended, Branches, branches, Fragment}
-use Rattle.lalrpop_book.specs.Fault.{Fault, fault}
+use Rattle.lalrpop_hir.specs.Fault.{Fault, fault}
 use Rattle.lalrpop_nfa.specs.Internal.Valid.{IsValid}
-use Rattle.lalrpop_book.specs.declared.error.NfaConstructionError.{NfaConstructionError}
-use Rattle.lalrpop_book.specs.declared.error.NfaConstructionError.TheVariants.{OutOfMemory}
+use Rattle.lalrpop_hir.specs.declared.error.NfaConstructionError.{NfaConstructionError}
+use Rattle.lalrpop_hir.specs.declared.error.NfaConstructionError.TheVariants.{OutOfMemory}
 
 -- the states of g have the same `Noop` edges in h
 abbrev pub KeepsNoops : Graph → Graph → Type 0

@@ -2,7 +2,7 @@
 -- Where one value leads from a state.
 use Rattle.std.specs.Prelude.{ℕ, ◌⊎◌}
 use Rattle.std.specs.List.{Contains}
-use Rattle.lalrpop_book.specs.Range.{Range, Covers}
+use Rattle.lalrpop_hir.specs.Range.{Range, Covers}
 use Rattle.lalrpop_nfa.specs.Graph.{Lists}
 use Rattle.lalrpop_nfa.specs.Path.{test, other, IsUntested}
 

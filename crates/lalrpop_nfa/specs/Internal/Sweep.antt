@@ -1,7 +1,7 @@
 -- The starts and the ends of ranges, which a sweep goes over.
 use Rattle.std.specs.Prelude.{ℕ, List, map}
 use Rattle.std.specs.List.{filter}
-use Rattle.lalrpop_book.specs.Range.{Range}
+use Rattle.lalrpop_hir.specs.Range.{Range}
 use Rattle.lalrpop_nfa.specs.Partition.{has_value}
 
 -- the starts of the nonempty ranges

@@ -3,7 +3,7 @@
 use Rattle.std.specs.Prelude.{◌≡◌, true, ℕ, zero, suc, ◌≤◌, List, [], ◌∷◌, Option, Some, None}
 use Rattle.lalrpop_hir.specs.Runs.{IsCanonical, AreByteRuns}
 use Rattle.lalrpop_hir.specs.Counts.{AreOrdered}
-use Rattle.lalrpop_book.specs.Tree.{Class, unicode, bytes, Tree, empty, literal, class, look, repetition, capture, concat, alternation, Trees, none, also}
+use Rattle.lalrpop_hir.specs.Tree.{Class, unicode, bytes, Tree, empty, literal, class, look, repetition, capture, concat, alternation, Trees, none, also}
 
 abbrev pub AreCodeValues : List ℕ → Type 0
 AreCodeValues [] = Unit {0}

@@ -1,19 +1,19 @@
 -- Cases of specs/Refusal.antt.
 use Rattle.std.proofs.Common.{◌≡◌, ◌≤◌, true, false, [], ◌∷◌, codes, refl, lit≤, arith}
 use Rattle.std.specs.Prelude.{Some, None}
-use Rattle.lalrpop_book.specs.Tree.{literal, empty}
-use Rattle.lalrpop_grammar.specs.GroupName.{names}
-use Rattle.lalrpop_grammar.specs.Flag.{no_flags}
-use Rattle.lalrpop_grammar.specs.Internal.Reading as reading
-use Rattle.lalrpop_grammar.specs.Pattern.{a_literal, a_part, an_atom, no_piece, piece_then, last_branch, of_branches}
+use Rattle.lalrpop_hir.specs.Tree.{literal, empty}
+use Rattle.lalrpop_re.specs.GroupName.{names}
+use Rattle.lalrpop_re.specs.Flag.{no_flags}
+use Rattle.lalrpop_re.specs.Internal.Reading as reading
+use Rattle.lalrpop_re.specs.Pattern.{a_literal, a_part, an_atom, no_piece, piece_then, last_branch, of_branches}
 use Rattle.lalrpop_re.specs.Refusal.{HasNoTree, HasNoTreeWith, MakesNoPart, SaysNoText, PointsInto}
-use Rattle.lalrpop_grammar.specs.declared.error.RegexError.TheVariants.{Syntax, OutOfMemory}
-use Rattle.lalrpop_grammar.specs.declared.error.SyntaxKind.TheVariants.{RepetitionMissing, PartUnknown, PartName, EscapeUnexpectedEof}
-use Rattle.lalrpop_grammar.specs.Unescaped.{at_end, itself}
-use Rattle.lalrpop_grammar.specs.Escape.{character}
-use Rattle.lalrpop_grammar.proofs.UnescapedLaws.{says_first}
-use Rattle.lalrpop_grammar.proofs.PatternLaws.{missing_with}
-use Rattle.lalrpop_grammar.proofs.Cases.Pattern.{operator_alone}
+use Rattle.lalrpop_re.specs.declared.error.RegexError.TheVariants.{Syntax, OutOfMemory}
+use Rattle.lalrpop_re.specs.declared.error.SyntaxKind.TheVariants.{RepetitionMissing, PartUnknown, PartName, EscapeUnexpectedEof}
+use Rattle.lalrpop_re.specs.Unescaped.{at_end, itself}
+use Rattle.lalrpop_re.specs.Escape.{character}
+use Rattle.lalrpop_re.proofs.UnescapedLaws.{says_first}
+use Rattle.lalrpop_re.proofs.PatternLaws.{missing_with}
+use Rattle.lalrpop_re.proofs.Cases.Pattern.{operator_alone}
 
 -- `*a` is refused
 refusal_of_no_pattern : HasNoTree (codes "*a") (Syntax 0 RepetitionMissing)

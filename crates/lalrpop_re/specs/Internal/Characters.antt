@@ -1,8 +1,8 @@
 -- One character of a text with escapes.
 use Rattle.std.specs.Prelude.{ℕ, Option, Some, None}
-use Rattle.lalrpop_grammar.specs.Text.{Text}
-use Rattle.lalrpop_grammar.specs.Escape.{Escaped, character, set, assertion}
-use Rattle.lalrpop_grammar.specs.Internal.Reading.{◌>>=◌, primary}
+use Rattle.lalrpop_re.specs.Text.{Text}
+use Rattle.lalrpop_re.specs.Escape.{Escaped, character, set, assertion}
+use Rattle.lalrpop_re.specs.Internal.Reading.{◌>>=◌, primary}
 
 abbrev pub alone : Escaped → Text → Option (ℕ × Text)
 alone (character c) t = Some (c, t)

@@ -1,8 +1,8 @@
 -- How the ranges of a bracket's items are gathered.
 use Rattle.std.specs.Prelude.{◌↔◌, ◌⊎◌, ℕ, List}
-use Rattle.lalrpop_book.specs.Range.{Range, Covered}
+use Rattle.lalrpop_hir.specs.Range.{Range, Covered}
 use Rattle.lalrpop_hir.specs.Runs.{IsScalar}
-use Rattle.lalrpop_grammar.specs.CharacterSet.{Set, Members}
+use Rattle.lalrpop_re.specs.CharacterSet.{Set, Members}
 
 -- the ranges cover the scalar values that they covered before, and those of the set
 abbrev pub Gains : List Range → List Range → Set → Type 0

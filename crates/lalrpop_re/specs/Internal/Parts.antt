@@ -1,17 +1,17 @@
 -- One step of a row, and how the parser's parts relate to the reader's.
 use Rattle.std.specs.Prelude.{ℕ, suc, ◌&&◌, max, List, [], ◌∷◌, ◌++◌, Option, Some, None, drop, option_map, if◌then◌else◌}
-use Rattle.lalrpop_book.specs.Tree.{Tree, capture}
+use Rattle.lalrpop_hir.specs.Tree.{Tree, capture}
 use Rattle.lalrpop_re.specs.declared.cursor.Cursor.{Cursor}
-use Rattle.lalrpop_grammar.specs.declared.flags.Flags.{Flags}
+use Rattle.lalrpop_re.specs.declared.flags.Flags.{Flags}
 use Rattle.lalrpop_re.specs.declared.parser.Nested.{Nested}
 use Rattle.lalrpop_re.specs.declared.parser.Row.{Row}
-use Rattle.lalrpop_grammar.specs.Text.{Text, begins}
-use Rattle.lalrpop_grammar.specs.CharacterSet.{set_tree}
-use Rattle.lalrpop_grammar.specs.Flag.{no_flags}
-use Rattle.lalrpop_grammar.specs.GroupName.{names, are_distinct}
-use Rattle.lalrpop_grammar.specs.NamedPart.{NamedPart}
-use Rattle.lalrpop_grammar.specs.Pattern.{escaped_tree, most_levels}
-use Rattle.lalrpop_grammar.specs.Internal.Reading.{◌>>=◌, Opened, a_plain_group, a_named_group, a_flagged_group, a_directive_to, opened, escape, bracket, is_nothing, inside, part_after, part_with, Part, Line, Whole, Reader, all_operators, enclosed, piece}
+use Rattle.lalrpop_re.specs.Text.{Text, begins}
+use Rattle.lalrpop_re.specs.CharacterSet.{set_tree}
+use Rattle.lalrpop_re.specs.Flag.{no_flags}
+use Rattle.lalrpop_re.specs.GroupName.{names, are_distinct}
+use Rattle.lalrpop_re.specs.NamedPart.{NamedPart}
+use Rattle.lalrpop_re.specs.Pattern.{escaped_tree, most_levels}
+use Rattle.lalrpop_re.specs.Internal.Reading.{◌>>=◌, Opened, a_plain_group, a_named_group, a_flagged_group, a_directive_to, opened, escape, bracket, is_nothing, inside, part_after, part_with, Part, Line, Whole, Reader, all_operators, enclosed, piece}
 use Rattle.lalrpop_re.specs.Internal.Views.{text}
 
 -- ---- one step of a row

@@ -1,8 +1,8 @@
 -- How the parser's signs of escapes relate to those of the grammar.
 use Rattle.std.specs.Prelude.{◌<◌}
 use Rattle.unicode.specs.Perl.{is_digit_char, is_space_char, is_word_char}
-use Rattle.lalrpop_grammar.specs.CharacterSet.{Set}
-use Rattle.lalrpop_grammar.specs.Escape.{character, set, assertion, Sign, this, code, property, edge, unknown}
+use Rattle.lalrpop_re.specs.CharacterSet.{Set}
+use Rattle.lalrpop_re.specs.Escape.{character, set, assertion, Sign, this, code, property, edge, unknown}
 use Rattle.lalrpop_re.specs.declared.escape_sequence.PerlClass.{PerlClass}
 use Rattle.lalrpop_re.specs.declared.escape_sequence.PerlClass.TheVariants.{Digits, Spaces, Words}
 use Rattle.lalrpop_re.specs.declared.escape_sequence.EscapeSign.{EscapeSign}

@@ -1,9 +1,9 @@
 -- How the parser's values relate to those of the grammar.
 use Rattle.std.specs.Prelude.{◌≡◌, ◌↔◌, ℕ, List, length, drop, slice_get, unwrap_or, Option, Some, None, Result, Ok, Err, string_bytes}
-use Rattle.lalrpop_book.specs.Range.{Range, Covered}
+use Rattle.lalrpop_hir.specs.Range.{Range, Covered}
 use Rattle.lalrpop_hir.specs.Runs.{IsScalar}
-use Rattle.lalrpop_grammar.specs.declared.error.RegexError.{RegexError}
-use Rattle.lalrpop_grammar.specs.declared.error.RegexError.TheVariants.{Syntax, OutOfMemory}
+use Rattle.lalrpop_re.specs.declared.error.RegexError.{RegexError}
+use Rattle.lalrpop_re.specs.declared.error.RegexError.TheVariants.{Syntax, OutOfMemory}
 use Rattle.lalrpop_re.specs.declared.cursor.Cursor.{Cursor}
 use Rattle.lalrpop_re.specs.declared.escape_sequence.EscapedPart.{EscapedPart}
 use Rattle.lalrpop_re.specs.declared.escape_sequence.EscapedPart.TheVariants as code
@@ -11,16 +11,16 @@ use Rattle.lalrpop_re.specs.declared.opening.GroupOpening.{GroupOpening}
 use Rattle.lalrpop_re.specs.declared.opening.GroupOpening.TheVariants.{Plain, Named, Flagged, Directive}
 use Rattle.lalrpop_re.specs.declared.bracket.BracketOperator.{BracketOperator}
 use Rattle.lalrpop_re.specs.declared.bracket.BracketOperator.TheVariants as operator
-use Rattle.lalrpop_grammar.specs.declared.error.SyntaxKind.TheVariants.{GroupName}
-use Rattle.lalrpop_grammar.specs.GroupName.{IsFirstRepeated}
-use Rattle.lalrpop_grammar.specs.Text.{Text}
-use Rattle.lalrpop_book.specs.Tree.{Tree}
-use Rattle.lalrpop_grammar.specs.NamedPart.{NamedPart}
-use Rattle.lalrpop_grammar.specs.Pattern.{PatternWith}
-use Rattle.lalrpop_grammar.specs.CharacterSet.{Set, Members, HasRuns}
-use Rattle.lalrpop_grammar.specs.Escape.{Escaped, character, set, assertion}
-use Rattle.lalrpop_grammar.specs.Bracket.{SetOperator, Intersection, Difference, SymmetricDifference}
-use Rattle.lalrpop_grammar.specs.Internal.Reading.{Opened, a_plain_group, a_named_group, a_flagged_group, a_directive_to}
+use Rattle.lalrpop_re.specs.declared.error.SyntaxKind.TheVariants.{GroupName}
+use Rattle.lalrpop_re.specs.GroupName.{IsFirstRepeated}
+use Rattle.lalrpop_re.specs.Text.{Text}
+use Rattle.lalrpop_hir.specs.Tree.{Tree}
+use Rattle.lalrpop_re.specs.NamedPart.{NamedPart}
+use Rattle.lalrpop_re.specs.Pattern.{PatternWith}
+use Rattle.lalrpop_re.specs.CharacterSet.{Set, Members, HasRuns}
+use Rattle.lalrpop_re.specs.Escape.{Escaped, character, set, assertion}
+use Rattle.lalrpop_re.specs.Bracket.{SetOperator, Intersection, Difference, SymmetricDifference}
+use Rattle.lalrpop_re.specs.Internal.Reading.{Opened, a_plain_group, a_named_group, a_flagged_group, a_directive_to}
 
 unfoldable pub text_from : ℕ → Text → Text
 text_from = drop

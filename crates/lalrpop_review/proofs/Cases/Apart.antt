@@ -2,9 +2,9 @@
 use Rattle.std.proofs.Common.{◌≡◌, ◌≢◌, ℕ, zero, suc, ◌≤◌, Bool, true, false, List, [], ◌∷◌, get_or, refl, sym, ap, subst, arith}
 use Rattle.std.specs.Prelude.{Option, Some, None, slice_index}
 use Rattle.std.proofs.lemmas.Option.{same_Some}
-use Rattle.lalrpop_book.specs.Tree.{Tree, literal}
-use Rattle.lalrpop_book.specs.Language.{Matches}
-use Rattle.lalrpop_book.specs.Winners.{TreeMatches}
+use Rattle.lalrpop_hir.specs.Tree.{Tree, literal}
+use Rattle.lalrpop_hir.specs.Language.{Matches}
+use Rattle.lalrpop_hir.specs.Winners.{TreeMatches}
 use Rattle.lalrpop_modes.specs.Modes.{ModeRules, trees_in}
 use Rattle.lalrpop_modes.specs.declared.action.Action.{Action}
 use Rattle.lalrpop_modes.specs.declared.action.Action.TheVariants.{Push, Pop}

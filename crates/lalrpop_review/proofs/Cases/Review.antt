@@ -2,12 +2,12 @@
 use Rattle.std.proofs.Common.{◌≡◌, ℕ, zero, suc, ◌<◌, ◌≤◌, inl, inr, List, [], ◌∷◌, length, get_or, slice_index, Global, Vec, refl, sym, ap, ◌∙◌, subst, arith}
 use Rattle.std.specs.Prelude.{slice_get, Some, None, Contains}
 use Rattle.std.proofs.lemmas.Option.{same_Some}
-use Rattle.lalrpop_book.specs.Tree.{Tree, literal}
-use Rattle.lalrpop_book.specs.Language.{Matches}
-use Rattle.lalrpop_book.specs.Winners.{Matched, TreeMatches, IsStrongest, IsOnlyStrongest}
-use Rattle.lalrpop_book.specs.Word.{Shortlex}
-use Rattle.lalrpop_book.proofs.Contained.{contains_first, contains_none, contains_only}
-use Rattle.lalrpop_book.proofs.Words.{Shortlex-irreflexive}
+use Rattle.lalrpop_hir.specs.Tree.{Tree, literal}
+use Rattle.lalrpop_hir.specs.Language.{Matches}
+use Rattle.lalrpop_hir.specs.Winners.{Matched, TreeMatches, IsStrongest, IsOnlyStrongest}
+use Rattle.lalrpop_hir.specs.Word.{Shortlex}
+use Rattle.lalrpop_hir.proofs.Contained.{contains_first, contains_none, contains_only}
+use Rattle.lalrpop_hir.proofs.Words.{Shortlex-irreflexive}
 use Rattle.lalrpop_dfa.specs.Witness.{IsLeast, OpenMatch}
 use Rattle.lalrpop_modes.specs.Modes.{ModeRules, trees_in}
 use Rattle.lalrpop_verdicts.specs.Answers.{IsTextWord}

@@ -1,8 +1,8 @@
 -- Rules that never win, one after another.
 use Rattle.std.specs.Prelude.{◌≡◌, ℕ, ◌+◌, ◌<◌, List, slice_get, Option, Some, None, Vec, Contains}
 use Rattle.std.specs.Global.{Global}
-use Rattle.lalrpop_book.specs.Language.{Words}
-use Rattle.lalrpop_book.specs.Tree.{Tree}
+use Rattle.lalrpop_hir.specs.Language.{Words}
+use Rattle.lalrpop_hir.specs.Tree.{Tree}
 use Rattle.lalrpop_modes.specs.Modes.{ModeRules, trees_in}
 use Rattle.lalrpop_verdicts.specs.WonWord.{WonWord}
 use Rattle.lalrpop_verdicts.specs.Verdicts.{AreWinners, IsVerdict, IsWonBy, words_of}

@@ -1,7 +1,7 @@
 -- Cases of specs/FileParts.antt.
 use Rattle.std.proofs.Common.{◌≡◌, ℕ, List, [], ◌∷◌, ◌+◌, length, codes, refl, sym, ap, ◌∙◌, arith, length-append}
 use Rattle.std.specs.Str.{chars}
-use Rattle.lalrpop_grammar.specs.NamedPart.{NamedPart}
+use Rattle.lalrpop_re.specs.NamedPart.{NamedPart}
 use Rattle.lalrpop_rule_file.specs.RuleLine.{WrittenPart, WrittenRule, Section}
 use Rattle.lalrpop_rule_file.specs.FileModes.{Nothing, Heading, Define, Rule}
 use Rattle.lalrpop_rule_file.specs.FileParts.{AreParts, IsNameColumn, IsPatternColumn, no_parts, one_more, parts_above, parts_in}

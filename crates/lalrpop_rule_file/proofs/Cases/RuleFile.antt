@@ -7,7 +7,7 @@ use Rattle.lalrpop_lexer.specs.declared.position.Position.{Position}
 use Rattle.lalrpop_modes.specs.declared.action.Action.{Action}
 use Rattle.lalrpop_modes.specs.declared.action.Action.TheVariants as action
 use Rattle.lalrpop_modes.specs.Modes.{OneLeadsInto}
-use Rattle.lalrpop_grammar.specs.NamedPart.{NamedPart}
+use Rattle.lalrpop_re.specs.NamedPart.{NamedPart}
 use Rattle.lalrpop_rules.specs.declared.rule_text.RuleText.TheVariants as texts
 use Rattle.lalrpop_rule_file.specs.Words.{IsSpan, is_blank, is_of_name}
 use Rattle.lalrpop_rule_file.specs.LineText.{Literal, Escaped, Pattern, Quoted, AnyCase, FromTo}

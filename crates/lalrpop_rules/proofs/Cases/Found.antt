@@ -1,8 +1,8 @@
 -- Cases of specs/Found.antt.
 use Rattle.std.proofs.Common.{◌≡◌, ℕ, ◌<◌, List, [], codes, arith, subst}
-use Rattle.lalrpop_book.specs.Tree.{Tree}
-use Rattle.lalrpop_book.specs.Tokens.{IsToken}
-use Rattle.lalrpop_book.specs.declared.token.Token.{Token}
+use Rattle.lalrpop_hir.specs.Tree.{Tree}
+use Rattle.lalrpop_hir.specs.Tokens.{IsToken}
+use Rattle.lalrpop_hir.specs.declared.token.Token.{Token}
 use Rattle.lalrpop_rules.specs.Found.{MatchesAt, NoMatchBefore, IsFound, NothingFound}
 use Rattle.lalrpop_rules.proofs.FirstMatches.{match_within}
 

@@ -2,7 +2,7 @@
 use Rattle.std.proofs.Common.{◌≡◌, ℕ, true, false, List, [], ◌∷◌, codes, refl, ap, sym, ◌∙◌, arith, get_or}
 use Rattle.std.specs.Prelude.{Some, None}
 use Rattle.std.specs.Borrow.{Bor}
-use Rattle.lalrpop_book.specs.Tree.{Tree, alternation, none, also}
+use Rattle.lalrpop_hir.specs.Tree.{Tree, alternation, none, also}
 use Rattle.lalrpop_rules.specs.Kinds.{AreKinds, AreOneKind, IsFirstSame, all_at_work, gathered, is_kind, merged, merged_behind, one_tree, trees_of_kind}
 use Rattle.lalrpop_rules.specs.declared.rule.Rule.{Rule}
 use Rattle.lalrpop_rules.specs.declared.rule_text.RuleText.TheVariants.{Pattern}

@@ -2,8 +2,8 @@
 use Rattle.std.proofs.Common.{◌≡◌, ℕ, ◌+◌, ◌<◌, Bool, false, true, inl, inr, List, [], ◌∷◌, ◌++◌, length, get_or, codes, refl, ap, subst, ◌∙◌, arith}
 use Rattle.std.specs.Prelude.{Some, None, Ok, Err}
 use Rattle.std.specs.Borrow.{Bor}
-use Rattle.lalrpop_book.specs.Tree.{Tree}
-use Rattle.lalrpop_book.specs.declared.token.Token.{Token as Cut}
+use Rattle.lalrpop_hir.specs.Tree.{Tree}
+use Rattle.lalrpop_hir.specs.declared.token.Token.{Token as Cut}
 use Rattle.lalrpop_rules.specs.Found.{MatchesAt}
 use Rattle.lalrpop_rules.specs.Pieces.{IsSkipped, IsFault, IsPiece, ArePieces, AreApart, joined, up_to_fault, first_token}
 use Rattle.lalrpop_rules.specs.declared.item.Item.{Item}

@@ -3,9 +3,9 @@ use Rattle.std.proofs.Common.{◌≡◌, ◌<◌, ℕ, true, false, List, [], �
 use Rattle.std.specs.Prelude.{Some, slice_get}
 use Rattle.std.specs.Option.{option_map}
 use Rattle.std.specs.Borrow.{Bor}
-use Rattle.lalrpop_book.specs.Tree.{Tree}
-use Rattle.lalrpop_delimited.specs.declared.error.FromToError.{FromToError}
-use Rattle.lalrpop_delimited.specs.declared.error.FromToError.TheVariants.{EmptyEnd}
+use Rattle.lalrpop_hir.specs.Tree.{Tree}
+use Rattle.lalrpop_re.specs.declared.from_to_error.FromToError.{FromToError}
+use Rattle.lalrpop_re.specs.declared.from_to_error.FromToError.TheVariants.{EmptyEnd}
 use Rattle.lalrpop_rules.specs.RuleSet.{AreTrees, IsNotParsed, HasBadEnd, IsTextError, IsRulesError, names_of, precedences_of, skips_of}
 use Rattle.lalrpop_rules.specs.declared.error.RulesError.TheVariants.{OutOfMemory}
 use Rattle.lalrpop_rules.specs.declared.rule.Rule.{Rule}

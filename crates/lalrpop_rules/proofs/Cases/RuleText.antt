@@ -3,11 +3,11 @@ use Rattle.std.proofs.Common.{◌≡◌, ℕ, List, [], get_or, codes, refl, sym
 use Rattle.std.specs.Borrow.{Bor}
 use Rattle.std.specs.Str.{chars}
 use lib.Utf8.{encode}
-use Rattle.lalrpop_book.specs.Language.{Matches}
-use Rattle.lalrpop_book.specs.Tree.{Tree, empty, literal}
-use Rattle.lalrpop_grammar.specs.Unescaped.{at_end, itself}
+use Rattle.lalrpop_hir.specs.Language.{Matches}
+use Rattle.lalrpop_hir.specs.Tree.{Tree, empty, literal}
+use Rattle.lalrpop_re.specs.Unescaped.{at_end, itself}
 use Rattle.lalrpop_hir.specs.Parts.{of_text}
-use Rattle.lalrpop_delimited.specs.declared.error.FromToError.TheVariants.{EmptyEnd, OutOfMemory}
+use Rattle.lalrpop_re.specs.declared.from_to_error.FromToError.TheVariants.{EmptyEnd, OutOfMemory}
 use Rattle.lalrpop_rules.specs.RuleText.{HasTree, IsAnyCase, IsAnyCaseTree, IsBadEnd, IsBetween, IsEscaped, IsEscapedTree, IsLiteral, IsParsed, IsPattern}
 use Rattle.lalrpop_rules.specs.declared.rule_text.RuleText.TheVariants.{Literal, Escaped, AnyCase, Pattern, FromTo}
 

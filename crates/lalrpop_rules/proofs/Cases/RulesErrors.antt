@@ -1,8 +1,8 @@
 -- Cases of specs/RulesErrors.antt.
 use Rattle.std.proofs.Common.{◌≡◌, refl}
-use Rattle.lalrpop_book.specs.declared.error.DfaConstructionError.TheVariants as built
-use Rattle.lalrpop_book.specs.declared.error.NfaConstructionError.{NfaConstructionError}
-use Rattle.lalrpop_delimited.specs.declared.error.FromToError.TheVariants.{EmptyEnd}
+use Rattle.lalrpop_hir.specs.declared.error.DfaConstructionError.TheVariants as built
+use Rattle.lalrpop_hir.specs.declared.error.NfaConstructionError.{NfaConstructionError}
+use Rattle.lalrpop_re.specs.declared.from_to_error.FromToError.TheVariants.{EmptyEnd}
 use Rattle.lalrpop_rules.specs.RulesErrors.{of_texts, of_construction}
 use Rattle.lalrpop_rules.specs.declared.text_error.TextError.TheVariants as texts
 use Rattle.lalrpop_rules.specs.declared.error.RulesError.TheVariants.{BadEnd, NotCompiled, OutOfMemory}

@@ -1,10 +1,10 @@
 -- The first tree that can't be compiled.
 use Rattle.std.specs.Prelude.{◌≡◌, ℕ, ◌<◌, List, Some, None, slice_get}
-use Rattle.lalrpop_book.specs.Fault.{fault}
-use Rattle.lalrpop_book.specs.Report.{FirstFault}
-use Rattle.lalrpop_book.specs.Tree.{Tree}
-use Rattle.lalrpop_book.specs.declared.error.NfaConstructionError.{NfaConstructionError}
-use Rattle.lalrpop_book.specs.declared.error.NfaConstructionError.TheVariants as compile
+use Rattle.lalrpop_hir.specs.Fault.{fault}
+use Rattle.lalrpop_hir.specs.Report.{FirstFault}
+use Rattle.lalrpop_hir.specs.Tree.{Tree}
+use Rattle.lalrpop_hir.specs.declared.error.NfaConstructionError.{NfaConstructionError}
+use Rattle.lalrpop_hir.specs.declared.error.NfaConstructionError.TheVariants as compile
 use Rattle.lalrpop_rules.specs.declared.text_error.TextError.{TextError}
 use Rattle.lalrpop_rules.specs.declared.text_error.TextError.TheVariants.{NotCompiled, OutOfMemory}
 

@@ -2,11 +2,11 @@
 use Rattle.std.specs.Prelude.{◌≡◌, ℕ, List}
 use Rattle.std.specs.Borrow.{Bor}
 use Rattle.std.specs.Str.{IsCharBoundary}
-use Rattle.lalrpop_book.specs.Tree.{Tree}
-use Rattle.lalrpop_delimited.specs.declared.error.FromToError.{FromToError}
-use Rattle.lalrpop_delimited.specs.declared.error.FromToError.TheVariants as ends
-use Rattle.lalrpop_grammar.specs.declared.error.RegexError.{RegexError}
-use Rattle.lalrpop_grammar.specs.declared.error.RegexError.TheVariants as read
+use Rattle.lalrpop_hir.specs.Tree.{Tree}
+use Rattle.lalrpop_re.specs.declared.from_to_error.FromToError.{FromToError}
+use Rattle.lalrpop_re.specs.declared.from_to_error.FromToError.TheVariants as ends
+use Rattle.lalrpop_re.specs.declared.error.RegexError.{RegexError}
+use Rattle.lalrpop_re.specs.declared.error.RegexError.TheVariants as read
 use Rattle.lalrpop_rules.specs.RuleText.{HasTree, IsBadEnd, IsEscapedTree, IsParsed}
 use Rattle.lalrpop_rules.specs.declared.rule_text.RuleText.{RuleText}
 use Rattle.lalrpop_rules.specs.declared.rule_text.RuleText.TheVariants.{FromTo}

@@ -2,12 +2,12 @@
 -- and the empty text beside `a`.
 use Rattle.std.proofs.Common.{◌≡◌, ℕ, zero, suc, ◌<◌, ◌≤◌, List, [], ◌∷◌, get_or, slice_index, Global, Vec, refl, sym, ap, ◌∙◌, subst, arith}
 use Rattle.std.specs.Prelude.{slice_get, Some, None}
-use Rattle.lalrpop_book.specs.Tree.{Tree, empty, literal}
-use Rattle.lalrpop_book.specs.Language.{Matches, Words}
-use Rattle.lalrpop_book.specs.Winners.{TreeMatches, IsStrongest, IsOnlyStrongest}
-use Rattle.lalrpop_book.specs.Word.{Shortlex}
-use Rattle.lalrpop_book.proofs.Contained.{contains_first, contains_none, contains_only}
-use Rattle.lalrpop_book.proofs.Words.{Shortlex-irreflexive}
+use Rattle.lalrpop_hir.specs.Tree.{Tree, empty, literal}
+use Rattle.lalrpop_hir.specs.Language.{Matches, Words}
+use Rattle.lalrpop_hir.specs.Winners.{TreeMatches, IsStrongest, IsOnlyStrongest}
+use Rattle.lalrpop_hir.specs.Word.{Shortlex}
+use Rattle.lalrpop_hir.proofs.Contained.{contains_first, contains_none, contains_only}
+use Rattle.lalrpop_hir.proofs.Words.{Shortlex-irreflexive}
 use Rattle.lalrpop_dfa.specs.Witness.{IsLeast}
 use Rattle.lalrpop_verdicts.specs.Answers.{IsTextWord}
 use Rattle.lalrpop_verdicts.specs.WonWord.{WonWord}

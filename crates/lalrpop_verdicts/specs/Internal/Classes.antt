@@ -7,7 +7,7 @@ use Rattle.std.specs.HashSet.{HashSet, contains}
 use Rattle.std.specs.Int.{bit_at}
 use Rattle.std.specs.List.{Contains}
 use Rattle.std.specs.Option.{option_to_list}
-use Rattle.lalrpop_book.specs.Range.{Range}
+use Rattle.lalrpop_hir.specs.Range.{Range}
 use Rattle.lalrpop_dfa.specs.Dfa.{Row, step}
 use Rattle.lalrpop_verdicts.specs.Answers.{accepted_by, answer_from}
 

@@ -1,7 +1,7 @@
 -- The words that one automaton accepts, by the trees that win them in another one.
 use Rattle.std.specs.Prelude.{◌≡◌, ◌≢◌, ℕ, ◌<◌, ◌≤◌, List, [], ◌∷◌, slice_get, Option, Some, None}
 use Rattle.std.specs.List.{Contains}
-use Rattle.lalrpop_book.specs.Tree.{Tree}
+use Rattle.lalrpop_hir.specs.Tree.{Tree}
 use Rattle.lalrpop_dfa.specs.Dfa.{Row, step, IsReject, RecognizesAll}
 use Rattle.lalrpop_dfa.specs.Lookahead.{Accepted}
 use Rattle.lalrpop_dfa.specs.Witness.{IsLeast}

@@ -3,9 +3,9 @@
 ghost use Rattle.std.specs.Prelude.{◌≡◌, ℕ, List, ◌<◌, ◌≤◌, ◌/◌, length, map, IfOk, IsTrue, OnOk, ◌↔◌};
 ghost use Rattle.std.specs.List.{Contains};
 ghost use Rattle.std.specs.List.Sorted.{IsNonDecreasing};
-ghost use Rattle.lalrpop_book.specs.Range.{Range};
+ghost use Rattle.lalrpop_hir.specs.Range.{Range};
 ghost use Rattle.lalrpop_dfa.specs.Dfa.{AreAscendingTests, IsWellFormed, edge_target, step};
-ghost use Rattle.lalrpop_dfa.specs.Internal.Stored.{EndBefore};
+ghost use Rattle.lalrpop_dfa.specs.Stored.{EndBefore};
 ghost use Rattle.lalrpop_verdicts.specs.Internal.Classes.{AreColumns, AreLeads, AreListed, AreMarkedWith, AreTried, HasFirsts, IsBounded, IsMarked, IsMore, leads_of};
 
 use super::split::split;

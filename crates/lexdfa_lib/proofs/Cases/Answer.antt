@@ -3,11 +3,11 @@ use Rattle.std.proofs.Common.{◌≡◌, ℕ, zero, suc, ◌≤◌, List, [], �
 use Rattle.std.specs.Prelude.{slice_index}
 use Rattle.std.specs.Fmt.{digits}
 use Rattle.std.specs.Str.{chars}
-use Rattle.lalrpop_book.specs.Word.{Shortlex}
-use Rattle.lalrpop_book.specs.Tree.{Tree, literal}
+use Rattle.lalrpop_hir.specs.Word.{Shortlex}
+use Rattle.lalrpop_hir.specs.Tree.{Tree, literal}
 use Rattle.lalrpop_hir.specs.Parts.{of_text}
-use Rattle.lalrpop_book.specs.Language.{Matches}
-use Rattle.lalrpop_book.proofs.Words.{Shortlex-irreflexive}
+use Rattle.lalrpop_hir.specs.Language.{Matches}
+use Rattle.lalrpop_hir.proofs.Words.{Shortlex-irreflexive}
 use Rattle.lalrpop_lexer.specs.Fault.{fault}
 use Rattle.lalrpop_lexer.specs.Report.{NoFault}
 use Rattle.lalrpop_lexer.specs.Winners.{TreeMatches}

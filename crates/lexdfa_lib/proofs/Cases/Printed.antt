@@ -1,7 +1,7 @@
 -- Cases of specs/Printed.antt.
 use Rattle.std.proofs.Common.{◌≡◌, ◌≢◌, [], ◌∷◌, codes, length, refl, ap, arith}
 use Rattle.std.specs.Fmt.{digits}
-use Rattle.lalrpop_book.specs.declared.error.NfaConstructionError.TheVariants.{NonGreedy}
+use Rattle.lalrpop_hir.specs.declared.error.NfaConstructionError.TheVariants.{NonGreedy}
 use Rattle.lexdfa_lib.specs.Printed.{line_of}
 use Rattle.lexdfa_lib.specs.declared.outcome.Outcome.TheVariants.{Match, NoMatch, All, Stopped, Refused, Ambiguous, Syntax, Line}
 

@@ -1,6 +1,6 @@
 -- Cases of specs/Status.antt.
 use Rattle.std.proofs.Common.{◌≡◌, [], ◌∷◌, refl}
-use Rattle.lalrpop_book.specs.declared.error.NfaConstructionError.TheVariants.{LookAround}
+use Rattle.lalrpop_hir.specs.declared.error.NfaConstructionError.TheVariants.{LookAround}
 use Rattle.lexdfa_lib.specs.Status.{outcome_status, error_status}
 use Rattle.lexdfa_lib.specs.declared.error.RunError.TheVariants.{OutOfMemory, Read, Write}
 use Rattle.lexdfa_lib.specs.declared.outcome.Outcome.TheVariants.{Match, NoMatch, All, Stopped, Refused, Ambiguous, Syntax, Line}

@@ -2,8 +2,8 @@
 use Rattle.std.proofs.Common.{◌≡◌, ℕ, ◌+◌, List, [], ◌∷◌, length, Some, None, inl, inr, refl, sym, ap, subst, ◌∙◌, codes, drop, arith}
 use Rattle.std.specs.Borrow.{Bor}
 use Rattle.std.specs.Fmt.{digits}
-use Rattle.lalrpop_book.specs.Tree.{Tree}
-use Rattle.lalrpop_book.proofs.LastFaults.{end_behind}
+use Rattle.lalrpop_hir.specs.Tree.{Tree}
+use Rattle.lalrpop_hir.proofs.LastFaults.{end_behind}
 use Rattle.lalrpop_lexer.specs.Longest.{IsLongest}
 use Rattle.lexdfa_lib.specs.Answer.{IsOutcome}
 use Rattle.lexdfa_lib.specs.Whole.{Token, Cuts, IsWhole, token_line, AreAnswers, ReadsAnswers, WritesAnswers, WritesAnswersPrefix}

@@ -6,9 +6,9 @@ use Rattle.unicode.specs.Binary.{is_default_ignorable_code_point}
 use Rattle.unicode.specs.Rows.{in_ranges}
 use Rattle.ucd_derived.specs.DefaultIgnorableCodePointRanges.{default_ignorable_code_point_ranges}
 use Rattle.std.specs.Prelude.{Result}
-use Rattle.lalrpop_book.specs.Tree.{Tree}
-use Rattle.lalrpop_book.specs.declared.token.Token.{Token}
-use Rattle.lalrpop_book.specs.declared.token.TokenFault.{TokenFault}
+use Rattle.lalrpop_hir.specs.Tree.{Tree}
+use Rattle.lalrpop_hir.specs.declared.token.Token.{Token}
+use Rattle.lalrpop_hir.specs.declared.token.TokenFault.{TokenFault}
 use Rattle.lalrpop_lexer.specs.SameTokens.{AreSameTokens}
 use Rattle.lalrpop_lexer.proofs.UniqueTokens.{tokens-unique}
 use Rattle.lexdfa_lib.specs.Watch.{AppendsPrefix}

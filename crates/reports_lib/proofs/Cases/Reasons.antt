@@ -2,13 +2,13 @@
 use Rattle.std.proofs.Common.{◌≡◌, ◌≢◌, ℕ, inl, inr, List, [], ◌∷◌, ◌++◌, codes, decimal, get_or, length, length-append, refl, ap, arith, Bor, Some}
 use Rattle.std.specs.Fmt.{digits}
 use Rattle.std.specs.Str.{chars}
-use Rattle.lalrpop_book.specs.declared.error.NfaConstructionError.TheVariants.{LookAround, NonGreedy}
-use Rattle.lalrpop_grammar.specs.declared.error.SyntaxKind.TheVariants.{UnclosedGroup, UnopenedGroup}
+use Rattle.lalrpop_hir.specs.declared.error.NfaConstructionError.TheVariants.{LookAround, NonGreedy}
+use Rattle.lalrpop_re.specs.declared.error.SyntaxKind.TheVariants.{UnclosedGroup, UnopenedGroup}
 use Rattle.lalrpop_lexer.specs.declared.position.Position.{Position}
 use Rattle.lalrpop_lexer.specs.Quoted.{quoted_word}
 use Rattle.lalrpop_rules.specs.declared.rule_text.RuleText.TheVariants.{Pattern}
 use Rattle.lalrpop_rule_file.specs.RuleFault.{reason_of}
-use Rattle.lalrpop_delimited.specs.declared.error.FromToError.TheVariants.{EmptyEnd, LongEnd}
+use Rattle.lalrpop_re.specs.declared.from_to_error.FromToError.TheVariants.{EmptyEnd, LongEnd}
 use Rattle.lalrpop_modes.specs.declared.error.ModesError.TheVariants.{NotParsed, BadEnd, NotCompiled, OutOfMemory}
 use Rattle.lalrpop_rules.specs.declared.rule.Rule.{Rule}
 use Rattle.lalrpop_rule_file.specs.declared.error.LineFault.TheVariants.{NoEquals}

@@ -8,7 +8,7 @@ use Rattle.unicode.specs.Binary.{is_default_ignorable_code_point}
 use Rattle.unicode.specs.Rows.{in_ranges}
 use Rattle.ucd_derived.specs.DefaultIgnorableCodePointRanges.{default_ignorable_code_point_ranges}
 use Rattle.json.specs.Print.{print_from, escape_byte}
-use Rattle.lalrpop_book.specs.Clashes.{Entry}
+use Rattle.lalrpop_hir.specs.Clashes.{Entry}
 use Rattle.lalrpop_dfa.specs.Witness.{OpenMatch}
 use Rattle.lalrpop_review.specs.declared.idle.IdleRule.{IdleRule}
 use Rattle.lalrpop_review.specs.declared.look.Look.TheVariants.{AtMost, Unbounded}

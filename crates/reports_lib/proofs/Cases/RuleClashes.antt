@@ -4,7 +4,7 @@ use Rattle.std.specs.Fmt.{digits}
 use Rattle.unicode.specs.Binary.{is_default_ignorable_code_point}
 use Rattle.unicode.specs.Rows.{in_ranges}
 use Rattle.ucd_derived.specs.DefaultIgnorableCodePointRanges.{default_ignorable_code_point_ranges}
-use Rattle.lalrpop_book.specs.Clashes.{Entry}
+use Rattle.lalrpop_hir.specs.Clashes.{Entry}
 use Rattle.reports_lib.specs.RuleClashes.{clash_lines, named_line}
 
 abbrev on_if : Entry

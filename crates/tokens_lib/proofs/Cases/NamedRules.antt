@@ -1,8 +1,8 @@
 -- Cases of specs/NamedRules.antt.
 use Rattle.std.proofs.Common.{◌≡◌, ◌≤◌, ℕ, List, [], ◌∷◌, ◌++◌, refl, ap, arith, ◌∙◌}
 use Rattle.std.specs.Prelude.{max}
-use Rattle.lalrpop_book.specs.Clashes.{Entry}
-use Rattle.lalrpop_book.specs.declared.error.NfaConstructionError.TheVariants.{LookAround}
+use Rattle.lalrpop_hir.specs.Clashes.{Entry}
+use Rattle.lalrpop_hir.specs.declared.error.NfaConstructionError.TheVariants.{LookAround}
 use Rattle.lalrpop_modes.specs.declared.error.ModesError.TheVariants.{NotCompiled, OutOfMemory}
 use Rattle.lalrpop_modes.specs.declared.mode_rule.ModeRule.{ModeRule}
 use Rattle.reports_lib.specs.Answer.{Answer, refusal, remark}

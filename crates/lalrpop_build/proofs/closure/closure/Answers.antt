@@ -1,7 +1,7 @@
 use Rattle.std.proofs.Common.{◌∙◌, ◌≡◌, ap, subst, length, IfOk}
 use Rattle.std.specs.List.{range_with_len}
-use Rattle.lalrpop_dfa.specs.Internal.LiveItems.{live_of}
-use Rattle.lalrpop_dfa.specs.Internal.Split.{still_live, full}
+use Rattle.lalrpop_dfa.specs.LiveItems.{live_of}
+use Rattle.lalrpop_dfa.specs.Split.{still_live, full}
 use Rattle.lalrpop_build.proofs.Sets.{closed_ascends}
 use Rattle.lalrpop_build.proofs.LiveSets.{all_live_patterns, closed_within, split_closed}
 use Rattle.lalrpop_build.proofs.closure.closure.Goals as goal

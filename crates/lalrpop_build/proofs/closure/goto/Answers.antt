@@ -2,10 +2,10 @@ use Rattle.std.proofs.Common.{◌∙◌, ◌≡◌, ℕ, List, ap, sym, subst}
 use Rattle.std.specs.List.{Contains}
 use Rattle.std.proofs.lemmas.Result.{IfOk-weaker}
 use Rattle.lalrpop_dfa.specs.Automata.{Item}
-use Rattle.lalrpop_dfa.specs.Internal.Ascending.{AreAscendingItems, AreByPattern}
+use Rattle.lalrpop_dfa.specs.Ascending.{AreAscendingItems, AreByPattern}
 use Rattle.lalrpop_build.specs.Internal.Given.{AreItemsOf}
-use Rattle.lalrpop_dfa.specs.Internal.LiveItems.{live_of}
-use Rattle.lalrpop_dfa.specs.Internal.Split.{still_live, full}
+use Rattle.lalrpop_dfa.specs.LiveItems.{live_of}
+use Rattle.lalrpop_dfa.specs.Split.{still_live, full}
 use Rattle.lalrpop_build.specs.Internal.Subsets.{move}
 use Rattle.lalrpop_build.specs.Internal.Transitions.{AreTransitions}
 use Rattle.lalrpop_build.proofs.Moving.{targets_inside}

@@ -1,5 +1,5 @@
 use Rattle.std.proofs.Common.{◌≤◌, ◌-◌, length}
-use Rattle.lalrpop_dfa.specs.Internal.Split.{AreBefore}
+use Rattle.lalrpop_dfa.specs.Split.{AreBefore}
 use Rattle.lalrpop_build.proofs.closure.place_of.Given as goal
 
 abbrev pub invariant-loop-place : goal.invariant-loop-place

@@ -1,7 +1,7 @@
 use Rattle.std.proofs.Common.{◌≡◌, ◌∙◌, ◌∷◌, [], List, ap₂, refl}
 use Rattle.std.specs.List.{AllZip}
-use Rattle.lalrpop_dfa.specs.Internal.LiveItems.{live_of}
-use Rattle.lalrpop_dfa.specs.Internal.Split.{still_live}
+use Rattle.lalrpop_dfa.specs.LiveItems.{live_of}
+use Rattle.lalrpop_dfa.specs.Split.{still_live}
 use Rattle.lalrpop_build.proofs.LiveSets.{split_of}
 use Rattle.lalrpop_build.proofs.closure.set_of.Goals as goal
 

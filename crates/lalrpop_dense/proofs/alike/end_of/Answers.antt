@@ -1,5 +1,5 @@
 use Rattle.std.proofs.Common.{ℕ, ◌-◌, ap, arith}
-use Rattle.lalrpop_book.specs.Range.{Range}
+use Rattle.lalrpop_hir.specs.Range.{Range}
 use Rattle.lalrpop_dfa.proofs.EdgeTargets.{at_place}
 use Rattle.lalrpop_dense.proofs.Alikes.{end_before}
 use Rattle.lalrpop_dense.proofs.alike.end_of.Goals as goal

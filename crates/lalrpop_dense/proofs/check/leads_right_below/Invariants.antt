@@ -1,5 +1,5 @@
 use Rattle.std.proofs.Common.{◌-◌, ◌≤◌}
-use Rattle.lalrpop_dfa.specs.Internal.Stored.{EndBefore}
+use Rattle.lalrpop_dfa.specs.Stored.{EndBefore}
 use Rattle.lalrpop_dense.specs.Internal.Runs.{LeadsRightBelow}
 use Rattle.lalrpop_dense.proofs.check.leads_right_below.Given as goal
 

@@ -1,7 +1,7 @@
 use Rattle.std.proofs.Common.{◌≡◌, ℕ, ◌+◌, ◌-◌, ◌≤◌, List, length, take}
 use Rattle.std.specs.Option.{option_map, IfSome}
 use Rattle.std.specs.Str.{chars}
-use Rattle.lalrpop_book.specs.Tree.{Tree}
+use Rattle.lalrpop_hir.specs.Tree.{Tree}
 use Rattle.lalrpop_dfa.specs.Dfa.{Recognizes}
 use Rattle.lalrpop_dfa.proofs.LongestLemmas.{IsLongestUpTo}
 use Rattle.lalrpop_dfa.proofs.Trails.{HasTrail}

@@ -1,7 +1,7 @@
 use Rattle.std.proofs.Common.{◌≡◌, ◌<◌, ◌≤◌, ℕ, Bool, List, length, true, sym, ap, ◌∙◌, subst, arith}
 use Rattle.std.specs.Prelude.{Some}
 use Rattle.lalrpop_dfa.specs.Internal.Marks.{AreLive}
-use Rattle.lalrpop_dfa.specs.Internal.Stored.{IsRejecting}
+use Rattle.lalrpop_dfa.specs.Stored.{IsRejecting}
 use Rattle.lalrpop_dfa.specs.Lookahead.{IsTrimmed}
 use Rattle.lalrpop_dfa.proofs.Marking.{mark_at}
 use Rattle.lalrpop_dfa.specs.Dfa.{Row}

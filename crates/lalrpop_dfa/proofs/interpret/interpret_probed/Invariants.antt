@@ -2,8 +2,8 @@ use Rattle.std.proofs.Common.{◌≡◌, ◌≢◌, ◌+◌, ◌*◌, ◌^◌, �
 use Rattle.std.specs.Option.{option_map, IfSome}
 use Rattle.std.specs.Str.{chars}
 use Rattle.std.specs.Str.Iter.{char_indices_rest, char_indices_offset}
-use Rattle.lalrpop_book.specs.Tree.{Tree}
-use Rattle.lalrpop_book.specs.Prefix.{IsPrefix}
+use Rattle.lalrpop_hir.specs.Tree.{Tree}
+use Rattle.lalrpop_hir.specs.Prefix.{IsPrefix}
 use Rattle.lalrpop_dfa.specs.Counts.{HaveAtMost}
 use Rattle.lalrpop_dfa.specs.Dfa.{Recognizes}
 use Rattle.lalrpop_dfa.proofs.LongestLemmas.{IsAfter, IsLongestUpTo}

@@ -1,5 +1,5 @@
 use Rattle.std.proofs.Common.{◌≡◌, take}
-use Rattle.lalrpop_dfa.specs.Internal.ItemOrder.{hash_of}
+use Rattle.lalrpop_dfa.specs.ItemOrder.{hash_of}
 use Rattle.lalrpop_dfa.proofs.items.hash_items.Given as goal
 
 abbrev pub invariant-loop-item : goal.invariant-loop-item

@@ -2,7 +2,7 @@ use Rattle.std.proofs.Common.{◌≡◌, ℕ, ◌<◌, ◌≤◌, ◌∙◌, len
 use Rattle.std.specs.Prelude.{slice_get, Some}
 use Rattle.std.proofs.lemmas.Bool.{cases_lt}
 use Rattle.std.proofs.lemmas.Option.{slice_get_within}
-use Rattle.lalrpop_book.specs.Range.{Range}
+use Rattle.lalrpop_hir.specs.Range.{Range}
 use Rattle.lalrpop_dfa.specs.Internal.Marks.{Marked}
 use Rattle.lalrpop_dfa.proofs.EdgeTargets.{at_place, the_some, tests_of}
 use Rattle.lalrpop_dfa.proofs.Marking.{leads_by_test, leads_by_other, leads_else, marked_read, read_marked, test_in, row_tests}

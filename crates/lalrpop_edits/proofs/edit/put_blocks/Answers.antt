@@ -1,6 +1,5 @@
-use Rattle.std.proofs.Common.{◌≡◌, ◌++◌, List, take, drop, arith, sym, ap, ◌∙◌}
+use Rattle.std.proofs.Common.{◌≡◌, ◌++◌, List, take, drop, arith, sym, ap, ◌∙◌, Global}
 use Rattle.lalrpop_edits.specs.declared.block.Block.{Block}
-use Rattle.std.proofs.Common.{Global}
 use Rattle.std.specs.Vec.Iter.{into_iter_steps}
 use Rattle.std.proofs.lemmas.List.{map-id}
 use Rattle.std.proofs.lemmas.Iterator.{YieldsList, items_from_drains}

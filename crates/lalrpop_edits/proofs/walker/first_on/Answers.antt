@@ -1,7 +1,7 @@
 use Rattle.std.proofs.Common.{◌≡◌, ℕ, ◌+◌, ◌<◌, ◌≤◌, ◌⊎◌, inl, inr, ap, sym, subst, arith, ⊎_elim, true}
 use Rattle.std.proofs.lemmas.Bool.{cases_lt, iff_false}
 use Rattle.lalrpop_dfa.specs.Dfa.{IsReject}
-use Rattle.lalrpop_dfa.specs.Internal.Stored.{EndBefore}
+use Rattle.lalrpop_dfa.specs.Stored.{EndBefore}
 use Rattle.lalrpop_dfa.proofs.EdgeTargets.{at_place}
 use Rattle.lalrpop_dfa.proofs.Marking.{row_tests, test_in}
 use Rattle.lalrpop_edits.proofs.Walking.{edges_of, by_others_last, by_others_before, its_first, reject_before, reject_through, passed_through}

@@ -1,6 +1,6 @@
 use Rattle.std.proofs.Common.{ℕ, ◌<◌}
 use Rattle.lalrpop_dfa.specs.Dfa.{IsReject, step}
-use Rattle.lalrpop_dfa.specs.Internal.Stored.{EndBefore}
+use Rattle.lalrpop_dfa.specs.Stored.{EndBefore}
 use Rattle.lalrpop_edits.proofs.walker.first_on.Given as goal
 
 abbrev pub invariant-loop-test : goal.invariant-loop-test

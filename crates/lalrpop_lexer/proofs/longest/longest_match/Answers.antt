@@ -1,4 +1,4 @@
-use Rattle.lalrpop_book.proofs.Strongest.{IsOnlyStrongest-from_longest}
+use Rattle.lalrpop_hir.proofs.Strongest.{IsOnlyStrongest-from_longest}
 use Rattle.lalrpop_lexer.proofs.longest.longest_match.Goals as goal
 
 pub returns-clause-strongest : goal.returns-clause-strongest

@@ -1,6 +1,6 @@
 use Rattle.std.proofs.Common.{ℕ, ◌∷◌, List, arith, subst}
 use Rattle.std.specs.Prelude.{None}
-use Rattle.lalrpop_book.specs.Longest.{IsLongest}
+use Rattle.lalrpop_hir.specs.Longest.{IsLongest}
 use Rattle.lalrpop_dense.specs.Leading.{AreAhead}
 use Rattle.lalrpop_lexer.proofs.TokenLists.{pushed, pushed_alone}
 use Rattle.lalrpop_lexer.proofs.token_list.push_block.Goals as goal

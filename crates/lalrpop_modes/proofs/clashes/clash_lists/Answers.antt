@@ -1,7 +1,7 @@
 use Rattle.std.proofs.Common.{◌≡◌, ◌∙◌, ◌++◌, List, map, length, ap, sym, subst, arith, ◌∷◌, [], length-append}
-use Rattle.lalrpop_book.specs.Tree.{Tree}
-use Rattle.lalrpop_book.specs.Clashes.{AreClashes}
-use Rattle.lalrpop_book.specs.Report.{IsFaultOf}
+use Rattle.lalrpop_hir.specs.Tree.{Tree}
+use Rattle.lalrpop_hir.specs.Clashes.{AreClashes}
+use Rattle.lalrpop_hir.specs.Report.{IsFaultOf}
 use Rattle.lalrpop_modes.specs.declared.error.ModesError.{ModesError}
 use Rattle.lalrpop_modes.specs.Internal.Lexers.{IsClashesFault, seen}
 use Rattle.lalrpop_modes.proofs.ModeByMode.{same_trees}

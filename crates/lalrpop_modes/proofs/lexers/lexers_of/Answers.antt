@@ -1,7 +1,7 @@
 use Rattle.std.proofs.Common.{◌∙◌, List, map, length, ap, sym, subst, arith, ◌∷◌, [], length-append}
-use Rattle.lalrpop_book.specs.Tree.{Tree}
-use Rattle.lalrpop_book.specs.Clash.{NoClash}
-use Rattle.lalrpop_book.specs.Report.{IsReport}
+use Rattle.lalrpop_hir.specs.Tree.{Tree}
+use Rattle.lalrpop_hir.specs.Clash.{NoClash}
+use Rattle.lalrpop_hir.specs.Report.{IsReport}
 use Rattle.lalrpop_modes.specs.declared.error.ModesError.{ModesError}
 use Rattle.lalrpop_modes.specs.Internal.Lexers.{IsModeFault, seen}
 use Rattle.lalrpop_modes.proofs.ModeByMode.{same_trees, lexers_more, clear_more, fault_of_report}

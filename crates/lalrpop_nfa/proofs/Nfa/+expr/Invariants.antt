@@ -1,8 +1,8 @@
 use Rattle.std.proofs.Common.{◌≡◌, ◌+◌, ◌*◌, ◌≤◌, ◌⊎◌, ◌++◌, List, length, drop}
-use Rattle.lalrpop_book.specs.Tree.{Tree}
+use Rattle.lalrpop_hir.specs.Tree.{Tree}
 use Rattle.lalrpop_hir.specs.Parts.{trees}
 use Rattle.lalrpop_hir.specs.Internal.Depth.{depth, greatest_depth}
-use Rattle.lalrpop_book.specs.Fault.{first_fault, last_fault}
+use Rattle.lalrpop_hir.specs.Fault.{first_fault, last_fault}
 use Rattle.lalrpop_nfa.specs.Internal.Valid.{AreValid}
 use Rattle.lalrpop_nfa.specs.Internal.Fragment.{fragment_of, copies, optional_copies, concat_expr}
 use Rattle.lalrpop_nfa.specs.Internal.Extends.{Extends, Branched, IsCompilable}

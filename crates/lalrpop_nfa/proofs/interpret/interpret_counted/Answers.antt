@@ -4,8 +4,8 @@ use Rattle.std.specs.Str.{chars, IsCharBoundary}
 use Rattle.std.specs.Str.Iter.{char_indices_rest, char_indices_offset}
 use Rattle.std.specs.Option.{option_map, option_or}
 use Rattle.std.proofs.lemmas.Str.{chars-nil, IsCharBoundary-start}
-use Rattle.lalrpop_book.specs.Language.{Matches}
-use Rattle.lalrpop_book.specs.Prefix.{IsPrefix}
+use Rattle.lalrpop_hir.specs.Language.{Matches}
+use Rattle.lalrpop_hir.specs.Prefix.{IsPrefix}
 use Rattle.lalrpop_nfa.specs.Internal.StateSets.{IsMove, IsIfAccepted}
 use Rattle.lalrpop_nfa.proofs.StateSetLemmas.{none_on}
 use Rattle.lalrpop_nfa.proofs.PrefixLemmas.{IsLongestOfUpTo, of_end, of_stop}

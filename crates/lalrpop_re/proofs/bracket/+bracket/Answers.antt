@@ -1,11 +1,11 @@
 use Rattle.std.proofs.Common.{◌≡◌, ◌∙◌, ◌+◌, [], ◌∷◌, ◌++◌, length, drop, option_to_list, option_map, max, sym, ap, refl, subst, arith, rules}
 use Rattle.std.proofs.lemmas.Result.{err_from_is_err_and}
-use Rattle.lalrpop_grammar.specs.CharacterSet.{complement, union_all}
-use Rattle.lalrpop_grammar.specs.Bracket.{apply, leaves, leaf_or_complement}
-use Rattle.lalrpop_grammar.specs.Internal.Reading.{whole_operand, item, bracket}
+use Rattle.lalrpop_re.specs.CharacterSet.{complement, union_all}
+use Rattle.lalrpop_re.specs.Bracket.{apply, leaves, leaf_or_complement}
+use Rattle.lalrpop_re.specs.Internal.Reading.{whole_operand, item, bracket}
 use Rattle.lalrpop_re.specs.Internal.Views.{text, operator_view, HasMembers}
 use Rattle.lalrpop_re.specs.Internal.Items.{Gains}
-use Rattle.lalrpop_grammar.specs.declared.flags.Flags.{Flags}
+use Rattle.lalrpop_re.specs.declared.flags.Flags.{Flags}
 use Rattle.lalrpop_re.proofs.ItemLaws.{HasMembers-gains, HasRuns-from_members}
 use Rattle.lalrpop_re.proofs.BracketLoops.{refuses_on, operator_long, is_empty, operand_stop, operand_turned, operand_refused, operand_open, operations_stop, operations_turned, operations_lost, operations_failed, enclosed_negated, enclosed_plain, item_posix, item_bracket, bracket_full, bracket_turn}
 use Rattle.lalrpop_re.proofs.bracket.+bracket.Goals as goal

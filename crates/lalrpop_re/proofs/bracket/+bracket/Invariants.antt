@@ -1,7 +1,7 @@
 use Rattle.std.proofs.Common.{◌≡◌, ◌≤◌, ◌+◌, ◌*◌, List, option_to_list}
-use Rattle.lalrpop_grammar.specs.CharacterSet.{Set, union_all, HasRuns}
-use Rattle.lalrpop_grammar.specs.Bracket.{leaves}
-use Rattle.lalrpop_grammar.specs.Internal.Reading.{whole_operand, all_operations, bracket}
+use Rattle.lalrpop_re.specs.CharacterSet.{Set, union_all, HasRuns}
+use Rattle.lalrpop_re.specs.Bracket.{leaves}
+use Rattle.lalrpop_re.specs.Internal.Reading.{whole_operand, all_operations, bracket}
 use Rattle.lalrpop_re.specs.Internal.Views.{text, unread, HasMembers}
 use Rattle.lalrpop_re.proofs.bracket.+bracket.Given as goal
 

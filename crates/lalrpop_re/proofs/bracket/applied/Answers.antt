@@ -1,11 +1,11 @@
 use Rattle.std.proofs.Common.{◌⊎◌}
 use Rattle.std.proofs.lemmas.Result.{IfOk-weaker}
-use Rattle.lalrpop_book.specs.Range.{Covered}
+use Rattle.lalrpop_hir.specs.Range.{Covered}
 use Rattle.lalrpop_hir.specs.Runs.{IsCanon}
-use Rattle.lalrpop_grammar.specs.CharacterSet.{Set, HasRuns}
-use Rattle.lalrpop_grammar.specs.Bracket.{apply}
+use Rattle.lalrpop_re.specs.CharacterSet.{Set, HasRuns}
+use Rattle.lalrpop_re.specs.Bracket.{apply}
 use Rattle.lalrpop_re.specs.Internal.Views.{operator_view}
-use Rattle.lalrpop_grammar.proofs.SetLaws.{HasRuns-xor}
+use Rattle.lalrpop_re.proofs.SetLaws.{HasRuns-xor}
 use Rattle.lalrpop_re.proofs.bracket.applied.Goals as goal
 
 pub returns-in-SymmetricDifference : goal.returns-in-SymmetricDifference

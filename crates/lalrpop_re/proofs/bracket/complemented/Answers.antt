@@ -1,8 +1,8 @@
 use Rattle.std.proofs.lemmas.Result.{IfOk-weaker}
-use Rattle.lalrpop_book.specs.Range.{Covered}
+use Rattle.lalrpop_hir.specs.Range.{Covered}
 use Rattle.lalrpop_hir.specs.Runs.{IsCanon}
-use Rattle.lalrpop_grammar.specs.CharacterSet.{Set, complement, HasRuns}
-use Rattle.lalrpop_grammar.proofs.SetLaws.{HasRuns-complement}
+use Rattle.lalrpop_re.specs.CharacterSet.{Set, complement, HasRuns}
+use Rattle.lalrpop_re.proofs.SetLaws.{HasRuns-complement}
 use Rattle.lalrpop_re.proofs.bracket.complemented.Goals as goal
 
 pub returns : goal.returns

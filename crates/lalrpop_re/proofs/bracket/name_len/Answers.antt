@@ -1,5 +1,5 @@
 use Rattle.std.proofs.Common.{◌∙◌, ap}
-use Rattle.lalrpop_grammar.specs.Text.{Text, begins}
+use Rattle.lalrpop_re.specs.Text.{Text, begins}
 use Rattle.lalrpop_re.proofs.BracketLoops.{name_found, tail_part}
 use Rattle.lalrpop_re.proofs.bracket.name_len.Goals as goal
 

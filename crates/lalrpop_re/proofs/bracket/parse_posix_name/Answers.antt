@@ -1,8 +1,8 @@
 use Rattle.std.proofs.Common.{◌≡◌, ◌+◌, ◌≤◌, ◌∙◌, true, false, drop, length, ap, sym, refl, subst, arith, length-drop}
 use Rattle.std.specs.Char.{is_ascii_lowercase}
 use Rattle.std.proofs.lemmas.List.{drop-drop}
-use Rattle.lalrpop_grammar.specs.Text.{Text, begins}
-use Rattle.lalrpop_grammar.specs.Internal.Reading.{span}
+use Rattle.lalrpop_re.specs.Text.{Text, begins}
+use Rattle.lalrpop_re.specs.Internal.Reading.{span}
 use Rattle.lalrpop_re.specs.Internal.Views.{text}
 use Rattle.lalrpop_re.proofs.BracketLoops.{posix_open, posix_unknown, posix_known, name_part, tail_part}
 use Rattle.lalrpop_re.proofs.bracket.parse_posix_name.Goals as goal

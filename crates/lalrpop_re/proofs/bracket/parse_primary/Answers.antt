@@ -1,5 +1,5 @@
 use Rattle.std.proofs.Common.{sym, ◌∙◌, refl}
-use Rattle.lalrpop_grammar.specs.Escape.{character}
+use Rattle.lalrpop_re.specs.Escape.{character}
 use Rattle.lalrpop_re.specs.Internal.Views.{text}
 use Rattle.lalrpop_re.proofs.BracketLoops.{primary_plain}
 use Rattle.lalrpop_re.proofs.bracket.parse_primary.Goals as goal

@@ -1,5 +1,5 @@
 use Rattle.std.proofs.Common.{◌≡◌, ◌≤◌}
-use Rattle.lalrpop_grammar.specs.Internal.Reading.{past_hyphens}
+use Rattle.lalrpop_re.specs.Internal.Reading.{past_hyphens}
 use Rattle.lalrpop_re.specs.Internal.Views.{text, unread}
 use Rattle.lalrpop_re.proofs.bracket.pass_hyphens.Given as goal
 

@@ -1,5 +1,5 @@
-use Rattle.lalrpop_grammar.specs.CharacterSet.{just, range}
-use Rattle.lalrpop_grammar.specs.Bracket.{leaf}
+use Rattle.lalrpop_re.specs.CharacterSet.{just, range}
+use Rattle.lalrpop_re.specs.Bracket.{leaf}
 use Rattle.lalrpop_re.proofs.ItemLaws.{where_ok, Gains-same, leaf-just}
 use Rattle.lalrpop_re.proofs.bracket.push_character.Goals as goal
 

@@ -1,7 +1,7 @@
 use Rattle.std.proofs.Common.{◌++◌, ◌∷◌, [], ap, ◌∙◌}
-use Rattle.lalrpop_book.specs.Range.{Range}
-use Rattle.lalrpop_grammar.specs.CharacterSet.{range}
-use Rattle.lalrpop_grammar.specs.Bracket.{leaf}
+use Rattle.lalrpop_hir.specs.Range.{Range}
+use Rattle.lalrpop_re.specs.CharacterSet.{range}
+use Rattle.lalrpop_re.specs.Bracket.{leaf}
 use Rattle.lalrpop_re.proofs.ItemLaws.{where_ok, Gains-plain}
 use Rattle.lalrpop_re.proofs.bracket.push_leaf.Goals as goal
 

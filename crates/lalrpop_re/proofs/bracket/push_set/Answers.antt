@@ -1,4 +1,4 @@
-use Rattle.lalrpop_grammar.specs.Bracket.{leaf_or_complement}
+use Rattle.lalrpop_re.specs.Bracket.{leaf_or_complement}
 use Rattle.lalrpop_re.proofs.ItemLaws.{where_ok}
 use Rattle.lalrpop_re.proofs.bracket.push_set.Goals as goal
 

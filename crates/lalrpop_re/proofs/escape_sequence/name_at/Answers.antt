@@ -1,5 +1,5 @@
 use Rattle.std.proofs.Common.{◌∙◌, sym}
-use Rattle.lalrpop_grammar.specs.Escape.{is_set_name_char}
+use Rattle.lalrpop_re.specs.Escape.{is_set_name_char}
 use Rattle.lalrpop_re.proofs.Lexemes.{cut_at, name_found, name_open}
 use Rattle.lalrpop_re.proofs.escape_sequence.name_at.Goals as goal
 

@@ -1,7 +1,7 @@
 use Rattle.std.proofs.Common.{◌∙◌, ap, sym, refl, drop}
-use Rattle.lalrpop_grammar.specs.Text.{Text}
-use Rattle.lalrpop_grammar.specs.Escape.{set}
-use Rattle.lalrpop_grammar.specs.Internal.Reading.{name_of}
+use Rattle.lalrpop_re.specs.Text.{Text}
+use Rattle.lalrpop_re.specs.Escape.{set}
+use Rattle.lalrpop_re.specs.Internal.Reading.{name_of}
 use Rattle.lalrpop_re.specs.Internal.Views.{text}
 use Rattle.lalrpop_re.proofs.Lexemes.{property_read}
 use Rattle.lalrpop_re.proofs.escape_sequence.parse_property.Goals as goal

@@ -1,6 +1,6 @@
 use Rattle.std.proofs.Common.{refl}
-use Rattle.lalrpop_grammar.specs.Escape.{character, set, assertion}
-use Rattle.lalrpop_grammar.specs.Internal.Reading.{signed}
+use Rattle.lalrpop_re.specs.Escape.{character, set, assertion}
+use Rattle.lalrpop_re.specs.Internal.Reading.{signed}
 use Rattle.lalrpop_re.specs.Internal.Signs.{perl_set}
 use Rattle.lalrpop_re.specs.Internal.Views.{text}
 use Rattle.lalrpop_re.proofs.escape_sequence.parse_signed.Goals as goal

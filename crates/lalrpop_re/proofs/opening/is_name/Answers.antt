@@ -2,7 +2,7 @@ use Rattle.std.proofs.Common.{rules, sym, ◌∙◌}
 use Rattle.std.proofs.lemmas.Iterator.{YieldsList-from_slice}
 use Rattle.std.proofs.lemmas.Iterator.Search.{all_from_yields_List}
 use borrow.Author.Tests.{tests}
-use Rattle.lalrpop_grammar.specs.GroupName.{continues_name}
+use Rattle.lalrpop_re.specs.GroupName.{continues_name}
 use Rattle.lalrpop_re.proofs.OpeningSteps.{name_of_parts}
 use Rattle.lalrpop_re.proofs.opening.is_name.Goals as goal
 

@@ -1,5 +1,5 @@
 use Rattle.std.proofs.Common.{arith, sym, ◌∙◌}
-use Rattle.lalrpop_grammar.specs.Internal.Reading.{ends_name}
+use Rattle.lalrpop_re.specs.Internal.Reading.{ends_name}
 use Rattle.lalrpop_re.proofs.OpeningSteps.{cut_of, mark_within, name_found}
 use Rattle.lalrpop_re.proofs.opening.parse_name.Goals as goal
 

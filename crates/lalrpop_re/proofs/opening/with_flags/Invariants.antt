@@ -1,5 +1,5 @@
 use Rattle.std.proofs.Common.{◌≡◌, drop}
-use Rattle.lalrpop_grammar.specs.Flag.{with_flags}
+use Rattle.lalrpop_re.specs.Flag.{with_flags}
 use Rattle.lalrpop_re.proofs.opening.with_flags.Given as goal
 
 abbrev pub invariant-loop-letter : goal.invariant-loop-letter

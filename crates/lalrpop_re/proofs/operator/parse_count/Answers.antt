@@ -2,9 +2,9 @@ use Rattle.std.proofs.Common.{◌≡◌, ◌∙◌, ◌&&◌, ◌^◌, nat_lt, a
 use Rattle.std.specs.Char.{is_ascii_digit}
 use Rattle.std.specs.List.{prefix_len}
 use Rattle.unicode.specs.Binary.{is_white_space}
-use Rattle.lalrpop_grammar.specs.Text.{Text}
-use Rattle.lalrpop_grammar.specs.Operator.{decimal}
-use Rattle.lalrpop_grammar.specs.Internal.Reading.{span}
+use Rattle.lalrpop_re.specs.Text.{Text}
+use Rattle.lalrpop_re.specs.Operator.{decimal}
+use Rattle.lalrpop_re.specs.Internal.Reading.{span}
 use Rattle.lalrpop_re.specs.Internal.Views.{text}
 use Rattle.lalrpop_re.proofs.Lexemes.{cut_at, count_is, decimal_passes, fit, unfit}
 use Rattle.lalrpop_re.proofs.operator.parse_count.Goals as goal

@@ -1,6 +1,6 @@
 use Rattle.std.proofs.Common.{◌∙◌, ap, sym, refl, take, drop}
 use Rattle.unicode.specs.Binary.{is_white_space}
-use Rattle.lalrpop_grammar.specs.Text.{Text}
+use Rattle.lalrpop_re.specs.Text.{Text}
 use Rattle.lalrpop_re.specs.Internal.Views.{text}
 use Rattle.lalrpop_re.proofs.Lexemes.{cut_at}
 use Rattle.lalrpop_re.proofs.operator.skip_white_space.Goals as goal

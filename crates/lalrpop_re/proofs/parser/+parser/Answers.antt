@@ -1,6 +1,6 @@
 use Rattle.std.proofs.Common.{◌∙◌, Some, None, sym, ap, arith, length-drop, length}
 use Rattle.std.proofs.lemmas.Result.{err_from_is_err_and}
-use Rattle.lalrpop_grammar.specs.Internal.Reading.{whole_row, all_branches, begin, inside}
+use Rattle.lalrpop_re.specs.Internal.Reading.{whole_row, all_branches, begin, inside}
 use Rattle.lalrpop_re.specs.Internal.Views.{text}
 use Rattle.lalrpop_re.specs.Internal.Parts.{line, step_of}
 use Rattle.lalrpop_re.proofs.BracketLoops.{refuses_on}

@@ -1,5 +1,5 @@
 use Rattle.std.proofs.Common.{◌≡◌, ◌≤◌, ◌+◌, ◌*◌}
-use Rattle.lalrpop_grammar.specs.Internal.Reading.{whole_row, all_branches, begin, inside}
+use Rattle.lalrpop_re.specs.Internal.Reading.{whole_row, all_branches, begin, inside}
 use Rattle.lalrpop_re.specs.Internal.Views.{text, unread}
 use Rattle.lalrpop_re.specs.Internal.Parts.{line}
 use Rattle.lalrpop_re.proofs.parser.+parser.Given as goal

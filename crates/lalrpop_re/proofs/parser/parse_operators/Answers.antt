@@ -1,9 +1,9 @@
 use Rattle.std.proofs.Common.{◌∙◌, sym, arith}
 use Rattle.std.proofs.lemmas.Result.{err_from_is_err_and}
-use Rattle.lalrpop_grammar.specs.Internal.Reading.{all_operators, operator}
+use Rattle.lalrpop_re.specs.Internal.Reading.{all_operators, operator}
 use Rattle.lalrpop_re.specs.Internal.Views.{text}
 use Rattle.lalrpop_re.specs.Internal.Parts.{part}
-use Rattle.lalrpop_grammar.proofs.PatternLaws.{operators_end}
+use Rattle.lalrpop_re.proofs.PatternLaws.{operators_end}
 use Rattle.lalrpop_re.proofs.BracketLoops.{refuses_on}
 use Rattle.lalrpop_re.proofs.ParserLoops.{operators_turn, operators_deep, operators_refused}
 use Rattle.lalrpop_re.proofs.parser.parse_operators.Goals as goal

@@ -1,5 +1,5 @@
 use Rattle.std.proofs.Common.{◌≡◌, ◌≤◌}
-use Rattle.lalrpop_grammar.specs.Internal.Reading.{all_operators}
+use Rattle.lalrpop_re.specs.Internal.Reading.{all_operators}
 use Rattle.lalrpop_re.specs.Internal.Views.{text, unread}
 use Rattle.lalrpop_re.specs.Internal.Parts.{part}
 use Rattle.lalrpop_re.proofs.parser.parse_operators.Given as goal

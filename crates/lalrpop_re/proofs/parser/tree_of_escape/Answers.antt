@@ -1,12 +1,12 @@
 use Rattle.std.proofs.Common.{◌≡◌, Bool, List, ap, ◌∙◌}
-use Rattle.lalrpop_book.specs.Range.{Range}
-use Rattle.lalrpop_book.specs.Tree.{Tree}
-use Rattle.lalrpop_grammar.specs.CharacterSet.{Set, set_tree, HasRuns}
-use Rattle.lalrpop_grammar.specs.declared.flags.Flags.{Flags}
+use Rattle.lalrpop_hir.specs.Range.{Range}
+use Rattle.lalrpop_hir.specs.Tree.{Tree}
+use Rattle.lalrpop_re.specs.CharacterSet.{Set, set_tree, HasRuns}
+use Rattle.lalrpop_re.specs.declared.flags.Flags.{Flags}
 use Rattle.lalrpop_re.specs.declared.escape_sequence.EscapedPart.TheVariants as code
-use Rattle.lalrpop_grammar.specs.Escape.{Escaped, character, set, assertion}
-use Rattle.lalrpop_grammar.specs.Bracket.{leaf_or_complement}
-use Rattle.lalrpop_grammar.specs.Pattern.{escaped_tree}
+use Rattle.lalrpop_re.specs.Escape.{Escaped, character, set, assertion}
+use Rattle.lalrpop_re.specs.Bracket.{leaf_or_complement}
+use Rattle.lalrpop_re.specs.Pattern.{escaped_tree}
 use Rattle.lalrpop_re.specs.Internal.Views.{StandsForEscaped}
 use Rattle.lalrpop_re.proofs.parser.tree_of_escape.Goals as goal
 

@@ -2,7 +2,7 @@ use Rattle.std.proofs.Common.{rules, sym, ◌∙◌}
 use Rattle.std.proofs.lemmas.Iterator.{YieldsList-from_slice}
 use Rattle.std.proofs.lemmas.Iterator.Search.{all_from_yields_List}
 use borrow.Author.Tests.{tests}
-use Rattle.lalrpop_grammar.specs.NamedPart.{continues_part}
+use Rattle.lalrpop_re.specs.NamedPart.{continues_part}
 use Rattle.lalrpop_re.proofs.PartSteps.{part_name_of_parts}
 use Rattle.lalrpop_re.proofs.part.is_name.Goals as goal
 

@@ -1,5 +1,5 @@
 use Rattle.std.proofs.Common.{arith, sym, ◌∙◌}
-use Rattle.lalrpop_grammar.specs.Internal.Reading.{ends_part}
+use Rattle.lalrpop_re.specs.Internal.Reading.{ends_part}
 use Rattle.lalrpop_re.proofs.OpeningSteps.{cut_of, mark_within}
 use Rattle.lalrpop_re.proofs.PartSteps.{part_found}
 use Rattle.lalrpop_re.proofs.part.part_after.Goals as goal

@@ -1,7 +1,7 @@
 use Rattle.std.proofs.Common.{Some, sym, ap, ◌∙◌}
 use Rattle.std.proofs.lemmas.Result.{err_from_is_err_and}
-use Rattle.lalrpop_grammar.specs.Text.{Text}
-use Rattle.lalrpop_grammar.specs.Internal.Reading.{primary}
+use Rattle.lalrpop_re.specs.Text.{Text}
+use Rattle.lalrpop_re.specs.Internal.Reading.{primary}
 use Rattle.lalrpop_re.specs.Internal.Views.{text}
 use Rattle.lalrpop_re.specs.Internal.Characters.{character_at}
 use Rattle.lalrpop_re.proofs.BracketLoops.{refuses_on}

@@ -1,7 +1,7 @@
 use Rattle.std.proofs.Common.{[], refl, sym, ap, ◌∙◌, subst}
 use Rattle.std.proofs.lemmas.Option.{same_Some, slice_get_read}
-use Rattle.lalrpop_book.specs.Language.{Matches}
-use Rattle.lalrpop_book.specs.Winners.{TreeMatches}
+use Rattle.lalrpop_hir.specs.Language.{Matches}
+use Rattle.lalrpop_hir.specs.Winners.{TreeMatches}
 use Rattle.lalrpop_review.proofs.Those.{next_found, next_left}
 use Rattle.lalrpop_review.proofs.empty.empty_rules.Goals as goal
 use Rattle.lalrpop_review.proofs.empty.empty_rules.Goals.{then-matches_empty+in_ok-push, else-matches_empty}

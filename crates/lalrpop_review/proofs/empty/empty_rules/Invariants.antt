@@ -1,5 +1,5 @@
 use Rattle.std.proofs.Common.{[]}
-use Rattle.lalrpop_book.specs.Winners.{TreeMatches}
+use Rattle.lalrpop_hir.specs.Winners.{TreeMatches}
 use Rattle.lalrpop_review.specs.Review.{AreThose}
 use Rattle.lalrpop_review.proofs.empty.empty_rules.Given as goal
 

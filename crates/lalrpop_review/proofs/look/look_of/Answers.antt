@@ -1,6 +1,6 @@
 use Rattle.std.proofs.Common.{◌≡◌, true, length, subst}
 use Rattle.std.specs.Prelude.{Some, slice_get}
-use Rattle.lalrpop_book.specs.Winners.{IsOnlyStrongest, Matched}
+use Rattle.lalrpop_hir.specs.Winners.{IsOnlyStrongest, Matched}
 use Rattle.lalrpop_dfa.specs.Lookahead.{StaysOpenEver}
 use Rattle.lalrpop_review.specs.Review.{AreThose}
 use Rattle.lalrpop_review.proofs.Those.{those_same}

@@ -1,8 +1,8 @@
 use Rattle.std.proofs.Common.{◌≡◌, ◌↔◌, [], true, ap, sym, ◌∙◌, subst, arith}
 use Rattle.std.specs.Str.{chars}
 use Rattle.std.proofs.lemmas.Bool.{iff_false}
-use Rattle.lalrpop_book.specs.Tree.{literal}
-use Rattle.lalrpop_book.specs.Language.{Matches}
+use Rattle.lalrpop_hir.specs.Tree.{literal}
+use Rattle.lalrpop_hir.specs.Language.{Matches}
 use Rattle.lalrpop_hir.specs.Level.{kind_tree}
 use Rattle.lalrpop_hir.specs.Internal.Depth.{depth}
 use Rattle.lalrpop_hir.specs.Internal.TreeFalls.{depth-le-greatest}

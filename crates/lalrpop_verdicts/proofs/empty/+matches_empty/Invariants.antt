@@ -1,5 +1,5 @@
 use Rattle.std.proofs.Common.{◌+◌, ◌*◌, ◌↔◌, [], drop}
-use Rattle.lalrpop_book.specs.Language.{MatchInTurn, SomeMatches}
+use Rattle.lalrpop_hir.specs.Language.{MatchInTurn, SomeMatches}
 use Rattle.lalrpop_hir.specs.Parts.{trees}
 use Rattle.lalrpop_hir.specs.Internal.Depth.{depth, greatest_depth}
 use Rattle.lalrpop_verdicts.proofs.empty.+matches_empty.Given as goal

@@ -1,5 +1,5 @@
 use Rattle.std.proofs.Common.{◌-◌, length}
-use Rattle.lalrpop_dfa.specs.Internal.Stored.{EndBefore}
+use Rattle.lalrpop_dfa.specs.Stored.{EndBefore}
 use Rattle.lalrpop_verdicts.proofs.pairs.stretch_at.Given as goal
 
 abbrev pub invariant-loop-place : goal.invariant-loop-place

@@ -1,5 +1,5 @@
 use Rattle.std.proofs.Common.{◌∙◌, ℕ, List, ap}
-use Rattle.lalrpop_book.specs.Range.{Range}
+use Rattle.lalrpop_hir.specs.Range.{Range}
 use Rattle.lalrpop_verdicts.specs.Internal.Targets.{with_new}
 use Rattle.lalrpop_verdicts.proofs.FirstPlaces.{left_of, none_found, test_turn}
 use Rattle.lalrpop_verdicts.proofs.picture.targets_of.Goals as goal

@@ -1,6 +1,6 @@
 use Rattle.std.proofs.Common.{◌≡◌, ◌<◌, ◌+◌, ◌∙◌, ◌∷◌, ◌++◌, [], ℕ, length, slice_index, take, sym, ap, subst, arith, rules}
 use Rattle.std.proofs.lemmas.List.{take_more}
-use Rattle.lalrpop_book.specs.Range.{Range}
+use Rattle.lalrpop_hir.specs.Range.{Range}
 use Rattle.lalrpop_dfa.specs.Dfa.{AreAscendingTests}
 use Rattle.lalrpop_dfa.proofs.EdgeTargets.{at_place, the_some, tests_of}
 use Rattle.lalrpop_dfa.proofs.Marking.{test_in, row_tests}

@@ -1,6 +1,6 @@
 use Rattle.std.proofs.Common.{◌∙◌, [], refl, arith}
 use Rattle.std.specs.List.Sorted.{IsStrictlySortedBy}
-use Rattle.lalrpop_dfa.specs.Internal.Split.{IsSplit, full}
+use Rattle.lalrpop_dfa.specs.Split.{IsSplit, full}
 use Rattle.lalrpop_verdicts.proofs.smallest.no_items.Goals as goal
 
 nothing : IsSplit 0 [] []

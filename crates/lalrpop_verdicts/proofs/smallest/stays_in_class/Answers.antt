@@ -2,7 +2,7 @@ use Rattle.std.proofs.Common.{◌≡◌, ◌<◌, ◌≤◌, ◌∙◌, ℕ, len
 use Rattle.std.specs.Prelude.{slice_get, Some}
 use Rattle.std.proofs.lemmas.Bool.{cases_lt}
 use Rattle.std.proofs.lemmas.Option.{slice_get_within}
-use Rattle.lalrpop_book.specs.Range.{Range}
+use Rattle.lalrpop_hir.specs.Range.{Range}
 use Rattle.lalrpop_dfa.proofs.EdgeTargets.{at_place, the_some, tests_of}
 use Rattle.lalrpop_dfa.proofs.Marking.{test_in, row_tests}
 use Rattle.lalrpop_verdicts.proofs.ClassWalks.{led_by_other, led_by_test, stays_by_edges, stays_led}

@@ -1,6 +1,6 @@
 use Rattle.std.proofs.Common.{◌≡◌, ℕ, ◌<◌}
 use Rattle.std.specs.Prelude.{slice_get, slice_index, Some}
-use Rattle.lalrpop_book.specs.Range.{Range}
+use Rattle.lalrpop_hir.specs.Range.{Range}
 use Rattle.lalrpop_verdicts.proofs.smallest.stays_in_class.Given as goal
 
 abbrev pub invariant-loop-target : goal.invariant-loop-target

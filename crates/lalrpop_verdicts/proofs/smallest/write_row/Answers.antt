@@ -1,7 +1,7 @@
 use Rattle.std.proofs.Common.{◌≡◌, ◌<◌, ◌≤◌, ◌+◌, ◌∙◌, ◌∷◌, ◌++◌, [], List, ℕ, length, slice_index, take, take_all, sym, ap, subst, arith}
 use Rattle.std.specs.Prelude.{slice_get, Some, IsSomeAnd}
 use Rattle.std.proofs.lemmas.List.{take_more}
-use Rattle.lalrpop_book.specs.Range.{Range}
+use Rattle.lalrpop_hir.specs.Range.{Range}
 use Rattle.lalrpop_dfa.specs.Dfa.{Row}
 use Rattle.lalrpop_dfa.proofs.EdgeTargets.{at_place, the_some}
 use Rattle.lalrpop_verdicts.specs.Internal.ClassRows.{AreJoined, AreNumbered, IsClassKind, IsNumberOf, LeadAlike, LeadsTo}

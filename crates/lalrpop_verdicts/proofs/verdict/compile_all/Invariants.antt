@@ -1,7 +1,7 @@
 use Rattle.std.proofs.Common.{◌≡◌, ◌<◌, ℕ, Some, None}
 use Rattle.std.specs.Prelude.{slice_get}
-use Rattle.lalrpop_book.specs.Fault.{fault}
-use Rattle.lalrpop_book.specs.Tree.{Tree}
+use Rattle.lalrpop_hir.specs.Fault.{fault}
+use Rattle.lalrpop_hir.specs.Tree.{Tree}
 use Rattle.lalrpop_verdicts.proofs.verdict.compile_all.Given as goal
 
 -- the patterns before this one have no fault

@@ -1,9 +1,9 @@
 use Rattle.std.proofs.Common.{◌≡◌, List, length, map, string_bytes}
 use Rattle.std.specs.Prelude.{Result, Ok, flat_map}
 use Rattle.std.specs.Iterator.{Yields}
-use Rattle.lalrpop_book.specs.Tokens.{bare}
-use Rattle.lalrpop_book.specs.declared.token.Token.{Token as Cut}
-use Rattle.lalrpop_book.specs.declared.token.TokenFault.{TokenFault}
+use Rattle.lalrpop_hir.specs.Tokens.{bare}
+use Rattle.lalrpop_hir.specs.declared.token.Token.{Token as Cut}
+use Rattle.lalrpop_hir.specs.declared.token.TokenFault.{TokenFault}
 use Rattle.lalrpop_lexer.specs.Cutting.{left_of}
 use Rattle.lalrpop_lexer.specs.LexerTokens.{GivesToken}
 use Rattle.lexdfa_lib.specs.Whole.{Token, token_line}

@@ -1,7 +1,7 @@
 use Rattle.std.proofs.Common.{◌≡◌, ℕ, suc, ◌+◌, ◌≤◌, List, ◌++◌, length, take, sym, ap, subst, ◌∙◌, arith, length-append, length-take}
 use Rattle.std.specs.Prelude.{codes}
 use Rattle.std.specs.Str.{chars, IsCharBoundary}
-use Rattle.lalrpop_grammar.specs.Pattern.{Pattern as Reads}
+use Rattle.lalrpop_re.specs.Pattern.{Pattern as Reads}
 use Rattle.lalrpop_lexer.specs.Line.{IsLine, letter}
 use Rattle.lalrpop_lexer.specs.declared.form.Form.TheVariants.{Pattern}
 use Rattle.reports_lib.specs.Reasons.{IsPatternColumn}

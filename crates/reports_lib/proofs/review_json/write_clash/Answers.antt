@@ -1,6 +1,6 @@
 use Rattle.std.proofs.Common.{◌≡◌, ◌++◌, subst}
 use Rattle.std.specs.Prelude.{OnOk, option_map}
-use Rattle.lalrpop_book.specs.Clashes.{Entry}
+use Rattle.lalrpop_hir.specs.Clashes.{Entry}
 use Rattle.reports_lib.specs.ReviewJson.{clash_members}
 use Rattle.reports_lib.proofs.ReviewMembers.{six_steps}
 use Rattle.reports_lib.proofs.review_json.write_clash.Goals as goal

@@ -1,6 +1,6 @@
 use Rattle.std.proofs.Common.{List, ℕ, ◌++◌, ◌∙◌, ap, flat_map}
 use Rattle.std.specs.Prelude.{Option}
-use Rattle.lalrpop_book.specs.Clashes.{Entry}
+use Rattle.lalrpop_hir.specs.Clashes.{Entry}
 use Rattle.reports_lib.specs.ItemLines.{mode_named}
 use Rattle.reports_lib.specs.ReviewLines.{clash_told}
 use Rattle.reports_lib.proofs.ReviewLaws.{mapped_mode_more}

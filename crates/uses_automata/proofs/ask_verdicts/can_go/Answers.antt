@@ -2,7 +2,7 @@ use Rattle.std.proofs.Common.{◌≡◌, ◌≢◌, ◌<◌, ℕ, List, Some, le
 use Rattle.std.specs.Prelude.{Vec, slice_get}
 use Rattle.std.specs.Global.{Global}
 use Rattle.std.proofs.lemmas.Option.{slice_get-get_or}
-use Rattle.lalrpop_book.specs.Tree.{Tree}
+use Rattle.lalrpop_hir.specs.Tree.{Tree}
 use Rattle.lalrpop_verdicts.specs.Verdicts.{IsVerdict, IsWonBy, words_of}
 use Rattle.lalrpop_verdicts.specs.declared.verdict.Verdict.{Verdict}
 use Rattle.lalrpop_verdicts.specs.declared.verdict.Verdict.TheVariants.{Wins, Shadowed, Unmatched}

@@ -1,7 +1,7 @@
 use Rattle.std.proofs.Common.{ℕ, List, sym, subst, refl, arith}
 use Rattle.std.specs.List.{Contains}
 use Rattle.std.proofs.lemmas.Grind.{common_steps}
-use Rattle.lalrpop_alphabet.specs.Internal.Alphabet.{IsEdgeGroupOf}
+use Rattle.lalrpop_build.specs.Internal.Alphabet.{IsEdgeGroupOf}
 use Rattle.uses_automata.proofs.class_values.target_by.Goals as goal
 
 pub group-requires : goal.group-requires

@@ -1,10 +1,10 @@
 use Rattle.std.proofs.Common.{◌≡◌, ◌↔◌, ℕ, List, Result, Ok, Err, IfOk, IfErr, subst, refl}
 use Rattle.std.specs.Str.{chars}
-use Rattle.lalrpop_book.specs.Tree.{Tree}
-use Rattle.lalrpop_book.specs.Language.{Matches}
-use Rattle.lalrpop_grammar.specs.Pattern.{Pattern}
-use Rattle.lalrpop_grammar.specs.declared.error.RegexError.{RegexError}
-use Rattle.lalrpop_grammar.specs.declared.error.RegexError.TheVariants.{Syntax, OutOfMemory}
+use Rattle.lalrpop_hir.specs.Tree.{Tree}
+use Rattle.lalrpop_hir.specs.Language.{Matches}
+use Rattle.lalrpop_re.specs.Pattern.{Pattern}
+use Rattle.lalrpop_re.specs.declared.error.RegexError.{RegexError}
+use Rattle.lalrpop_re.specs.declared.error.RegexError.TheVariants.{Syntax, OutOfMemory}
 use Rattle.lalrpop_re.specs.Refusal.{HasNoTree}
 use Rattle.uses_automata.proofs.escape_texts.tree_of_quoted.Goals as goal
 

@@ -1,7 +1,7 @@
 use Rattle.std.specs.Global.{Vec}
 use Rattle.std.specs.List.{Contains}
 use Rattle.std.proofs.lemmas.Result.{IfOk-weaker}
-use Rattle.lalrpop_book.specs.Range.{Range}
+use Rattle.lalrpop_hir.specs.Range.{Range}
 use Rattle.lalrpop_nfa.proofs.PartitionLaws.{blocks_nonempty, blocks_disjoint, blocks_cover, block_in_or_out, blocks_unjoined, blocks_apart}
 use Rattle.uses_automata.proofs.follow_laws.blocks_of.Goals as goal
 

@@ -1,7 +1,7 @@
 use Rattle.std.proofs.Common.{ℕ, List}
 use Rattle.std.specs.Prelude.{Option, Ok, Err, Result, IfOk}
-use Rattle.lalrpop_book.specs.Tree.{Tree}
-use Rattle.lalrpop_book.specs.Winners.{Matched}
+use Rattle.lalrpop_hir.specs.Tree.{Tree}
+use Rattle.lalrpop_hir.specs.Winners.{Matched}
 use Rattle.lalrpop_dfa.specs.Dfa.{Row, RecognizesAll}
 use Rattle.lalrpop_dfa.specs.Lookahead.{Accepted, IsLookahead}
 use Rattle.lalrpop_dfa.proofs.Recognized.{recognized_words}

@@ -1,4 +1,4 @@
-use Rattle.lalrpop_grammar.specs.Bracket.{leaf_or_complement}
+use Rattle.lalrpop_re.specs.Bracket.{leaf_or_complement}
 use Rattle.uses_automata.proofs.make_leaves.member_or_other.Goals as goal
 
 pub returns : goal.returns

@@ -1,7 +1,7 @@
 use Rattle.std.proofs.Common.{◌≢◌, [], sym, ap, subst, ◌∙◌}
 use Rattle.std.specs.Str.{chars, encode_utf8_all}
 use Rattle.std.proofs.lemmas.Str.{chars-nil}
-use Rattle.lalrpop_book.specs.Winners.{Matched}
+use Rattle.lalrpop_hir.specs.Winners.{Matched}
 use Rattle.lalrpop_lexer.proofs.TextPrefixes.{prefix_of_characters}
 use Rattle.uses_lexer.proofs.follow_laws.matches_at_front.Goals as goal
 

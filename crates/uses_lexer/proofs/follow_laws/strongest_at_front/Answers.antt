@@ -1,10 +1,10 @@
 use Rattle.std.proofs.Common.{ℕ, List, ◌<◌}
 use Rattle.std.specs.Prelude.{Option, Some, None, IfSome, slice_index}
 use Rattle.std.specs.Str.{chars}
-use Rattle.lalrpop_book.specs.Tree.{Tree}
-use Rattle.lalrpop_book.specs.Tokens.{IsToken}
-use Rattle.lalrpop_book.specs.Winners.{TreeMatches}
-use Rattle.lalrpop_book.specs.declared.token.Token.{Token}
+use Rattle.lalrpop_hir.specs.Tree.{Tree}
+use Rattle.lalrpop_hir.specs.Tokens.{IsToken}
+use Rattle.lalrpop_hir.specs.Winners.{TreeMatches}
+use Rattle.lalrpop_hir.specs.declared.token.Token.{Token}
 use Rattle.lalrpop_rules.proofs.CallerLaws.{lesser_never_wins}
 use Rattle.uses_lexer.proofs.follow_laws.strongest_at_front.Goals as goal
 

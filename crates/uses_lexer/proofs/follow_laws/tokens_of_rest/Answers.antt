@@ -1,5 +1,5 @@
 use Rattle.std.proofs.Common.{◌≡◌, ◌+◌, ◌++◌, ℕ, length, map, subst, arith}
-use Rattle.lalrpop_book.specs.Tokens.{AreTokens}
+use Rattle.lalrpop_hir.specs.Tokens.{AreTokens}
 use Rattle.lalrpop_lexer.specs.SameTokens.{moved}
 use Rattle.lalrpop_lexer.proofs.Locality.{tokens_moved}
 use Rattle.uses_lexer.proofs.follow_laws.tokens_of_rest.Goals as goal

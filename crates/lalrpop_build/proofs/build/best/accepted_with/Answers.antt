@@ -1,6 +1,6 @@
 use Rattle.std.proofs.Common.{◌≡◌, take, map, ap, ◌<◌, length, rules, ◌∙◌, arith}
 use Rattle.std.proofs.lemmas.List.{take_all}
-use Rattle.lalrpop_dfa.specs.Internal.LiveItems.{live_of}
+use Rattle.lalrpop_dfa.specs.LiveItems.{live_of}
 use Rattle.lalrpop_build.specs.Internal.Best.{accepts_with}
 use Rattle.lalrpop_build.proofs.LiveItems.{read_live, with_live}
 use Rattle.lalrpop_build.proofs.Bests.{item_place}

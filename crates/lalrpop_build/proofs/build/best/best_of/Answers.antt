@@ -1,6 +1,6 @@
 use Rattle.std.proofs.Common.{◌≡◌, take, ap, ◌<◌, length, rules, ◌∙◌, arith, map, get_or, sym, subst}
-use Rattle.lalrpop_dfa.specs.Internal.Ascending.{AreAscendingItems}
-use Rattle.lalrpop_dfa.specs.Internal.LiveItems.{live_of}
+use Rattle.lalrpop_dfa.specs.Ascending.{AreAscendingItems}
+use Rattle.lalrpop_dfa.specs.LiveItems.{live_of}
 use Rattle.std.proofs.lemmas.List.{take_all}
 use Rattle.lalrpop_build.specs.Internal.Best.{IsBest, accepts}
 use Rattle.lalrpop_build.proofs.LiveItems.{live_rises, read_live, accepts_live}

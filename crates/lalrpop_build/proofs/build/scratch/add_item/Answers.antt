@@ -2,11 +2,11 @@ use Rattle.std.proofs.Common.{◌≡◌, ℕ, List, ◌⊎◌, inl, inr, sym, �
 use Rattle.std.specs.Prelude.{◌↔◌}
 use Rattle.std.specs.List.{Contains}
 use Rattle.std.proofs.lemmas.List.{take_all}
-use Rattle.lalrpop_alphabet.specs.Internal.Alphabet.{HasState, AreEdgeGroupsOf}
-use Rattle.lalrpop_alphabet.specs.declared.EdgeGroup.{EdgeGroup}
+use Rattle.lalrpop_build.specs.Internal.Alphabet.{HasState, AreEdgeGroupsOf}
+use Rattle.lalrpop_build.specs.declared.alphabet.EdgeGroup.{EdgeGroup}
 use Rattle.lalrpop_build.specs.Internal.ClassTransitions.{Gained}
 use Rattle.lalrpop_build.specs.declared.transitions.Transition.{Transition}
-use Rattle.lalrpop_book.proofs.Contained.{contains_none}
+use Rattle.lalrpop_hir.proofs.Contained.{contains_none}
 use Rattle.lalrpop_build.proofs.Leavings.{EdgeTo, EdgeBoundary, gained_none, gained_then, gained_like, edge_more, boundary_more, edges_of_state, boundaries_of_state, edge_there}
 use Rattle.lalrpop_build.proofs.build.scratch.add_item.Goals as goal
 

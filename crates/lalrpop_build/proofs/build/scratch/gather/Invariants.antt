@@ -1,6 +1,6 @@
 use Rattle.std.proofs.Common.{take}
 use Rattle.std.specs.List.{Contains}
-use Rattle.lalrpop_alphabet.specs.Internal.Alphabet.{LeadsBy}
+use Rattle.lalrpop_build.specs.Internal.Alphabet.{LeadsBy}
 use Rattle.lalrpop_build.specs.Internal.Scratch.{AreNoted, HoldMarked}
 use Rattle.lalrpop_build.specs.Internal.ClassTransitions.{Gained, AreBoundariesOf}
 use Rattle.lalrpop_build.proofs.build.scratch.gather.Given as goal

@@ -1,5 +1,5 @@
 use Rattle.std.proofs.Common.{inl, inr, refl, ◌∙◌, ◌++◌, ◌∷◌, [], ap}
-use Rattle.lalrpop_book.specs.Clashes.{Entry}
+use Rattle.lalrpop_hir.specs.Clashes.{Entry}
 use Rattle.lalrpop_build.specs.Internal.BreadthFirst.{word}
 use Rattle.lalrpop_build.proofs.TieSteps.{entry_word, pairs_more, pairs_same, pair_new, pair_old}
 use Rattle.lalrpop_build.proofs.ties.Ties.add.Goals as goal

@@ -1,5 +1,5 @@
 use Rattle.std.proofs.Common.{ap, sym, ◌∙◌}
-use Rattle.lalrpop_dfa.specs.Internal.LiveItems.{live_of}
+use Rattle.lalrpop_dfa.specs.LiveItems.{live_of}
 use Rattle.lalrpop_dfa.proofs.FullSets.{live_is_of}
 use Rattle.lalrpop_dfa.proofs.items.ItemSet.live.Goals as goal
 

@@ -1,5 +1,5 @@
 use Rattle.std.proofs.lemmas.Result.{IfOk-weaker}
-use Rattle.lalrpop_book.specs.Range.{Covered}
+use Rattle.lalrpop_hir.specs.Range.{Covered}
 use Rattle.lalrpop_hir.specs.Runs.{IsCanon, InFirstAlone}
 use Rattle.lalrpop_hir.proofs.Complements.{less-canon}
 use Rattle.lalrpop_hir.proofs.class.ClassUnicode.difference.Goals as goal

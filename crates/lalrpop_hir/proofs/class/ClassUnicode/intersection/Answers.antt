@@ -1,5 +1,5 @@
 use Rattle.std.proofs.lemmas.Result.{IfOk-weaker}
-use Rattle.lalrpop_book.specs.Range.{Covered}
+use Rattle.lalrpop_hir.specs.Range.{Covered}
 use Rattle.lalrpop_hir.specs.Runs.{IsCanon, InBoth}
 use Rattle.lalrpop_hir.proofs.Complements.{both-canon}
 use Rattle.lalrpop_hir.proofs.class.ClassUnicode.intersection.Goals as goal

@@ -1,6 +1,6 @@
 use Rattle.std.proofs.Common.{◌≡◌, ◌<◌, ◌≤◌, subst, sym, ap, ◌∙◌, get_or, ◌∷◌}
 use Rattle.std.specs.List.Sorted.{IsNonDecreasingBy}
-use Rattle.lalrpop_book.specs.Range.{Range}
+use Rattle.lalrpop_hir.specs.Range.{Range}
 use Rattle.lalrpop_hir.specs.Runs.{IsScalar, next_scalar}
 use Rattle.lalrpop_hir.proofs.Canons.{scalar_steps}
 use Rattle.lalrpop_hir.proofs.Joining.{IsJoining-start, IsJoining-behind, IsJoining-beside, IsJoining-end, IsAt, max-is, IsProper, IsProper-characters}

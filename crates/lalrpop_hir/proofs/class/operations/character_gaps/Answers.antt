@@ -1,6 +1,6 @@
 use Rattle.std.proofs.Common.{◌≡◌, ◌<◌, arith, sym, subst, ◌∙◌}
 use Rattle.std.proofs.lemmas.List.{append-nil}
-use Rattle.lalrpop_book.specs.Range.{Range, Covered}
+use Rattle.lalrpop_hir.specs.Range.{Range, Covered}
 use Rattle.lalrpop_hir.specs.Runs.{IsCanon}
 use Rattle.lalrpop_hir.proofs.Joining.{IsAt}
 use Rattle.lalrpop_hir.proofs.Gaps.{to, gaps, prev_scalar, here-canonical, gap-range, top-range, gaps-canon, IsLeavingOut-behind, IsLeavingOut-beside, IsLeavingOut-open, IsLeavingOut-closed}

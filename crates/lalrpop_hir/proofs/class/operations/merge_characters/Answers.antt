@@ -1,6 +1,6 @@
 use Rattle.std.proofs.Common.{◌≡◌, ◌++◌, ◌≤◌, ◌⊎◌, ◌↔◌, inl, inr, length, drop, sym, subst, ap, ◌∙◌, append_assoc}
 use Rattle.std.specs.List.Sorted.{IsNonDecreasingBy}
-use Rattle.lalrpop_book.specs.Range.{Covered}
+use Rattle.lalrpop_hir.specs.Range.{Covered}
 use Rattle.lalrpop_hir.proofs.Merging.{merge, merge-order, merge-covers, IsMerging-end, tail-left}
 use Rattle.lalrpop_hir.proofs.class.operations.merge_characters.Goals as goal
 use Rattle.lalrpop_hir.proofs.class.operations.merge_characters.Goals.{then-loop-i-test+else-j-right, else-loop-i-test}

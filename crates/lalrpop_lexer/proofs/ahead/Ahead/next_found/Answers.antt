@@ -1,6 +1,6 @@
 use Rattle.std.proofs.Common.{ℕ, List, sym, subst, drop}
 use Rattle.std.specs.Prelude.{Some}
-use Rattle.lalrpop_book.specs.Longest.{IsLongest}
+use Rattle.lalrpop_hir.specs.Longest.{IsLongest}
 use Rattle.lalrpop_lexer.proofs.Blocks.{ahead_prefix}
 use Rattle.lalrpop_lexer.proofs.ahead.Ahead.next_found.Goals as goal
 

@@ -1,6 +1,6 @@
 use Rattle.std.proofs.Common.{ℕ, List, ap, subst, ◌∙◌}
 use Rattle.std.specs.Prelude.{Option, Some, None, Ok, Err, Result, IfOk, IfSome, IfNone}
-use Rattle.lalrpop_book.specs.Winners.{Matched}
+use Rattle.lalrpop_hir.specs.Winners.{Matched}
 use Rattle.lalrpop_dfa.specs.Lookahead.{Accepted}
 use Rattle.lalrpop_dfa.specs.Witness.{IsOpenMatch, IsWitness}
 use Rattle.lalrpop_dfa.proofs.Recognized.{recognized_words}

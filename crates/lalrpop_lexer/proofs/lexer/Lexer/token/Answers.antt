@@ -1,5 +1,5 @@
 use Rattle.std.proofs.Common.{refl, Some}
-use Rattle.lalrpop_book.proofs.Strongest.{IsOnlyStrongest-from_longest}
+use Rattle.lalrpop_hir.proofs.Strongest.{IsOnlyStrongest-from_longest}
 use Rattle.lalrpop_dfa.proofs.Recognized.{on_words}
 use Rattle.lalrpop_lexer.proofs.lexer.Lexer.token.Goals as goal
 

@@ -2,7 +2,7 @@ use Rattle.std.proofs.Common.{◌≡◌, ◌∙◌, ap}
 use Rattle.std.specs.Prelude.{None}
 use Rattle.lalrpop_lexer.specs.Matching.{Matching}
 use Rattle.lalrpop_lexer.specs.Cutting.{start_of}
-use Rattle.lalrpop_book.specs.Winners.{Matched}
+use Rattle.lalrpop_hir.specs.Winners.{Matched}
 use Rattle.lalrpop_dfa.specs.Lookahead.{Accepted, IsTrim}
 use Rattle.lalrpop_dfa.proofs.Recognized.{recognized_words}
 use Rattle.lalrpop_dfa.proofs.WitnessLaws.{same_most}

@@ -1,7 +1,7 @@
 use Rattle.std.proofs.Common.{◌≡◌, ℕ, ◌∙◌, ap, sym, List, true, false}
 use Rattle.std.specs.Prelude.{Option, Some, None, Result, Ok, Err, OnErr}
 use Rattle.std.specs.Option.{is_some}
-use Rattle.lalrpop_book.specs.Winners.{Matched}
+use Rattle.lalrpop_hir.specs.Winners.{Matched}
 use Rattle.lalrpop_dfa.specs.Lookahead.{IsLookahead}
 use Rattle.lalrpop_lexer.specs.Rules.{Rules, IsBuiltFrom}
 use Rattle.lalrpop_lexer.specs.LexerTokens.{LexerCutting, lexer_start}

@@ -1,6 +1,6 @@
 use Rattle.std.proofs.Common.{◌≡◌, ◌<◌, ◌↔◌, ℕ, length, true, ap, subst, ◌∙◌}
 use Rattle.std.specs.Prelude.{Some, Ok, Err, Result, IfOk, slice_get}
-use Rattle.lalrpop_book.specs.Winners.{IsOnlyStrongest, Matched}
+use Rattle.lalrpop_hir.specs.Winners.{IsOnlyStrongest, Matched}
 use Rattle.lalrpop_dfa.specs.Lookahead.{Accepted, AcceptedAs, StaysOpenEver}
 use Rattle.lalrpop_dfa.proofs.Recognized.{recognized_by, recognized_words}
 use Rattle.lalrpop_dfa.proofs.WitnessLaws.{same_ever}

@@ -2,8 +2,8 @@ use Rattle.std.proofs.Common.{Bool, nat_eq, ◌∙◌, ◌≡◌, ◌≢◌, ℕ
 use Rattle.std.specs.Prelude.{Option, Some, None, Ok, Err}
 use Rattle.std.specs.Str.{IsUtf8, IsCharBoundary}
 use Rattle.std.proofs.lemmas.Str.{IsCharBoundary-from_rest}
-use Rattle.lalrpop_book.specs.declared.token.Token.{Token}
-use Rattle.lalrpop_book.specs.declared.token.TokenFault.{TokenFault}
+use Rattle.lalrpop_hir.specs.declared.token.Token.{Token}
+use Rattle.lalrpop_hir.specs.declared.token.TokenFault.{TokenFault}
 use Rattle.lalrpop_lexer.specs.Matching.{Matching}
 use Rattle.lalrpop_lexer.specs.Cutting.{left_of}
 use Rattle.lalrpop_lexer.specs.LexerTokens.{LexerCutting, GivesToken}

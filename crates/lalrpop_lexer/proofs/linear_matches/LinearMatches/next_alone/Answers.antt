@@ -1,6 +1,6 @@
 use Rattle.std.proofs.Common.{ap, sym, subst}
 use Rattle.std.specs.Str.{IsUtf8}
-use Rattle.lalrpop_book.specs.Prefix.{IsPrefix}
+use Rattle.lalrpop_hir.specs.Prefix.{IsPrefix}
 use Rattle.lalrpop_lexer.specs.Matching.{Matching}
 use Rattle.lalrpop_lexer.specs.Internal.Blocks.{Rest}
 use Rattle.lalrpop_lexer.specs.Internal.Standing.{IsReached, spare_of}

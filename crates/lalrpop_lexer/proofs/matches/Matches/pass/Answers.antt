@@ -1,6 +1,6 @@
 use Rattle.std.proofs.Common.{◌+◌, ◌-◌, ◌∙◌, length, arith, sym, ap, subst}
 use Rattle.std.specs.Str.{chars}
-use Rattle.lalrpop_book.specs.Prefix.{IsPrefix}
+use Rattle.lalrpop_hir.specs.Prefix.{IsPrefix}
 use Rattle.lalrpop_lexer.specs.Matching.{Matching, rest_of}
 use Rattle.lalrpop_lexer.specs.Internal.Blocks.{bytes_of}
 use Rattle.lalrpop_lexer.proofs.Blocks.{IsPassed, plain, pass_settles}

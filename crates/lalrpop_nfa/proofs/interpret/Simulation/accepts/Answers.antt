@@ -2,7 +2,7 @@ use Rattle.std.proofs.Common.{◌≡◌, ◌∙◌, length, ap, subst, sym, arit
 use Rattle.std.specs.Prelude.{slice_get, Some}
 use Rattle.lalrpop_nfa.specs.declared.edge.StateKind.TheVariants.{Accept}
 use Rattle.lalrpop_nfa.specs.Internal.StateSets.{Visited}
-use Rattle.lalrpop_book.proofs.Contained.{contains_at}
+use Rattle.lalrpop_hir.proofs.Contained.{contains_at}
 use Rattle.lalrpop_nfa.proofs.interpret.Simulation.accepts.Goals as goal
 
 pub is_accepting_state-requires : goal.is_accepting_state-requires

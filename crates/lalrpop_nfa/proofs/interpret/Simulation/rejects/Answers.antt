@@ -2,7 +2,7 @@ use Rattle.std.proofs.Common.{◌≡◌, ◌∙◌, refl, length, ap, subst, sym
 use Rattle.std.specs.Prelude.{slice_get, Some}
 use Rattle.lalrpop_nfa.specs.declared.edge.StateKind.TheVariants.{Reject}
 use Rattle.lalrpop_nfa.specs.Internal.StateSets.{Visited}
-use Rattle.lalrpop_book.proofs.Contained.{contains_at}
+use Rattle.lalrpop_hir.proofs.Contained.{contains_at}
 use Rattle.lalrpop_nfa.proofs.interpret.Simulation.rejects.Goals as goal
 
 pub is_rejecting_state-requires : goal.is_rejecting_state-requires

@@ -1,10 +1,10 @@
 use Rattle.std.proofs.Common.{◌≡◌, ⊎_elim, refl, sym, ◌∙◌, subst}
 use Rattle.std.specs.List.{Contains}
 use Rattle.std.proofs.lemmas.Bool.{eq-eqb}
-use Rattle.lalrpop_book.specs.Range.{Covers}
+use Rattle.lalrpop_hir.specs.Range.{Covers}
 use Rattle.lalrpop_nfa.specs.Walk.{leaves}
 use Rattle.lalrpop_nfa.specs.Path.{test}
-use Rattle.lalrpop_book.proofs.Contained.{contains_first, contains_cases, contains_none, filter_in}
+use Rattle.lalrpop_hir.proofs.Contained.{contains_first, contains_cases, contains_none, filter_in}
 use Rattle.lalrpop_nfa.proofs.StateSetLemmas.{IsGoing, going_start, going_more, going_past, going_end, grown_tested, grown_untested, ends_test}
 use Rattle.lalrpop_nfa.proofs.state_set.StateSet.add_read.Goals as goal
 

@@ -1,6 +1,6 @@
 use Rattle.std.proofs.Common.{◌≡◌, ℕ, true, false}
 use Rattle.std.specs.List.{Contains}
-use Rattle.lalrpop_book.specs.Range.{Range, Covers}
+use Rattle.lalrpop_hir.specs.Range.{Range, Covers}
 use Rattle.lalrpop_nfa.specs.declared.edge.Edge.{Edge}
 use Rattle.lalrpop_nfa.specs.Internal.Reads.{Tests}
 use Rattle.lalrpop_nfa.proofs.StateSetLemmas.{IsGoing}

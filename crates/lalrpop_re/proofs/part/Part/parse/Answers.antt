@@ -2,7 +2,7 @@ use Rattle.std.proofs.Common.{◌≡◌, true, sym, subst, ◌∙◌}
 use Rattle.std.proofs.lemmas.Result.{err_from_is_err_and}
 use Rattle.std.specs.Str.{chars}
 use Rattle.std.proofs.lemmas.Str.{IsCharBoundary-start}
-use Rattle.lalrpop_grammar.specs.NamedPart.{is_part_name}
+use Rattle.lalrpop_re.specs.NamedPart.{is_part_name}
 use Rattle.lalrpop_re.proofs.ParserLoops.{is_part, only_part, no_part_of}
 use Rattle.lalrpop_re.proofs.part.Part.parse.Goals as goal
 

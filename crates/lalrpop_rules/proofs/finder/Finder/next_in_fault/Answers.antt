@@ -1,6 +1,6 @@
 use Rattle.std.proofs.Common.{◌≡◌, ℕ, false, List, sym, ap, subst, ◌∙◌}
 use Rattle.std.specs.Prelude.{Option, Some, None, IfNone, is_some}
-use Rattle.lalrpop_book.specs.Longest.{IsLongest}
+use Rattle.lalrpop_hir.specs.Longest.{IsLongest}
 use Rattle.lalrpop_lexer.specs.Matching.{rest_of}
 use Rattle.lalrpop_rules.specs.Internal.Finding.{matching_of}
 use Rattle.lalrpop_rules.specs.declared.finder.Finder.{Finder}

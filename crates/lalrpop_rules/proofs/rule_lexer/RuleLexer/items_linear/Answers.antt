@@ -3,7 +3,7 @@ use Rattle.std.specs.Prelude.{Option, Some, None, Result, Ok, Err, IfOk, IsSome,
 use Rattle.std.specs.Iterator.{Yields}
 use Rattle.std.specs.Str.{chars}
 use Rattle.std.proofs.lemmas.Result.{IfOk-weaker}
-use Rattle.lalrpop_book.specs.Clash.{NoClash}
+use Rattle.lalrpop_hir.specs.Clash.{NoClash}
 use Rattle.lalrpop_lexer.specs.Matching.{open_states}
 use Rattle.lalrpop_lexer.specs.Rules.{Rules}
 use Rattle.lalrpop_rules.specs.CutToEnd.{CutToEnd, Memo, uncut, GivesPiece}

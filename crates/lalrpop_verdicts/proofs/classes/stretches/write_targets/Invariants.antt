@@ -1,6 +1,6 @@
 use Rattle.std.proofs.Common.{◌≡◌, ◌≤◌, ◌<◌, ℕ, map, take, length, get_or}
 use Rattle.lalrpop_dfa.specs.Dfa.{step}
-use Rattle.lalrpop_dfa.specs.Internal.Stored.{EndBefore}
+use Rattle.lalrpop_dfa.specs.Stored.{EndBefore}
 use Rattle.lalrpop_verdicts.proofs.classes.stretches.write_targets.Given as goal
 
 abbrev pub invariant-loop-index : goal.invariant-loop-index

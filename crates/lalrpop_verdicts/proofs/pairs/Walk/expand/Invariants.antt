@@ -1,5 +1,5 @@
 use Rattle.std.proofs.Common.{◌≡◌, ◌-◌, true}
-use Rattle.lalrpop_dfa.specs.Internal.Stored.{EndBefore}
+use Rattle.lalrpop_dfa.specs.Stored.{EndBefore}
 use Rattle.lalrpop_verdicts.specs.Internal.Pairs.{is_character, number_of, AreMet, IsTurn}
 use Rattle.lalrpop_verdicts.proofs.pairs.Walk.expand.Given as goal
 

@@ -4,7 +4,7 @@ use Rattle.std.proofs.lemmas.List.{take_all}
 use Rattle.std.proofs.lemmas.List.Elements.{Contains-get_or}
 use Rattle.lalrpop_build.specs.Internal.ClassTransitions.{Gained}
 use Rattle.lalrpop_build.proofs.Leavings.{gained_none, gained_then, class_more}
-use Rattle.lalrpop_book.proofs.Contained.{contains_none}
+use Rattle.lalrpop_hir.proofs.Contained.{contains_none}
 use Rattle.lalrpop_build.proofs.build.scratch.EdgesByClass.add_to_all.Goals as goal
 
 pub loop-class-init : goal.loop-class-init

@@ -3,14 +3,13 @@ use Rattle.std.specs.Prelude.{◌↔◌}
 use Rattle.std.specs.List.{Contains}
 use Rattle.std.specs.List.Sorted.{IsNonDecreasing, IsPermutation}
 use Rattle.std.proofs.lemmas.List.Sorted.{IsNonDecreasingBy-from_sort, Contains-permutation, IsPermutation-sym}
-use Rattle.lalrpop_alphabet.specs.Internal.Alphabet.{HasState, HasBoundaryAt}
+use Rattle.lalrpop_build.specs.Internal.Alphabet.{HasState, HasBoundaryAt, Classes}
 use Rattle.lalrpop_dfa.specs.Automata.{Item}
-use Rattle.lalrpop_dfa.specs.Internal.LiveItems.{live_of}
-use Rattle.lalrpop_alphabet.specs.Internal.Alphabet.{Classes}
+use Rattle.lalrpop_dfa.specs.LiveItems.{live_of}
 use Rattle.lalrpop_build.specs.Internal.Scratch.{AreTaken, IsScratchOf, StaysTidy}
 use Rattle.lalrpop_build.specs.declared.build.scratch.Scratch.{Scratch}
 use Rattle.lalrpop_build.specs.Internal.ClassTransitions.{AreBelow, AreGathered, AreBoundariesOf, IsLaidOut}
-use Rattle.lalrpop_book.proofs.Members.{has_at, contains_from}
+use Rattle.lalrpop_hir.proofs.Members.{has_at, contains_from}
 use Rattle.lalrpop_build.proofs.LiveItems.{live_inside, partition_live, transitions_live}
 use Rattle.lalrpop_build.proofs.LaidOut.{have_states, boundaries_below, laid_out}
 use Rattle.lalrpop_build.specs.Internal.Blocks.{blocks_of}

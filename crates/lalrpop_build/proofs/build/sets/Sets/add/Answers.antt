@@ -1,6 +1,6 @@
 use Rattle.std.proofs.Common.{◌≡◌, length, arith, ap, sym, subst, refl, inl, inr}
 use Rattle.lalrpop_dfa.specs.Kernels.{IsNumberOf}
-use Rattle.lalrpop_dfa.specs.Internal.ItemOrder.{set_cmp}
+use Rattle.lalrpop_dfa.specs.ItemOrder.{set_cmp}
 use Rattle.lalrpop_build.proofs.Adding.{clones_equal, added_extends, number_old, number_new}
 use Rattle.lalrpop_build.proofs.build.sets.Sets.add.Goals as goal
 use Rattle.lalrpop_build.proofs.build.sets.Sets.add.Goals.{then-index-len+in_ok-push, else-index-len}

@@ -1,7 +1,0 @@
-use Rattle.std.proofs.Common.{◌≡◌, take}
-use Rattle.std.specs.List.{Contains}
-use Rattle.lalrpop_alphabet.specs.Internal.Numbered.{GotClasses}
-use Rattle.lalrpop_alphabet.proofs.classes.add_class.Given as goal
-
-abbrev pub invariant-loop-number : goal.invariant-loop-number
-invariant-loop-number l = GotClasses l.fn.groups.items l.groups.items (λ n c. Contains (take l.number-index l.numbers) n × (c ≡ l.class))

@@ -1,6 +1,0 @@
-use Rattle.std.proofs.Common.{take}
-use Rattle.lalrpop_grammar.proofs.SpanLaws.{HasCodes}
-use Rattle.lalrpop_grammar.proofs.named.class_of_codes.Given as goal
-
-abbrev pub invariant-loop-first : goal.invariant-loop-first
-invariant-loop-first l = HasCodes (take l.first-index l.codes) l.ranges.items
