@@ -6,7 +6,7 @@ use Rattle.std.specs.Prelude.{Option, Some, None, Result, Ok}
 use Rattle.std.specs.Iterator.{Yields}
 use Rattle.std.specs.declared.alloc.AllocError.{AllocError}
 use Rattle.lalrpop_rules.specs.declared.item.Item.{Item}
-use Rattle.lalrpop_modes.specs.ModeCut.{ModeCut, left_text, GivesModePiece, GivesPieceOrError}
+use Rattle.lalrpop_rules.specs.ModeCut.{ModeCut, left_text, GivesModePiece, GivesPieceOrError}
 
 -- one piece more
 pub piece_more : (s t u : ModeCut) (o : Option (Result Item AllocError)) (item : Result Item AllocError) (xs : List Item) (x : Item)

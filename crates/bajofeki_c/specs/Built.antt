@@ -3,10 +3,10 @@
 use Rattle.std.specs.Prelude.{◌≡◌, ◌⊎◌, ℕ, List, length, map, string_bytes, Result, Ok, Err}
 use Rattle.lalrpop_emit.specs.EmitErrors.{IsNumbersError}
 use Rattle.lalrpop_emit.specs.NumberedRules.{AreNumbersOf}
-use Rattle.lalrpop_lexer.specs.Lines.{lines}
-use Rattle.lalrpop_modes.specs.Modes.{ModeRules, NoModeClash}
-use Rattle.lalrpop_modes.specs.ModeSet.{AreModeRules, IsModesError}
-use Rattle.lalrpop_modes.specs.declared.mode_rule.ModeRule.{ModeRule}
+use Rattle.bajofeki_rules.specs.Lines.{lines}
+use Rattle.lalrpop_rules.specs.Modes.{ModeRules, NoModeClash}
+use Rattle.lalrpop_rules.specs.ModeSet.{AreModeRules, IsRulesError}
+use Rattle.bajofeki_rules.specs.declared.mode_rule.ModeRule.{ModeRule}
 use Rattle.lalrpop_rule_file.specs.RuleFile.{AreFileParts, ArePlaces, AreRules, IsRuleFileError, without_mark, AreModeRules as AreGivenRules}
 use Rattle.lalrpop_rule_file.specs.declared.error.RuleFileError.TheVariants as file_error
 use Rattle.lalrpop_rule_file.specs.declared.file.RuleFile.{RuleFile}
@@ -47,7 +47,7 @@ abbrev pub IsBuiltFor : RuleFile → Result BuiltLexer BuildError → Type 0
 IsBuiltFor file (Ok l) = (r : ModeRules) × (AreRulesOf file r × IsBuiltOf r l)
 IsBuiltFor file (Err (File e)) = e ≡ file_error.OutOfMemory
 IsBuiltFor file (Err (Rules e rules)) =
-    ((given : List ModeRule) × (AreGiven file given × IsModesError given (length file.modes.items) e)) × AreNamed file.rules.items rules.items
+    ((given : List ModeRule) × (AreGiven file given × IsRulesError given (length file.modes.items) e)) × AreNamed file.rules.items rules.items
 IsBuiltFor file (Err (Numbers e)) = (r : ModeRules) × (AreRulesOf file r × IsNumbersError r e)
 IsBuiltFor file (Err Freed) = ⊥
 

@@ -5,7 +5,7 @@ use Rattle.lalrpop_emit.specs.ByteCut.{ByteCut, IsCutOf, place_of, stack_in}
 use Rattle.lalrpop_emit.specs.BytePieces.{AreBytePiecesTo, StopsAt}
 use Rattle.lalrpop_emit.specs.NumberedRules.{AreNumbersOf}
 use Rattle.lalrpop_emit.specs.declared.numbered_piece.NumberedPiece.{NumberedPiece}
-use Rattle.lalrpop_modes.specs.Modes.{ModeRules}
+use Rattle.lalrpop_rules.specs.Modes.{ModeRules}
 use Rattle.bajofeki_c.specs.Rules.{is_skipped}
 use Rattle.bajofeki_c.specs.declared.cut.Cut.{Cut}
 use Rattle.bajofeki_c.specs.declared.cut.Piece.{Piece}

@@ -3,7 +3,7 @@
 use Rattle.std.specs.Prelude.{◌≡◌, ℕ, List, Result, Ok, Err}
 use Rattle.lalrpop_emit.specs.ByteCut.{ByteCut, IsCutOf, place_of, stack_in}
 use Rattle.lalrpop_emit.specs.NumberedRules.{NumberedRules}
-use Rattle.lalrpop_modes.specs.Stack.{start}
+use Rattle.bajofeki_rules.specs.Stack.{start}
 use Rattle.bajofeki_c.specs.declared.cutting.BeginError.{BeginError}
 use Rattle.bajofeki_c.specs.declared.cutting.BeginError.TheVariants.{NoLexer, OutOfMemory}
 use Rattle.bajofeki_c.specs.declared.cutting.Cutting.{Cutting}

@@ -3,7 +3,7 @@
 use Rattle.std.specs.Prelude.{◌≡◌, ◌⊎◌, ℕ, ◌<◌, ◌≤◌, Option, Some, None, Result, Ok, Err}
 use Rattle.lalrpop_hir.specs.Winners.{Matched}
 use Rattle.lalrpop_dfa.specs.Lookahead.{IsLookahead}
-use Rattle.lalrpop_modes.specs.Modes.{ModeRules, trees_in}
+use Rattle.lalrpop_rules.specs.Modes.{ModeRules, trees_in}
 use Rattle.bajofeki_c.specs.declared.held.BuildError.{BuildError}
 use Rattle.bajofeki_c.specs.declared.held.BuiltLexer.{BuiltLexer}
 use Rattle.bajofeki_c.specs.declared.held.Held.{Held}

@@ -4,8 +4,8 @@ use Rattle.std.specs.Prelude.{◌≡◌, ◌⊎◌, ℕ, List, flat_map, Result,
 use Rattle.std.specs.Str.{IsUtf8}
 use Rattle.lalrpop_markup.specs.Markup.{marked}
 use Rattle.lalrpop_markup.specs.Terminal.{painted}
-use Rattle.lalrpop_modes.specs.Modes.{ModeRules, ArePiecesFrom}
-use Rattle.lalrpop_modes.specs.Stack.{Stack, start}
+use Rattle.lalrpop_rules.specs.Modes.{ModeRules, ArePiecesFrom}
+use Rattle.bajofeki_rules.specs.Stack.{Stack, start}
 use Rattle.lalrpop_rules.specs.declared.item.Item.{Item}
 use Rattle.bajofeki_c.specs.Rules.{IsWritten}
 use Rattle.bajofeki_c.specs.declared.held.BuildError.{BuildError}

@@ -3,9 +3,9 @@
 use Rattle.std.specs.Prelude.{ℕ, List, slice_get, Option, Some, None, Result, Ok, Err}
 use Rattle.lalrpop_emit.specs.declared.error.EmitError.{EmitError}
 use Rattle.lalrpop_emit.specs.declared.error.EmitError.TheVariants as emit
-use Rattle.lalrpop_lexer.specs.declared.position.Position.{Position}
-use Rattle.lalrpop_modes.specs.declared.error.ModesError.{ModesError}
-use Rattle.lalrpop_modes.specs.declared.error.ModesError.TheVariants as modes
+use Rattle.bajofeki_rules.specs.declared.position.Position.{Position}
+use Rattle.lalrpop_rules.specs.declared.error.RulesError.{RulesError}
+use Rattle.lalrpop_rules.specs.declared.error.RulesError.TheVariants as modes
 use Rattle.lalrpop_rule_file.specs.declared.error.RuleFileError.{RuleFileError}
 use Rattle.lalrpop_rule_file.specs.declared.error.RuleFileError.TheVariants as file
 use Rattle.bajofeki_c.specs.declared.held.BuildError.{BuildError}
@@ -72,7 +72,7 @@ report_of_file (file.RepeatedPart line column) = told_line line column
 report_of_file (file.NoSuchMode line column) = told_line line column
 report_of_file file.OutOfMemory = told_code 7
 
-abbrev pub report_of_rules : ModesError → List NamedRule → Report
+abbrev pub report_of_rules : RulesError → List NamedRule → Report
 report_of_rules (modes.NoSuchMode i m) rs = told_rule 1 rs i 0
 report_of_rules (modes.NotParsed i position kind) rs = told_rule 2 rs i position
 report_of_rules (modes.BadEnd i e) rs = told_rule 3 rs i 0

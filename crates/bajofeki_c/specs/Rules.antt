@@ -1,8 +1,8 @@
 -- cases: proofs/Cases/Rules.antt
 -- The rules of a file, and the word of a clash.
 use Rattle.std.specs.Prelude.{◌≡◌, ℕ, Bool, false, List, [], length, take, drop, map, slice_get, string_bytes, Option, Some, None, Result, Ok, Err}
-use Rattle.lalrpop_modes.specs.declared.error.ModesError.{ModesError}
-use Rattle.lalrpop_modes.specs.declared.error.ModesError.TheVariants.{NotParsed, BadEnd, NotCompiled, Clash}
+use Rattle.lalrpop_rules.specs.declared.error.RulesError.{RulesError}
+use Rattle.lalrpop_rules.specs.declared.error.RulesError.TheVariants.{NotParsed, BadEnd, NotCompiled, Clash}
 use Rattle.bajofeki_c.specs.declared.held.BuildError.{BuildError}
 use Rattle.bajofeki_c.specs.declared.held.BuildError.TheVariants.{Rules}
 use Rattle.bajofeki_c.specs.declared.held.BuiltLexer.{BuiltLexer}
@@ -38,7 +38,7 @@ or_none None = []
 or_none (Some name) = name
 
 -- the rules of the file, if the error is one of its rules
-abbrev pub rules_known : ModesError → List NamedRule → List NamedRule
+abbrev pub rules_known : RulesError → List NamedRule → List NamedRule
 rules_known (NotParsed i position kind) rs = rs
 rules_known (BadEnd i e) rs = rs
 rules_known (NotCompiled i e) rs = rs
@@ -63,7 +63,7 @@ count_of h = length (names_in h.made)
 
 -- ---- the word of a clash
 
-abbrev pub word_in_error : ModesError → List ℕ
+abbrev pub word_in_error : RulesError → List ℕ
 word_in_error (Clash m i j w) = w.items
 word_in_error _ = []
 

@@ -6,7 +6,7 @@ ghost use Rattle.bajofeki_c.specs.declared.held.BuildError.TheVariants.{File, Nu
 
 use lalrpop_emit::{EmitError, LexerNumbers};
 use lalrpop_lexer::Position;
-use lalrpop_modes::{ModeLexer, ModesError};
+use lalrpop_rules::{RuleLexer, RulesError};
 use lalrpop_rule_file::{FileRule, RuleFile, RuleFileError, read_rules};
 use std::alloc::{AllocError, Global};
 
@@ -14,7 +14,7 @@ use std::alloc::{AllocError, Global};
 #[derive(Drop)]
 pub struct BuiltLexer {
     /// The rules, in the order of their lines, and the automata of their modes.
-    pub rules: ModeLexer,
+    pub rules: RuleLexer,
     /// By these numbers texts are cut.
     pub numbers: LexerNumbers,
 }
@@ -35,7 +35,7 @@ pub enum BuildError {
     File(RuleFileError),
     /// The rules of the file have no lexer. `rules` are all of them, in the order of their lines.
     Rules {
-        error: ModesError,
+        error: RulesError,
         rules: Vec<NamedRule>,
     },
     /// The lexer of the rules has no numbers.
@@ -82,7 +82,7 @@ fn named_rules(alloc: Global, rules: &[FileRule<'_>]) -> Result<Vec<NamedRule>, 
 }
 
 // The lexer with its numbers.
-fn numbered(alloc: Global, rules: ModeLexer) -> Result<BuiltLexer, EmitError>
+fn numbered(alloc: Global, rules: RuleLexer) -> Result<BuiltLexer, EmitError>
     ensures built { IfOk result (λ lexer. IsBuiltOf rules lexer) }
     ensures error { IfErr result (λ e. IsNumbersError rules e) }
 {
@@ -98,7 +98,7 @@ fn lexer_of(alloc: Global, file: &RuleFile<'_>) -> Result<BuiltLexer, BuildError
     let Ok(rules) = file.mode_rules(alloc) else {
         return Err(BuildError::File(RuleFileError::OutOfMemory));
     };
-    match ModeLexer::from_rules(alloc, &rules, file.modes.len()) {
+    match RuleLexer::from_rules(alloc, &rules, file.modes.len()) {
         Ok(lexer) => match numbered(alloc, lexer) {
             Ok(lexer) => Ok(lexer),
             Err(error) => Err(BuildError::Numbers(error)),

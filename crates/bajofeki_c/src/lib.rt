@@ -45,7 +45,7 @@ pub use cut::{Cut, Piece, cut_on};
 pub use cutting::{BeginError, Cutting, begin, code_of, let_cutting_go};
 pub use held::{BuildError, BuiltLexer, Held, NamedRule, let_go, make};
 use lalrpop_emit::{EmitError, LexerNumbers};
-use lalrpop_modes::{ModeLexer, ModesError};
+use lalrpop_rules::{RuleLexer, RulesError};
 use lalrpop_rule_file::RuleFileError;
 pub use look::{Look, look_of, modes_of};
 pub use page::{Markup, Page, ansi_into, html_into};
@@ -58,7 +58,7 @@ use std::alloc::Global;
 fn may_go_to_threads<T: Send + Sync>() {}
 
 fn rules_may_go_to_threads() {
-    may_go_to_threads::<ModeLexer>();
+    may_go_to_threads::<RuleLexer>();
 }
 
 fn numbers_may_go_to_threads() {
@@ -67,7 +67,7 @@ fn numbers_may_go_to_threads() {
 
 fn errors_may_go_to_threads() {
     may_go_to_threads::<RuleFileError>();
-    may_go_to_threads::<ModesError>();
+    may_go_to_threads::<RulesError>();
     may_go_to_threads::<EmitError>();
     may_go_to_threads::<NamedRule>();
 }

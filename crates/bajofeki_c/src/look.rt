@@ -2,11 +2,11 @@
 ghost use Rattle.std.specs.Prelude.{◌≡◌, ◌<◌};
 ghost use Rattle.lalrpop_hir.specs.Winners.{Matched};
 ghost use Rattle.lalrpop_dfa.specs.Lookahead.{IsLookahead};
-ghost use Rattle.lalrpop_modes.specs.Modes.{trees_in};
+ghost use Rattle.lalrpop_rules.specs.Modes.{trees_in};
 ghost use Rattle.bajofeki_c.specs.Look.{IsLookOf, mode_count};
 
 use crate::held::Held;
-use lalrpop_modes::ModeLexer;
+use lalrpop_rules::RuleLexer;
 
 /// How far a token of a mode can stay open.
 #[repr(C)]
@@ -30,7 +30,7 @@ pub fn modes_of(held: &Held) -> usize
 }
 
 // The greatest number of characters after a token of this mode that leave it open; `None` if any number can.
-fn lookahead_in(rules: &ModeLexer, mode: usize) -> Option<usize>
+fn lookahead_in(rules: &RuleLexer, mode: usize) -> Option<usize>
     requires there { mode < rules.now.modes }
     ensures answer { IsLookahead (Matched (trees_in rules.now mode)) result }
 {

@@ -6,7 +6,7 @@ ghost use Rattle.bajofeki_c.specs.Page.{IsPageOf, IsShown, piece_in};
 use crate::held::Held;
 use crate::rules::write_to;
 use lalrpop_markup::{Painter, push_html};
-use lalrpop_modes::ModeLexer;
+use lalrpop_rules::RuleLexer;
 use lalrpop_rules::Item;
 use std::alloc::{AllocError, Global};
 use std::str;
@@ -52,7 +52,7 @@ fn push_piece(
 // The page of the whole text.
 fn page_of(
     alloc: Global,
-    rules: &ModeLexer,
+    rules: &RuleLexer,
     markup: Markup,
     text: &str,
 ) -> Result<String, AllocError>

@@ -5,7 +5,7 @@ ghost use Rattle.bajofeki_c.specs.Report.{place_at, report, report_of_error, rep
 use crate::held::{BuildError, Held, NamedRule};
 use lalrpop_emit::EmitError;
 use lalrpop_lexer::Position;
-use lalrpop_modes::ModesError;
+use lalrpop_rules::RulesError;
 use lalrpop_rule_file::RuleFileError;
 
 /// What became of the rules. Numbers that a code doesn't have are 0. Rules are numbered from 0, in the order of their lines; lines
@@ -94,16 +94,16 @@ fn of_file(error: &RuleFileError) -> Report
     told(code, Position { line, column }, 0, 0)
 }
 
-fn of_rules(error: &ModesError, rules: &[NamedRule]) -> Report
+fn of_rules(error: &RulesError, rules: &[NamedRule]) -> Report
     ensures report { result ≡ report_of_rules error.now rules.now }
 {
     match error {
-        ModesError::NoSuchMode { rule, .. } => told_rule(1, rules, *rule, 0),
-        ModesError::NotParsed { rule, position, .. } => told_rule(2, rules, *rule, *position),
-        ModesError::BadEnd { rule, .. } => told_rule(3, rules, *rule, 0),
-        ModesError::NotCompiled { rule, .. } => told_rule(4, rules, *rule, 0),
-        ModesError::Clash { rule, other, .. } => told_clash(rules, *rule, *other),
-        ModesError::OutOfMemory => told(7, Position { line: 0, column: 0 }, 0, 0),
+        RulesError::NoSuchMode { rule, .. } => told_rule(1, rules, *rule, 0),
+        RulesError::NotParsed { rule, position, .. } => told_rule(2, rules, *rule, *position),
+        RulesError::BadEnd { rule, .. } => told_rule(3, rules, *rule, 0),
+        RulesError::NotCompiled { rule, .. } => told_rule(4, rules, *rule, 0),
+        RulesError::Clash { rule, other, .. } => told_clash(rules, *rule, *other),
+        RulesError::OutOfMemory => told(7, Position { line: 0, column: 0 }, 0, 0),
     }
 }
 

@@ -3,7 +3,7 @@ ghost use Rattle.std.specs.Prelude.{◌≡◌};
 ghost use Rattle.bajofeki_c.specs.Rules.{IsWritten, count_of, is_skipped as is_skipped_by, name_of as name_bytes, rules_in_error, skips_rule, word_of};
 
 use crate::held::{BuildError, Held, NamedRule};
-use lalrpop_modes::ModesError;
+use lalrpop_rules::RulesError;
 
 /// Writes as many values as fit, and says how many there are.
 pub(crate) fn write_to<T: Copy>(values: &[T], out: &mut [T]) -> usize
@@ -31,7 +31,7 @@ fn clash_word(held: &Held) -> &[u32]
     match &held.made {
         Err(
             BuildError::Rules {
-                error: ModesError::Clash { word, .. },
+                error: RulesError::Clash { word, .. },
                 ..
             },
         ) => word,
@@ -47,11 +47,11 @@ fn rules_of_error(error: &BuildError) -> &[NamedRule]
         return &[];
     };
     match error {
-        ModesError::NotParsed { .. }
-        | ModesError::BadEnd { .. }
-        | ModesError::NotCompiled { .. }
-        | ModesError::Clash { .. } => rules,
-        ModesError::NoSuchMode { .. } | ModesError::OutOfMemory => &[],
+        RulesError::NotParsed { .. }
+        | RulesError::BadEnd { .. }
+        | RulesError::NotCompiled { .. }
+        | RulesError::Clash { .. } => rules,
+        RulesError::NoSuchMode { .. } | RulesError::OutOfMemory => &[],
     }
 }
 

@@ -11,7 +11,7 @@ use anyhow::{Context, Result, bail};
 use lalrpop_edits::{Change, Chunks, LexedText, Pieces};
 use lalrpop_lexer::Position;
 use lalrpop_lexer::lexer::re::unescape;
-use lalrpop_modes::ModeLexer;
+use lalrpop_rules::RuleLexer;
 use lalrpop_rule_file::read_rules;
 use lalrpop_rules::Item;
 use std::alloc::Global;
@@ -53,7 +53,7 @@ fn edit_of(alloc: Global, text: &LexedText<'_>, line: &str) -> Result<Edit> {
 }
 
 // The name of the rule of a piece.
-fn name_of<'text>(lexer: &'text ModeLexer, piece: &Item<'_>) -> &'text str {
+fn name_of<'text>(lexer: &'text RuleLexer, piece: &Item<'_>) -> &'text str {
     match piece {
         Item::Token(token) | Item::Skipped(token) => lexer.name(token.index).unwrap_or("?"),
         Item::Fault { .. } => "!",
@@ -162,7 +162,7 @@ fn main(rt: HostRuntime) -> Result<()> {
     let bytes = fs::read_to_string(&rt, &rules_name).context(format_args!("{rules_name:?}"))?;
     let file = read_rules(alloc, bytes.as_bytes()).context(format_args!("{rules_name:?}"))?;
     let rules = file.mode_rules(alloc)?;
-    let made = ModeLexer::from_rules(alloc, &rules, file.modes.len());
+    let made = RuleLexer::from_rules(alloc, &rules, file.modes.len());
     let lexer = made.context(format_args!("{rules_name:?}"))?;
     let start = fs::read_to_string(&rt, &text_name).context(format_args!("{text_name:?}"))?;
     let mut text = LexedText::new(alloc, &lexer, &start)?;

@@ -1,7 +1,7 @@
 //! Long texts, which are run through in blocks. What is expected follows from how they are made.
 use crate::numbers::{keyword_and_names, nested_words};
 use lalrpop_emit::LexerNumbers;
-use lalrpop_modes::{ModeLexer, ModeRule};
+use lalrpop_rules::{RuleLexer, ModeRule};
 use lalrpop_rules::Rule;
 use std::alloc::{AllocError, Global};
 use std::test::Fail;
@@ -59,7 +59,7 @@ fn one_mode(alloc: Global, rules: &[Rule]) -> Result<LexerNumbers, Fail> {
             actions: &[],
         })?;
     }
-    let rules = ModeLexer::from_rules(alloc, &all, 1)?;
+    let rules = RuleLexer::from_rules(alloc, &all, 1)?;
     let numbers = LexerNumbers::new(alloc, &rules)?;
     Ok(numbers)
 }

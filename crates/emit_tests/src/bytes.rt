@@ -1,7 +1,7 @@
 //! Pieces of texts of bytes, which may be no UTF-8. Which bytes are characters is taken from RFC 3629.
 use crate::numbers::{keyword_and_names, nested_words};
 use lalrpop_emit::{BytePosition, LexerNumbers, NumberedPiece, byte_position};
-use lalrpop_modes::{ModeLexer, ModeRule};
+use lalrpop_rules::{RuleLexer, ModeRule};
 use lalrpop_rules::Rule;
 use std::alloc::{AllocError, Global};
 use std::test::Fail;
@@ -19,7 +19,7 @@ fn characters(alloc: Global) -> Result<LexerNumbers, Fail> {
         modes: &[0],
         actions: &[],
     }];
-    let rules = ModeLexer::from_rules(alloc, &rules, 1)?;
+    let rules = RuleLexer::from_rules(alloc, &rules, 1)?;
     let numbers = LexerNumbers::new(alloc, &rules)?;
     Ok(numbers)
 }

@@ -1,6 +1,6 @@
 //! Lexers in numbers.
 use lalrpop_emit::{EmitError, LexerNumbers};
-use lalrpop_modes::{Action, ModeLexer, ModeRule, ModesError};
+use lalrpop_rules::{Action, RuleLexer, ModeRule, RulesError};
 use lalrpop_rules::Rule;
 use std::alloc::Global;
 use std::test::Fail;
@@ -10,7 +10,7 @@ pub(crate) fn keyword_and_names(
     alloc: Global,
     keyword: &str,
     name: &str,
-) -> Result<ModeLexer, ModesError> {
+) -> Result<RuleLexer, RulesError> {
     let rules = [
         ModeRule {
             rule: Rule::literal(keyword, "if"),
@@ -23,11 +23,11 @@ pub(crate) fn keyword_and_names(
             actions: &[],
         },
     ];
-    ModeLexer::from_rules(alloc, &rules, 1)
+    RuleLexer::from_rules(alloc, &rules, 1)
 }
 
 /// Numbers, and words between `<` and `>`, which can be nested.
-pub(crate) fn nested_words(alloc: Global) -> Result<ModeLexer, ModesError> {
+pub(crate) fn nested_words(alloc: Global) -> Result<RuleLexer, RulesError> {
     let rules = [
         ModeRule {
             rule: Rule::pattern("NUMBER", "[0-9]+"),
@@ -50,7 +50,7 @@ pub(crate) fn nested_words(alloc: Global) -> Result<ModeLexer, ModesError> {
             actions: &[],
         },
     ];
-    ModeLexer::from_rules(alloc, &rules, 2)
+    RuleLexer::from_rules(alloc, &rules, 2)
 }
 
 #[test]
@@ -67,7 +67,7 @@ fn the_second_name_has_a_dash(rt: HostRuntime) -> Result<(), Fail> {
 #[test]
 fn there_are_no_rules(rt: HostRuntime) -> Result<(), Fail> {
     let alloc = rt.alloc();
-    let rules = ModeLexer::from_rules(alloc, &[], 1)?;
+    let rules = RuleLexer::from_rules(alloc, &[], 1)?;
     let is_refused = matches!(LexerNumbers::new(alloc, &rules), Err(EmitError::NoRules));
     assert!(rt; is_refused);
     Ok(())

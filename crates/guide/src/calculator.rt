@@ -4,11 +4,11 @@
 
 use anyhow::Result;
 use lalrpop_lexer::Position;
-use lalrpop_rules::{Item, Rule, RuleLexer};
+use lalrpop_rules::{Item, Rule, OldRuleLexer};
 use std::alloc::Global;
 use std::io::{self, Print};
 
-fn lexer(alloc: Global) -> Result<RuleLexer> {
+fn lexer(alloc: Global) -> Result<OldRuleLexer> {
     let rules = [
         // A keyword is a name too. Literals have precedence 1 and patterns 0, so the keyword wins.
         Rule::literal("LET", "let"),
@@ -18,7 +18,7 @@ fn lexer(alloc: Global) -> Result<RuleLexer> {
         Rule::pattern("SPACE", r"\s+").skipped(),
         Rule::pattern("COMMENT", r"#[^\n]*").skipped(),
     ];
-    Ok(RuleLexer::from_rules(alloc, &rules)?)
+    Ok(OldRuleLexer::from_rules(alloc, &rules)?)
 }
 
 // Writes the place of a piece of the text, its name and its characters.
@@ -30,7 +30,7 @@ fn show_piece(rt: &impl Print, text: &str, start: usize, name: &str, slice: &str
 }
 
 // Writes each token, and `!` for the name where no rule matches.
-fn show<'x>(rt: &impl Print, lexer: &'x RuleLexer, text: &'x str) -> Result<()> {
+fn show<'x>(rt: &impl Print, lexer: &'x OldRuleLexer, text: &'x str) -> Result<()> {
     for item in lexer.items(text) {
         match item {
             Item::Token(token) => {

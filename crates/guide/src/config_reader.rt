@@ -3,7 +3,7 @@
 
 use anyhow::{Context, Result, bail};
 use lalrpop_lexer::Position;
-use lalrpop_modes::ModeLexer;
+use lalrpop_rules::RuleLexer;
 use lalrpop_rule_file::read_rules;
 use lalrpop_rules::Item;
 use std::alloc::Global;
@@ -40,7 +40,7 @@ fn show_piece(rt: &impl Print, text: &str, start: usize, kind: Kind, slice: &str
 }
 
 // Writes each token. The stack of modes may need memory, so an item may be an error.
-fn show<'x>(rt: &impl Print, alloc: Global, lexer: &'x ModeLexer, text: &'x str) -> Result<()> {
+fn show<'x>(rt: &impl Print, alloc: Global, lexer: &'x RuleLexer, text: &'x str) -> Result<()> {
     for item in lexer.items(alloc, text) {
         match item {
             Ok(Item::Token(token)) => {
@@ -67,7 +67,7 @@ pub fn main(rt: HostRuntime) -> Result<()> {
     let bytes = fs::read_to_string(&rt, &rules_name).context(format_args!("{rules_name:?}"))?;
     let file = read_rules(alloc, bytes.as_bytes()).context(format_args!("{rules_name:?}"))?;
     let rules = file.mode_rules(alloc)?;
-    let made = ModeLexer::from_rules(alloc, &rules, file.modes.len());
+    let made = RuleLexer::from_rules(alloc, &rules, file.modes.len());
     let lexer = made.context(format_args!("{rules_name:?}"))?;
     let text = fs::read_to_string(&rt, &text_name).context(format_args!("{text_name:?}"))?;
     show(&rt, alloc, &lexer, &text)

@@ -5,7 +5,7 @@
 use anyhow::{Context, Result, bail};
 use lalrpop_edits::{Chunks, TextDecoder};
 use lalrpop_markup::Painter;
-use lalrpop_modes::ModeLexer;
+use lalrpop_rules::RuleLexer;
 use lalrpop_rule_file::read_rules;
 use std::alloc::Global;
 use std::env;
@@ -35,7 +35,7 @@ fn paint(
 fn paint_all<R: Read>(
     rt: &impl Print,
     alloc: Global,
-    lexer: &ModeLexer,
+    lexer: &RuleLexer,
     reader: &mut R,
 ) -> Result<()> {
     let mut chunks = Chunks::new(alloc, lexer);
@@ -74,7 +74,7 @@ pub fn main(rt: HostRuntime) -> Result<()> {
     let bytes = fs::read_to_string(&rt, &rules_name).context(format_args!("{rules_name:?}"))?;
     let file = read_rules(alloc, bytes.as_bytes()).context(format_args!("{rules_name:?}"))?;
     let rules = file.mode_rules(alloc)?;
-    let made = ModeLexer::from_rules(alloc, &rules, file.modes.len());
+    let made = RuleLexer::from_rules(alloc, &rules, file.modes.len());
     let lexer = made.context(format_args!("{rules_name:?}"))?;
     match words.next() {
         Some(name) => {

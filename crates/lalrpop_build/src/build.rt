@@ -34,12 +34,12 @@ mod scratch;
 mod sets;
 mod target_cache;
 
+use crate::alphabet::Cell;
 use crate::{Dfa, DfaConstructionError, DfaStateIndex, Kind, NfaIndex, Precedence};
 use automata::Automata;
 use best::Tie;
 use block::{BEFORE_ALL, Block};
 use compile::compile_all;
-use crate::alphabet::Cell;
 use lalrpop_dfa::{ItemSet, RowWriter, Rows};
 use lalrpop_hir::Regex;
 use lalrpop_nfa::Nfa;

@@ -17,8 +17,8 @@ ghost use Rattle.lalrpop_build.specs.Internal.Worklist.{epsilon_targets, marked,
 use super::moves::targets_by;
 use super::transitions::Transition;
 use super::worklist::{Marks, Worklist};
-use lalrpop_hir::NfaIndex;
 use lalrpop_dfa::{Item, ItemSet};
+use lalrpop_hir::NfaIndex;
 use lalrpop_nfa::{Nfa, NfaStateIndex, Noop, REJECT};
 use std::alloc::{AllocError, Global};
 use std::collections::BTreeSet;

@@ -16,6 +16,6 @@ mod worklist;
 
 pub use all_clashes::{Clash, clashes};
 pub use build::build_dfa;
-pub use lalrpop_hir::{DfaConstructionError, NfaIndex, Precedence};
 use lalrpop_dfa::{Dfa, DfaStateIndex, Kind};
+pub use lalrpop_hir::{DfaConstructionError, NfaIndex, Precedence};
 pub use transitions::Transition;

@@ -7,8 +7,8 @@ ghost use Rattle.lalrpop_build.specs.Internal.Given.{IsItemOf, AreAutomata, AreI
 ghost use Rattle.lalrpop_build.specs.Internal.Subsets.{closed};
 ghost use Rattle.lalrpop_build.specs.Internal.Worklist.{IsAdded, IsInserted, epsilon_targets, marked};
 
-use lalrpop_hir::NfaIndex;
 use lalrpop_dfa::Item;
+use lalrpop_hir::NfaIndex;
 use lalrpop_nfa::{Nfa, Noop};
 use std::alloc::AllocError;
 use std::collections::BTreeSet;

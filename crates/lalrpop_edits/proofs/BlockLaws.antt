@@ -3,8 +3,8 @@ use Rattle.std.proofs.Common.{◌≡◌, ℕ, zero, suc, ◌+◌, ◌<◌, ◌�
 use Rattle.std.specs.Prelude.{slice_get, Some}
 use Rattle.std.proofs.lemmas.Option.{none-some}
 use Rattle.std.proofs.lemmas.List.{take_all, take_more, take_at, drop_at, take-append-drop, take-take, drop-take, append-nil, length-take-le}
-use Rattle.lalrpop_modes.specs.Stack.{Stack}
-use Rattle.lalrpop_modes.specs.Modes.{ModeRules}
+use Rattle.bajofeki_rules.specs.Stack.{Stack}
+use Rattle.lalrpop_rules.specs.Modes.{ModeRules}
 use Rattle.lalrpop_edits.specs.Internal.Kept.{KeptUpTo, AreWithin, after_kept, reach_of}
 use Rattle.lalrpop_edits.specs.declared.kept.Kept.{Kept}
 use Rattle.lalrpop_edits.specs.declared.block.Block.{Block}

@@ -11,8 +11,8 @@ use Rattle.lalrpop_rules.specs.declared.item.Item.{Item}
 use Rattle.lalrpop_rules.specs.declared.item.Item.TheVariants.{Token, Skipped, Fault}
 use Rattle.lalrpop_rules.proofs.PieceLaws.{is_front, is_some}
 use Rattle.lalrpop_rules.proofs.FirstMatches.{some_length}
-use Rattle.lalrpop_modes.specs.Stack.{Stack, start}
-use Rattle.lalrpop_modes.specs.Modes.{ModeRules, ArePiecesFrom, trees_in, after}
+use Rattle.bajofeki_rules.specs.Stack.{Stack, start}
+use Rattle.lalrpop_rules.specs.Modes.{ModeRules, ArePiecesFrom, trees_in, after}
 use Rattle.lalrpop_edits.specs.Lexed.{placed}
 use Rattle.lalrpop_edits.specs.Given.{item_of}
 use Rattle.lalrpop_edits.specs.declared.given_piece.GivenPiece.{GivenPiece}

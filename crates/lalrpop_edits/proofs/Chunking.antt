@@ -17,11 +17,12 @@ use Rattle.lalrpop_rules.specs.Pieces.{IsFault, IsPiece, AreSame, slice_of, star
 use Rattle.lalrpop_rules.specs.declared.item.Item.{Item}
 use Rattle.lalrpop_rules.specs.declared.item.Item.TheVariants.{Token, Skipped, Fault}
 use Rattle.lalrpop_rules.proofs.UniquePieces.{same_piece, same_slice, no_piece_left}
-use Rattle.lalrpop_modes.specs.declared.action.Action.{Action}
-use Rattle.lalrpop_modes.specs.Stack.{Stack, act_all}
-use Rattle.lalrpop_modes.specs.Modes.{ModeRules, ArePiecesFrom, EachMode, OneLeadsInto, trees_in, after}
-use Rattle.lalrpop_modes.proofs.ModePieces.{same_after}
-use Rattle.lalrpop_modes.proofs.ModeRuns.{act-within}
+use Rattle.bajofeki_rules.specs.declared.action.Action.{Action}
+use Rattle.bajofeki_rules.specs.Stack.{Stack, act_all}
+use Rattle.lalrpop_rules.specs.Modes.{ModeRules, ArePiecesFrom, EachMode, trees_in, after}
+use Rattle.bajofeki_rules.specs.EnteredModes.{OneLeadsInto}
+use Rattle.lalrpop_rules.proofs.ModePieces.{same_after}
+use Rattle.lalrpop_rules.proofs.ModeRuns.{act-within}
 use Rattle.lalrpop_edits.specs.declared.cutter.Cutter.{Cutter}
 use Rattle.lalrpop_edits.specs.declared.memo.Memo.{Memo}
 use Rattle.lalrpop_edits.specs.declared.walker.Walker.{Walker}

@@ -3,9 +3,9 @@ use Rattle.std.proofs.Common.{◌≡◌, ℕ, ◌+◌, List, [], ◌∷◌, leng
 use Rattle.lalrpop_rules.specs.Pieces.{IsSame, AreSame}
 use Rattle.lalrpop_rules.specs.declared.item.Item.{Item}
 use Rattle.lalrpop_rules.specs.declared.item.Item.TheVariants.{Token, Skipped, Fault}
-use Rattle.lalrpop_modes.specs.declared.action.Action.{Action}
-use Rattle.lalrpop_modes.specs.Stack.{Stack, start, act_all, actions_of}
-use Rattle.lalrpop_modes.specs.Modes.{ModeRules, after, after_all}
+use Rattle.bajofeki_rules.specs.declared.action.Action.{Action}
+use Rattle.bajofeki_rules.specs.Stack.{Stack, start, act_all, actions_of}
+use Rattle.lalrpop_rules.specs.Modes.{ModeRules, after, after_all}
 use Rattle.lalrpop_edits.specs.Internal.Kept.{rule_of, KeptUpTo, after_kept}
 use Rattle.lalrpop_edits.specs.Lexed.{end_of, IsEarliest}
 use Rattle.lalrpop_edits.specs.declared.change.Change.{Change}

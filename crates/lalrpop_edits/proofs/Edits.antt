@@ -1,8 +1,8 @@
 -- A stretch of a text is replaced: which pieces of the text before are pieces of the new one.
 use Rattle.std.proofs.Common.{◌≡◌, ℕ, ◌+◌, ◌-◌, ◌≤◌, List, ◌++◌, length, take, drop, arith, sym, ap, subst, ◌∙◌, append_assoc, length-append, length-take, length-drop}
 use Rattle.std.proofs.lemmas.List.{take_at, drop_at, drop-drop}
-use Rattle.lalrpop_modes.specs.Stack.{Stack}
-use Rattle.lalrpop_modes.specs.Modes.{ModeRules}
+use Rattle.bajofeki_rules.specs.Stack.{Stack}
+use Rattle.lalrpop_rules.specs.Modes.{ModeRules}
 use Rattle.lalrpop_edits.specs.Internal.Reach.{AreAlike}
 use Rattle.lalrpop_edits.specs.Internal.Kept.{KeptUpTo, AreWithin}
 use Rattle.lalrpop_edits.specs.Lexed.{replaced}

@@ -9,8 +9,8 @@ use Rattle.lalrpop_rules.specs.Pieces.{IsSame, slice_of, start_of}
 use Rattle.lalrpop_rules.specs.declared.item.Item.{Item}
 use Rattle.lalrpop_rules.specs.declared.item.Item.TheVariants.{Token, Skipped, Fault}
 use Rattle.lalrpop_rules.proofs.UniquePieces.{same_slice}
-use Rattle.lalrpop_modes.specs.Stack.{Stack, start}
-use Rattle.lalrpop_modes.specs.Modes.{ModeRules}
+use Rattle.bajofeki_rules.specs.Stack.{Stack, start}
+use Rattle.lalrpop_rules.specs.Modes.{ModeRules}
 use Rattle.lalrpop_edits.specs.Internal.Kept.{rule_of, KeptUpTo}
 use Rattle.lalrpop_edits.specs.Lexed.{IsPieceNumber, HasPieces}
 use Rattle.lalrpop_edits.specs.declared.kept.Kept.{Kept}

@@ -9,10 +9,10 @@ use Rattle.lalrpop_hir.specs.declared.token.Token.{Token as Cut}
 use Rattle.lalrpop_rules.specs.Pieces.{IsPiece, IsSame, AreSame, slice_of, start_of}
 use Rattle.lalrpop_rules.specs.declared.item.Item.{Item}
 use Rattle.lalrpop_rules.specs.declared.item.Item.TheVariants.{Token, Skipped, Fault}
-use Rattle.lalrpop_modes.specs.declared.action.Action.{Action}
-use Rattle.lalrpop_modes.specs.Stack.{Stack, start}
-use Rattle.lalrpop_modes.specs.Modes.{ModeRules, trees_in, after, ArePiecesFrom}
-use Rattle.lalrpop_modes.proofs.ModePieces.{pieces-from-unique}
+use Rattle.bajofeki_rules.specs.declared.action.Action.{Action}
+use Rattle.bajofeki_rules.specs.Stack.{Stack, start}
+use Rattle.lalrpop_rules.specs.Modes.{ModeRules, trees_in, after, ArePiecesFrom}
+use Rattle.lalrpop_rules.proofs.ModePieces.{pieces-from-unique}
 use Rattle.lalrpop_edits.specs.Internal.Kept.{rule_of, IsFront, IsKept, KeptUpTo, after_rule, after_kept}
 use Rattle.lalrpop_edits.specs.Lexed.{Lexed, ArePiecesOf, IsPieceNumber, HasPieces}
 use Rattle.lalrpop_edits.specs.declared.kept.Kept.{Kept}

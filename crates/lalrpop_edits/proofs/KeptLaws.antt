@@ -8,8 +8,8 @@ use Rattle.lalrpop_hir.specs.Tree.{Tree}
 use Rattle.lalrpop_hir.specs.Prefix.{IsPrefix}
 use Rattle.lalrpop_lexer.proofs.Cuttings.{cut_behind}
 use Rattle.lalrpop_rules.proofs.FirstMatches.{some_length}
-use Rattle.lalrpop_modes.specs.Stack.{Stack}
-use Rattle.lalrpop_modes.specs.Modes.{ModeRules, trees_in}
+use Rattle.bajofeki_rules.specs.Stack.{Stack}
+use Rattle.lalrpop_rules.specs.Modes.{ModeRules, trees_in}
 use Rattle.lalrpop_edits.specs.Internal.Reach.{AreAlike}
 use Rattle.lalrpop_edits.specs.Internal.Kept.{rule_of, reach_of, after_kept, IsFront, IsKept, KeptUpTo, AreWithin, ReadsOn}
 use Rattle.lalrpop_edits.specs.declared.kept.Kept.{Kept}

@@ -7,12 +7,12 @@ use Rattle.std.proofs.lemmas.Bool.{ne_eqb, cases_order}
 use Rattle.std.proofs.lemmas.Option.{none-some, same_Some}
 use Rattle.std.proofs.lemmas.List.{drop-drop, take-append-drop, take_at}
 use Rattle.std.proofs.lemmas.Str.{IsCharBoundary-from_rest, IsCharBoundary-from_take, IsCharBoundary-start, IsUtf8-drop, IsUtf8-take, chars-nil}
-use Rattle.lalrpop_lexer.specs.Position.{IsBefore, moved, place_after, place_behind, position_of}
-use Rattle.lalrpop_lexer.specs.declared.position.Position.{Position}
-use Rattle.lalrpop_lexer.proofs.Places.{column_within, few_chars, line_within}
-use Rattle.lalrpop_lexer.proofs.PlaceLaws.{before_trans, not_before, places_ascend, position_moved}
-use Rattle.lalrpop_modes.specs.Modes.{ModeRules}
-use Rattle.lalrpop_modes.specs.Stack.{Stack, start}
+use Rattle.bajofeki_rules.specs.Position.{IsBefore, moved, place_after, place_behind, position_of}
+use Rattle.bajofeki_rules.specs.declared.position.Position.{Position}
+use Rattle.bajofeki_rules.proofs.Places.{column_within, few_chars, line_within}
+use Rattle.bajofeki_rules.proofs.PlaceLaws.{before_trans, not_before, places_ascend, position_moved}
+use Rattle.lalrpop_rules.specs.Modes.{ModeRules}
+use Rattle.bajofeki_rules.specs.Stack.{Stack, start}
 use Rattle.lalrpop_nfa.proofs.Cuts.{IsCut}
 use Rattle.lalrpop_edits.specs.declared.block.Block.{Block}
 use Rattle.lalrpop_edits.specs.declared.kept.Kept.{Kept}

@@ -10,8 +10,8 @@ use Rattle.std.proofs.Math.Nat.{mul-le-mul_left}
 use Rattle.lalrpop_dfa.specs.Dfa.{Row, after}
 use Rattle.lalrpop_dfa.specs.declared.Kind.TheVariants.{Neither}
 use Rattle.lalrpop_lexer.specs.Matching.{is_open_kind, open_states}
-use Rattle.lalrpop_modes.specs.Modes.{ModeRules}
-use Rattle.lalrpop_modes.specs.ModeCut.{open_in_all}
+use Rattle.lalrpop_rules.specs.Modes.{ModeRules}
+use Rattle.lalrpop_rules.specs.ModeCut.{open_in_all}
 use Rattle.lalrpop_edits.specs.Internal.Noted.{IsCutter}
 use Rattle.lalrpop_edits.specs.Internal.Paying.{AreDistinct, IsCrossing, IsNote}
 use Rattle.lalrpop_edits.specs.Internal.Walking.{IsMet, behind, says}

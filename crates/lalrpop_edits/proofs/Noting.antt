@@ -26,7 +26,7 @@ use Rattle.lalrpop_dfa.specs.declared.Kind.{Kind}
 use Rattle.lalrpop_dfa.specs.declared.Kind.TheVariants.{Reject, Neither}
 use Rattle.lalrpop_dfa.proofs.AfterLaws.{after_push}
 use Rattle.lalrpop_dfa.proofs.LongestLemmas.{IsLongestUpTo, longest_start, longest_accept, part_accept, done}
-use Rattle.lalrpop_modes.specs.Modes.{ModeRules}
+use Rattle.lalrpop_rules.specs.Modes.{ModeRules}
 use Rattle.lalrpop_edits.specs.declared.cutter.Cutter.{Cutter}
 use Rattle.lalrpop_edits.specs.declared.memo.Memo.{Memo}
 use Rattle.lalrpop_edits.specs.declared.walker.Walker.{Walker}

@@ -7,7 +7,7 @@ use Rattle.std.proofs.lemmas.List.Elements.{All-nil, All-append, All-contains, A
 use Rattle.lalrpop_hir.proofs.Longests.{longest-unique}
 use Rattle.lalrpop_dfa.specs.Dfa.{Row}
 use Rattle.lalrpop_rules.proofs.FirstMatches.{some_length}
-use Rattle.lalrpop_modes.specs.Modes.{ModeRules, trees_in}
+use Rattle.lalrpop_rules.specs.Modes.{ModeRules, trees_in}
 use Rattle.lalrpop_edits.specs.Costs.{IsPaidFor}
 use Rattle.lalrpop_edits.specs.Lexed.{ReadsTo}
 use Rattle.lalrpop_edits.specs.Internal.Kept.{IsKept, IsFront, rule_of}

@@ -10,8 +10,8 @@ use Rattle.lalrpop_hir.specs.Tree.{Tree}
 use Rattle.lalrpop_hir.specs.Longest.{IsLongest}
 use Rattle.lalrpop_hir.specs.Winners.{Matched}
 use Rattle.lalrpop_rules.specs.Kinds.{merged_behind}
-use Rattle.lalrpop_modes.specs.Stack.{Stack, act_all, actions_of}
-use Rattle.lalrpop_modes.specs.Modes.{ModeRules, kinds_of, mode_rules, trees_in}
+use Rattle.bajofeki_rules.specs.Stack.{Stack, act_all, actions_of}
+use Rattle.lalrpop_rules.specs.Modes.{ModeRules, kinds_of, mode_rules, trees_in}
 use Rattle.lalrpop_edits.specs.Lexed.{ReadsTo}
 use Rattle.lalrpop_edits.specs.Internal.Reach.{AreAlike}
 use Rattle.lalrpop_edits.specs.Internal.Kept.{IsFront, IsKept, IsReadFor, ReadsOn, rule_of, reach_of, after_rule, after_kept}

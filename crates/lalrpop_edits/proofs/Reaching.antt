@@ -11,8 +11,8 @@ use Rattle.lalrpop_hir.specs.Winners.{Matched}
 use Rattle.lalrpop_rules.specs.Pieces.{IsSame, AreSame}
 use Rattle.lalrpop_rules.specs.declared.item.Item.{Item}
 use Rattle.lalrpop_rules.specs.declared.item.Item.TheVariants.{Token, Skipped, Fault}
-use Rattle.lalrpop_modes.specs.Stack.{Stack, start}
-use Rattle.lalrpop_modes.specs.Modes.{ModeRules, trees_in}
+use Rattle.bajofeki_rules.specs.Stack.{Stack, start}
+use Rattle.lalrpop_rules.specs.Modes.{ModeRules, trees_in}
 use Rattle.lalrpop_edits.specs.Internal.Kept.{rule_of, reach_of, after_kept, IsKept, KeptUpTo, IsReadFor, ReadsOn}
 use Rattle.lalrpop_edits.specs.Lexed.{ReadsTo, Reaches, FirstReaches}
 use Rattle.lalrpop_edits.specs.declared.change.Change.{Change}

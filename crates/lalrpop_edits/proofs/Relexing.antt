@@ -3,9 +3,10 @@ use Rattle.std.proofs.Common.{◌≡◌, ℕ, zero, suc, ◌+◌, ◌-◌, ◌<�
 use Rattle.std.specs.Str.{IsUtf8, IsCharBoundary}
 use Rattle.std.proofs.lemmas.Str.{IsCharBoundary-start}
 use Rattle.std.proofs.lemmas.List.{take_at, drop_at, take-append-drop, drop_all, length-take-le, append-nil}
-use Rattle.lalrpop_modes.specs.Stack.{Stack, start, actions_of}
-use Rattle.lalrpop_modes.specs.Modes.{ModeRules, EachMode, OneLeadsInto}
-use Rattle.lalrpop_modes.proofs.ModeLaws.{act-keeps}
+use Rattle.bajofeki_rules.specs.Stack.{Stack, start, actions_of}
+use Rattle.lalrpop_rules.specs.Modes.{ModeRules, EachMode}
+use Rattle.bajofeki_rules.specs.EnteredModes.{OneLeadsInto}
+use Rattle.lalrpop_rules.proofs.ModeLaws.{act-keeps}
 use Rattle.std.specs.Prelude.{Option, Some, None}
 use Rattle.lalrpop_edits.specs.Internal.Kept.{KeptUpTo, AreWithin, after_kept, after_rule, rule_of}
 use Rattle.lalrpop_edits.specs.declared.kept.Kept.{Kept}

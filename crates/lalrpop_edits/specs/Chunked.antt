@@ -8,8 +8,8 @@ use Rattle.lalrpop_hir.specs.Winners.{Matched}
 use Rattle.lalrpop_rules.specs.Found.{MatchesAt, NoMatchBefore}
 use Rattle.lalrpop_rules.specs.Pieces.{IsPiece, slice_of, start_of}
 use Rattle.lalrpop_rules.specs.declared.item.Item.{Item}
-use Rattle.lalrpop_modes.specs.Stack.{Stack, start}
-use Rattle.lalrpop_modes.specs.Modes.{ModeRules, trees_in, after}
+use Rattle.bajofeki_rules.specs.Stack.{Stack, start}
+use Rattle.lalrpop_rules.specs.Modes.{ModeRules, trees_in, after}
 use Rattle.lalrpop_edits.specs.Lexed.{placed}
 use Rattle.lalrpop_edits.specs.Given.{item_of}
 use Rattle.lalrpop_edits.specs.declared.given_piece.GivenPiece.{GivenPiece}

@@ -2,8 +2,8 @@
 -- What an edit costs: how many characters are read, each as often as it is read.
 use Rattle.std.specs.Prelude.{◌≡◌, ℕ, ◌+◌, ◌-◌, ◌*◌, ◌≤◌, ◌⊎◌, List}
 use Rattle.std.specs.Str.{IsCharBoundary}
-use Rattle.lalrpop_modes.specs.Modes.{ModeRules, trees_in}
-use Rattle.lalrpop_modes.specs.ModeCut.{open_in_all}
+use Rattle.lalrpop_rules.specs.Modes.{ModeRules, trees_in}
+use Rattle.lalrpop_rules.specs.ModeCut.{open_in_all}
 use Rattle.lalrpop_edits.specs.Lexed.{Lexed, ReadsTo}
 use Rattle.lalrpop_edits.specs.declared.change.Change.{Change}
 

@@ -2,7 +2,7 @@
 
 ghost use Rattle.std.specs.Prelude.{◌≡◌, ℕ, ◌+◌, ◌^◌, ◌<◌, ◌≤◌, [], List, length, take, drop, IfOk, OnOk};
 ghost use Rattle.std.specs.Str.{IsCharBoundary};
-ghost use Rattle.lalrpop_lexer.specs.Position.{position_of};
+ghost use Rattle.bajofeki_rules.specs.Position.{position_of};
 ghost use Rattle.lalrpop_edits.specs.Internal.Kept.{AreWithin};
 ghost use Rattle.lalrpop_edits.specs.Internal.Blocks.{pieces_in, sizes, after_pieces, IsMarked, AreMarked};
 ghost use Rattle.lalrpop_edits.specs.Internal.BlockPlaces.{IsCounted, AreCounted};
@@ -10,7 +10,7 @@ ghost use Rattle.lalrpop_edits.specs.Internal.BlockPlaces.{IsCounted, AreCounted
 use crate::kept::Kept;
 use crate::place::{Place, pass};
 use lalrpop_lexer::Position;
-use lalrpop_modes::{ModeLexer, ModeStack};
+use lalrpop_rules::{RuleLexer, ModeStack};
 use std::alloc::{AllocError, Global};
 
 // The most pieces of a block; or as many as there are modes on the stack where it begins, if those are more: so the stacks
@@ -32,7 +32,7 @@ pub(crate) struct Block {
 }
 
 // Passes the pieces, which begin at the place. Returns how many bytes from there on they depend on at most.
-fn pass_all(lexer: &ModeLexer, pieces: &[Kept], place: &mut Place) -> Result<usize, AllocError>
+fn pass_all(lexer: &RuleLexer, pieces: &[Kept], place: &mut Place) -> Result<usize, AllocError>
     requires fits { place.old.at + sizes pieces.now < 2 ^ 63 }
     ensures at { OnOk result (place.new.at ≡ place.old.at + sizes pieces.now) }
     ensures stack { OnOk result
@@ -63,7 +63,7 @@ fn end_of(text: &str) -> Position
 // The block of these pieces of the text, which begin at the place: from then on that is behind them.
 fn block_of(
     alloc: Global,
-    lexer: &ModeLexer,
+    lexer: &RuleLexer,
     text: &str,
     pieces: &[Kept],
     place: &mut Place,
@@ -111,7 +111,7 @@ fn share(left: usize, most: usize) -> usize
 // The blocks of these pieces of the text, which begin at the place: from then on that is behind them.
 pub(crate) fn blocks_of(
     alloc: Global,
-    lexer: &ModeLexer,
+    lexer: &RuleLexer,
     text: &str,
     pieces: &[Kept],
     place: &mut Place,

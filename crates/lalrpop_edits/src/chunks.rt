@@ -7,7 +7,7 @@ ghost use Rattle.lalrpop_hir.specs.Tree.{Tree};
 ghost use Rattle.lalrpop_hir.specs.Winners.{Matched};
 ghost use Rattle.lalrpop_rules.specs.Found.{MatchesAt, NoMatchBefore};
 ghost use Rattle.lalrpop_rules.specs.Pieces.{IsPiece};
-ghost use Rattle.lalrpop_modes.specs.Modes.{EachMode, ModeRules, trees_in};
+ghost use Rattle.lalrpop_rules.specs.Modes.{EachMode, ModeRules, trees_in};
 ghost use Rattle.lalrpop_edits.specs.Internal.Kept.{IsFront, after_rule};
 ghost use Rattle.lalrpop_edits.specs.Internal.Noted.{IsCutter};
 ghost use Rattle.lalrpop_edits.specs.Lexed.{placed};
@@ -23,7 +23,7 @@ use crate::run::longest_settled;
 use crate::walker::Walker;
 use lalrpop_lexer::Lexer;
 use lalrpop_lexer::lexer::dfa::NfaIndex;
-use lalrpop_modes::{ModeLexer, ModeStack};
+use lalrpop_rules::{RuleLexer, ModeStack};
 use lalrpop_nfa::Steps;
 use std::alloc::{AllocError, Global};
 use std::fmt;
@@ -49,7 +49,7 @@ use std::marker::Model;
 /// ```
 #[derive(Drop)]
 pub struct Chunks<'rules> {
-    lexer: &'rules ModeLexer,
+    lexer: &'rules RuleLexer,
     // The end of what has come.
     text: String,
     // Where the last piece begins in it; where it ends, if more has come since.
@@ -67,7 +67,7 @@ pub struct Chunks<'rules> {
 impl<'rules> Model for Chunks<'rules> {
     ghost use Rattle.std.specs.Prelude.{◌<◌, ◌≤◌, ◌-◌, take, drop, string_bytes, IfSome};
     ghost use Rattle.std.specs.Str.{IsCharBoundary};
-    ghost use Rattle.lalrpop_modes.specs.Modes.{EachMode};
+    ghost use Rattle.lalrpop_rules.specs.Modes.{EachMode};
     ghost use Rattle.lalrpop_edits.specs.Chunked.{Chunked};
     ghost use Rattle.lalrpop_edits.specs.Internal.ChunkCode.{chunked_code};
     ghost use Rattle.lalrpop_edits.specs.Internal.Noted.{IsCutter};
@@ -95,7 +95,7 @@ impl<'rules> Model for Chunks<'rules> {
 fn keep_cutter<'a>(
     alloc: Global,
     kept: &mut Option<Cutter<'a>>,
-    lexer: &'a ModeLexer,
+    lexer: &'a RuleLexer,
 ) -> Result<(), AllocError>
     ensures some { OnOk result (IsSome kept.new) }
     ensures ready { (at : ℕ) (text : List ℕ) → IfSome kept.old (λ c. IsCutter lexer.now c at text)
@@ -109,7 +109,7 @@ fn keep_cutter<'a>(
 
 // The piece at the front of the rest, which begins at the byte `at` of the text, if no more of the text can change it.
 fn final_front(
-    lexer: &ModeLexer,
+    lexer: &RuleLexer,
     kept: &mut Option<Cutter<'_>>,
     mode: usize,
     at: usize,
@@ -175,7 +175,7 @@ fn nothing_matches(alloc: Global, lexer: &Lexer, rest: &str, is_ended: bool) -> 
 
 // Does what a token of the rule does to the stack. A fault does nothing.
 fn act_by(
-    lexer: &ModeLexer,
+    lexer: &RuleLexer,
     rule: Option<NfaIndex>,
     stack: &mut ModeStack,
 ) -> Result<(), AllocError>
@@ -238,7 +238,7 @@ fn drop_given(text: &mut String, given: &mut usize)
 
 impl<'rules> Chunks<'rules> {
     /// Nothing has come yet.
-    pub fn new(alloc: Global, lexer: &'rules ModeLexer) -> Chunks<'rules>
+    pub fn new(alloc: Global, lexer: &'rules RuleLexer) -> Chunks<'rules>
         ensures nothing { result ≡ nothing_come lexer.now }
     {
         // There is a mode in which the text begins.

@@ -6,7 +6,7 @@ ghost use Rattle.lalrpop_edits.specs.Internal.Noted.{IsCutter};
 
 use crate::memo::Memo;
 use crate::walker::Walker;
-use lalrpop_modes::ModeLexer;
+use lalrpop_rules::RuleLexer;
 use std::alloc::{AllocError, Global};
 
 /// A walk for each mode, and what its runs read in vain in this text.
@@ -22,7 +22,7 @@ impl<'a> Cutter<'a> {
     /// # Errors
     ///
     /// `AllocError` if a request for memory was refused.
-    pub(crate) fn new(alloc: Global, lexer: &'a ModeLexer) -> Result<Cutter<'a>, AllocError>
+    pub(crate) fn new(alloc: Global, lexer: &'a RuleLexer) -> Result<Cutter<'a>, AllocError>
         ensures ready { IfOk result (λ c. (at : ℕ) (text : List ℕ) → IsCutter lexer.now c at text) }
         ensures automata { OnOk result ((m : ℕ) → m < lexer.now.modes
             → (d : List Row) × (slice_get lexer.now.automata m ≡ Some d)) }

@@ -2,8 +2,8 @@
 
 ghost use Rattle.std.specs.Prelude.{◌≡◌, ℕ, ◌+◌, ◌^◌, ◌<◌, ◌≤◌, ◌⊎◌, [], List, ◌++◌, length, take, drop, slice_get, Some, IfOk, OnOk, OnErr, IfErr};
 ghost use Rattle.std.specs.Str.{IsCharBoundary};
-ghost use Rattle.lalrpop_modes.specs.Stack.{Stack, start};
-ghost use Rattle.lalrpop_modes.specs.Modes.{ModeRules};
+ghost use Rattle.bajofeki_rules.specs.Stack.{Stack, start};
+ghost use Rattle.lalrpop_rules.specs.Modes.{ModeRules};
 ghost use Rattle.lalrpop_edits.specs.Internal.Kept.{AreWithin, reach_of};
 ghost use Rattle.lalrpop_edits.specs.declared.block.Block.{Block as BlockValue};
 ghost use Rattle.lalrpop_edits.specs.declared.kept.Kept.{Kept as KeptValue};
@@ -22,7 +22,7 @@ use crate::error::EditError;
 use crate::kept::Kept;
 use crate::meet::{Cut, Edit, Old, Spot, cut_to_meet};
 use crate::place::{Place, pass};
-use lalrpop_modes::{ModeLexer, ModeStack};
+use lalrpop_rules::{RuleLexer, ModeStack};
 use lalrpop_nfa::Steps;
 use std::alloc::{AllocError, Global};
 
@@ -67,7 +67,7 @@ fn first_reaching(blocks: &[Block], from: usize) -> (Spot, usize)
 
 // Passes the pieces up to the first one that depends on something from the place `from` on. Returns how many they are.
 fn keep_front(
-    lexer: &ModeLexer,
+    lexer: &RuleLexer,
     pieces: &[Kept],
     from: usize,
     place: &mut Place,
@@ -96,7 +96,7 @@ fn keep_front(
 // Where the pieces are cut anew from, if nothing before the place `from` was replaced.
 fn start_of(
     alloc: Global,
-    lexer: &ModeLexer,
+    lexer: &RuleLexer,
     blocks: &[Block],
     from: usize,
 ) -> Result<Start, AllocError>
@@ -182,7 +182,7 @@ fn put_blocks(
 // at `begin`. On an error nothing has changed.
 fn put_pieces(
     alloc: Global,
-    lexer: &ModeLexer,
+    lexer: &RuleLexer,
     text: &str,
     blocks: &mut Vec<Block>,
     first: &Spot,
@@ -235,7 +235,7 @@ fn put_pieces(
 /// The text is too large, or there are too many rules, or a request for memory was refused. Then the blocks are as they were.
 pub(crate) fn cut_anew(
     alloc: Global,
-    lexer: &ModeLexer,
+    lexer: &RuleLexer,
     text: &str,
     blocks: &mut Vec<Block>,
     from: usize,

@@ -3,7 +3,7 @@
 ghost use Rattle.std.specs.Prelude.{◌≡◌, ◌≢◌, ◌<◌, ◌≤◌, ◌+◌, ◌↔◌, ℕ, List, [], length, string_bytes, string_len, string_capacity, IfOk, OnOk, IfErr, OnErr, IfSome, IfNone, IsSome, IsTrue};
 ghost use Rattle.std.specs.List.{replace_range};
 ghost use Rattle.std.specs.Str.{IsCharBoundary};
-ghost use Rattle.lalrpop_lexer.specs.Position.{position_of};
+ghost use Rattle.bajofeki_rules.specs.Position.{position_of};
 ghost use Rattle.lalrpop_rules.specs.Pieces.{slice_of, start_of};
 ghost use Rattle.lalrpop_rules.specs.declared.item.Item.{Item as ItemValue};
 ghost use Rattle.lalrpop_edits.specs.Lexed.{ArePiecesOf, FirstReaches, IsRange, IsChange, IsEarliest, IsEditError, IsPieceNumber, replaced};
@@ -21,7 +21,7 @@ use crate::kept::Kept;
 use crate::lines::{offset_in, position_in};
 use crate::pieces::{Pieces, item_of};
 use lalrpop_lexer::Position;
-use lalrpop_modes::ModeLexer;
+use lalrpop_rules::RuleLexer;
 use lalrpop_nfa::Steps;
 use lalrpop_rules::Item;
 use std::alloc::Global;
@@ -55,7 +55,7 @@ fn put_back(text: &mut String, from: usize, to: usize, gone: &str)
 // Replaces the range of the text, and cuts anew what that changes of its blocks. On an error both are as they were.
 fn edit_parts(
     alloc: Global,
-    lexer: &ModeLexer,
+    lexer: &RuleLexer,
     text: &mut String,
     blocks: &mut Vec<Block>,
     range: &Range<usize>,
@@ -157,7 +157,7 @@ fn find_piece(pieces: &[Kept], start: usize, at: usize) -> Option<(Kept, usize)>
 /// ```
 #[derive(Drop)]
 pub struct LexedText<'rules> {
-    lexer: &'rules ModeLexer,
+    lexer: &'rules RuleLexer,
     text: String,
     blocks: Vec<Block>,
 }
@@ -187,7 +187,7 @@ impl<'rules> LexedText<'rules> {
     /// `TooLarge` or `OutOfMemory`, as for an edit.
     pub fn new(
         alloc: Global,
-        lexer: &'rules ModeLexer,
+        lexer: &'rules RuleLexer,
         text: &str,
     ) -> Result<LexedText<'rules>, EditError>
         ensures lexed { IfOk result (λ l. l ≡ record { rules = lexer.now; text = text.now }) }
@@ -213,7 +213,7 @@ impl<'rules> LexedText<'rules> {
     }
 
     /// The rules.
-    pub fn lexer(&self) -> &'rules ModeLexer
+    pub fn lexer(&self) -> &'rules RuleLexer
         ensures rules { result.now ≡ self.now.rules }
     {
         self.lexer

@@ -2,8 +2,8 @@
 
 ghost use Rattle.std.specs.Prelude.{◌≡◌, ℕ, ◌+◌, ◌^◌, ◌<◌, ◌≤◌, ◌⊎◌, List, [], length, take, drop, slice_get, Some, true, false, IfSome, IfOk, OnOk, IfNone, IfErr};
 ghost use Rattle.std.specs.Str.{IsCharBoundary};
-ghost use Rattle.lalrpop_modes.specs.Stack.{Stack};
-ghost use Rattle.lalrpop_modes.specs.Modes.{EachMode};
+ghost use Rattle.bajofeki_rules.specs.Stack.{Stack};
+ghost use Rattle.lalrpop_rules.specs.Modes.{EachMode};
 ghost use Rattle.lalrpop_edits.specs.Internal.Kept.{KeptUpTo};
 ghost use Rattle.lalrpop_edits.specs.Internal.Cutting.{IsCutError};
 ghost use Rattle.lalrpop_edits.specs.Internal.Noted.{IsCutter};
@@ -16,7 +16,7 @@ use crate::cutter::Cutter;
 use crate::error::EditError;
 use crate::kept::Kept;
 use crate::place::{Place, cut_piece, pass};
-use lalrpop_modes::ModeLexer;
+use lalrpop_rules::RuleLexer;
 use lalrpop_nfa::Steps;
 use std::alloc::AllocError;
 
@@ -79,7 +79,7 @@ fn next_piece(blocks: &[Block], spot: &mut Spot) -> Option<Kept>
 }
 
 // Passes the next old piece. Returns whether one was left.
-fn pass_next(lexer: &ModeLexer, blocks: &[Block], old: &mut Old) -> Result<bool, AllocError>
+fn pass_next(lexer: &RuleLexer, blocks: &[Block], old: &mut Old) -> Result<bool, AllocError>
     requires old { IsOldPlace lexer.now blocks.now old.old }
     requires count { length (pieces_in blocks.now) < 2 ^ 63 }
     requires size { sizes (pieces_in blocks.now) < 2 ^ 63 }
@@ -136,7 +136,7 @@ fn next_turn(edit: &Edit, end: usize, old: &Place, cut: &Place) -> Turn
 ///
 /// The text is too large, or there are too many rules, or a request for memory was refused.
 pub(crate) fn cut_to_meet(
-    lexer: &ModeLexer,
+    lexer: &RuleLexer,
     cutter: &mut Cutter<'_>,
     text: &str,
     blocks: &[Block],

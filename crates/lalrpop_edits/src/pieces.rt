@@ -12,7 +12,7 @@ use crate::block::Block;
 use crate::kept::{FAULT, Kept};
 use lalrpop_lexer::Token;
 use lalrpop_lexer::lexer::dfa::NfaIndex;
-use lalrpop_modes::ModeLexer;
+use lalrpop_rules::RuleLexer;
 use lalrpop_rules::Item;
 use std::fmt;
 use std::iter::FusedIterator;
@@ -31,7 +31,7 @@ fn is_skipped(skips: &[bool], index: usize) -> bool
 
 // The piece of the text at this place of which this is kept.
 pub(crate) fn item_of<'text>(
-    lexer: &ModeLexer,
+    lexer: &RuleLexer,
     text: &'text str,
     at: usize,
     piece: &Kept,
@@ -100,7 +100,7 @@ fn piece_from(blocks: &[Block], block: usize, piece: usize) -> Option<Found>
 /// ```
 #[derive(Drop)]
 pub struct Pieces<'text> {
-    lexer: &'text ModeLexer,
+    lexer: &'text RuleLexer,
     text: &'text str,
     blocks: &'text [Block],
     // The next piece is this one of this block, and begins at this byte. At the end of a block it's the first one of a later block.
@@ -129,7 +129,7 @@ impl<'text> Model for Pieces<'text> {
 impl<'text> Pieces<'text> {
     // All pieces of the text, whose blocks these are.
     pub(crate) fn new(
-        lexer: &'text ModeLexer,
+        lexer: &'text RuleLexer,
         text: &'text str,
         blocks: &'text [Block],
     ) -> Pieces<'text>

@@ -2,7 +2,7 @@
 
 ghost use Rattle.std.specs.Prelude.{◌≡◌, ℕ, ◌+◌, ◌^◌, ◌<◌, ◌≤◌, List, length, drop, true, IfOk, IfErr, OnOk, OnErr};
 ghost use Rattle.std.specs.Str.{IsCharBoundary};
-ghost use Rattle.lalrpop_modes.specs.Modes.{EachMode};
+ghost use Rattle.lalrpop_rules.specs.Modes.{EachMode};
 ghost use Rattle.lalrpop_edits.specs.Internal.Kept.{IsKept, after_kept};
 ghost use Rattle.lalrpop_edits.specs.Internal.Cutting.{IsCutError};
 ghost use Rattle.lalrpop_edits.specs.Internal.Noted.{IsCutter, IsKnown};
@@ -13,7 +13,7 @@ use crate::error::EditError;
 use crate::front::{front_piece, kept_of};
 use crate::kept::{FAULT, Kept};
 use lalrpop_dfa::NfaIndex;
-use lalrpop_modes::{ModeLexer, ModeStack};
+use lalrpop_rules::{RuleLexer, ModeStack};
 use lalrpop_nfa::Steps;
 use std::alloc::AllocError;
 
@@ -40,7 +40,7 @@ impl Clone for Place {
 /// # Errors
 ///
 /// `AllocError` if a request for memory was refused. Then the place is as it was.
-pub(crate) fn pass(lexer: &ModeLexer, piece: &Kept, place: &mut Place) -> Result<(), AllocError>
+pub(crate) fn pass(lexer: &RuleLexer, piece: &Kept, place: &mut Place) -> Result<(), AllocError>
     ensures at { OnOk result (place.old.at + piece.now.size < 2 ^ 64
         → place.new.at ≡ place.old.at + piece.now.size) }
     ensures stack { OnOk result
@@ -63,7 +63,7 @@ pub(crate) fn pass(lexer: &ModeLexer, piece: &Kept, place: &mut Place) -> Result
 ///
 /// The text is too large, or there are too many rules, or a request for memory was refused.
 pub(crate) fn cut_piece(
-    lexer: &ModeLexer,
+    lexer: &RuleLexer,
     cutter: &mut Cutter<'_>,
     text: &str,
     place: &mut Place,

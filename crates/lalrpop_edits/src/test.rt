@@ -1,13 +1,13 @@
 //! Texts that are edited, and texts that come in chunks.
 
 use crate::{Change, Chunks, EditError, LexedText, SettledToken};
-use lalrpop_modes::{Action, ModeLexer, ModeRule, ModeStack, ModesError};
+use lalrpop_rules::{Action, RuleLexer, ModeRule, ModeStack, RulesError};
 use lalrpop_rules::Rule;
 use std::alloc::Global;
 use std::test::Fail;
 
 // Words with spaces between them, and comments, in which each character is a piece.
-fn words_and_comments(alloc: Global) -> Result<ModeLexer, ModesError> {
+fn words_and_comments(alloc: Global) -> Result<RuleLexer, RulesError> {
     let rules = [
         ModeRule {
             rule: Rule::pattern("WORD", "[a-zä]+"),
@@ -35,7 +35,7 @@ fn words_and_comments(alloc: Global) -> Result<ModeLexer, ModesError> {
             actions: &[],
         },
     ];
-    ModeLexer::from_rules(alloc, &rules, 2)
+    RuleLexer::from_rules(alloc, &rules, 2)
 }
 
 // Whether the text has these pieces, each also at its last byte.
@@ -157,7 +157,7 @@ fn a_fault_is_seen_where_it_begins(rt: HostRuntime) -> Result<(), Fail> {
         modes: &[0],
         actions: &[],
     }];
-    let lexer = ModeLexer::from_rules(rt.alloc(), &rules, 1)?;
+    let lexer = RuleLexer::from_rules(rt.alloc(), &rules, 1)?;
     let mut chunks = Chunks::new(rt.alloc(), &lexer);
     assert!(rt; !chunks.begins_fault());
     chunks.feed("?")?;
@@ -184,7 +184,7 @@ fn stacks_are_copied_and_compared(rt: HostRuntime) -> Result<(), Fail> {
 }
 
 // An `a` is a piece; but each may begin many that end in a `b`.
-fn runs_on(alloc: Global) -> Result<ModeLexer, ModesError> {
+fn runs_on(alloc: Global) -> Result<RuleLexer, RulesError> {
     let rules = [
         ModeRule {
             rule: Rule::literal("A", "a"),
@@ -197,7 +197,7 @@ fn runs_on(alloc: Global) -> Result<ModeLexer, ModesError> {
             actions: &[],
         },
     ];
-    ModeLexer::from_rules(alloc, &rules, 1)
+    RuleLexer::from_rules(alloc, &rules, 1)
 }
 
 // Whether the piece that holds the byte is this slice.

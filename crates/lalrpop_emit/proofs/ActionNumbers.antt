@@ -7,10 +7,10 @@ use Rattle.std.proofs.lemmas.List.{length-map, map-append, nil_from_length, take
 use Rattle.std.proofs.lemmas.List.Elements.{All-push}
 use Rattle.std.proofs.lemmas.List.FromFn.{length-map-range_with_len, get_or-map-range_with_len, map-range_with_len_more, take-map-range_with_len}
 use Rattle.std.proofs.lemmas.Option.{slice_get_within, slice_get-get_or}
-use Rattle.lalrpop_modes.specs.Modes.{ModeRules}
-use Rattle.lalrpop_modes.specs.Stack.{actions_of, these_or_none}
-use Rattle.lalrpop_modes.specs.declared.action.Action.{Action}
-use Rattle.lalrpop_modes.specs.declared.action.Action.TheVariants.{Mode, Push, Pop}
+use Rattle.lalrpop_rules.specs.Modes.{ModeRules}
+use Rattle.bajofeki_rules.specs.Stack.{actions_of, these_or_none}
+use Rattle.bajofeki_rules.specs.declared.action.Action.{Action}
+use Rattle.bajofeki_rules.specs.declared.action.Action.TheVariants.{Mode, Push, Pop}
 use Rattle.lalrpop_emit.specs.NumberedRules.{action_number, action_numbers, first_places, actions_of_rules}
 use Rattle.lalrpop_emit.specs.Internal.Lists.{AreSmall, HasSmallMode, LeadBelow}
 use Rattle.lalrpop_emit.specs.Internal.Walking.{AreActionsAt}

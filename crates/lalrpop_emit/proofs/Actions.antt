@@ -2,10 +2,11 @@
 use Rattle.std.proofs.Common.{◌≡◌, ℕ, ◌+◌, ◌-◌, ◌/◌, ◌%◌, ◌<◌, ◌≤◌, List, [], ◌∷◌, ◌++◌, length, take, drop, set, get_or, map, reverse, refl, sym, ap, subst, ◌∙◌, inl, inr, arith, length-drop}
 use Rattle.std.specs.Prelude.{slice_get, Some, ◌↔◌}
 use Rattle.std.proofs.lemmas.List.{get_or_read, drop_more, take_more, take_more_set, reverse-append, length-reverse, length-take-le}
-use Rattle.lalrpop_modes.specs.declared.action.Action.{Action}
-use Rattle.lalrpop_modes.specs.declared.action.Action.TheVariants.{Mode, Push, Pop}
-use Rattle.lalrpop_modes.specs.Stack.{Stack, popped, act, act_all, actions_of}
-use Rattle.lalrpop_modes.specs.Modes.{ModeRules, LeadsInto, OneLeadsInto}
+use Rattle.bajofeki_rules.specs.declared.action.Action.{Action}
+use Rattle.bajofeki_rules.specs.declared.action.Action.TheVariants.{Mode, Push, Pop}
+use Rattle.bajofeki_rules.specs.Stack.{Stack, popped, act, act_all, actions_of}
+use Rattle.lalrpop_rules.specs.Modes.{ModeRules}
+use Rattle.bajofeki_rules.specs.EnteredModes.{LeadsInto, OneLeadsInto}
 use Rattle.lalrpop_emit.specs.BytePieces.{Fits}
 use Rattle.lalrpop_emit.specs.NumberedRules.{action_number, action_numbers, actions_of_rules, first_places}
 use Rattle.lalrpop_emit.specs.Internal.Driving.{stack_of}

@@ -1,8 +1,8 @@
 -- The pieces that a cut gives one after another are those of the text.
 use Rattle.std.proofs.Common.{ℕ, List, [], ◌∷◌, ◌++◌, true, false, sym}
 use Rattle.std.specs.Prelude.{Some, None}
-use Rattle.lalrpop_modes.specs.Modes.{ModeRules}
-use Rattle.lalrpop_modes.specs.Stack.{Stack}
+use Rattle.lalrpop_rules.specs.Modes.{ModeRules}
+use Rattle.bajofeki_rules.specs.Stack.{Stack}
 use Rattle.lalrpop_emit.specs.ByteCut.{ByteCut, GivesBytePiece, IsTooDeep, place_of, stack_in}
 use Rattle.lalrpop_emit.specs.BytePieces.{AreBytePiecesFrom, AreBytePiecesTo}
 use Rattle.lalrpop_emit.specs.declared.numbered_piece.NumberedPiece.{NumberedPiece}

@@ -11,9 +11,9 @@ use Rattle.lalrpop_hir.proofs.Longests.{longest-unique}
 use Rattle.lalrpop_rules.specs.Pieces.{IsFault, IsPiece, slice_of}
 use Rattle.lalrpop_rules.specs.declared.item.Item.{Item}
 use Rattle.lalrpop_rules.specs.declared.item.Item.TheVariants.{Token, Skipped, Fault}
-use Rattle.lalrpop_modes.specs.declared.action.Action.{Action}
-use Rattle.lalrpop_modes.specs.Stack.{Stack, act_all, actions_of}
-use Rattle.lalrpop_modes.specs.Modes.{ModeRules, ArePiecesFrom, after, trees_in}
+use Rattle.bajofeki_rules.specs.declared.action.Action.{Action}
+use Rattle.bajofeki_rules.specs.Stack.{Stack, act_all, actions_of}
+use Rattle.lalrpop_rules.specs.Modes.{ModeRules, ArePiecesFrom, after, trees_in}
 use Rattle.lalrpop_emit.specs.BytePieces.{IsByteToken, IsByteFault, IsByteTokenOrFault, IsBytePiece, IsModePiece, rule_actions, piece_actions, after_piece, Fits, StopsAt, AreBytePiecesFrom, AreBytePiecesTo, numbered}
 use Rattle.lalrpop_emit.specs.declared.numbered_piece.NumberedPiece.{NumberedPiece}
 

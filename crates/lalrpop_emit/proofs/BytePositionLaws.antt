@@ -10,7 +10,7 @@ use Rattle.std.proofs.lemmas.Bool.Decides.{nat_tests}
 use Rattle.std.proofs.lemmas.List.{reverse-append, drop-append-le, drop_all}
 use Rattle.std.proofs.lemmas.List.Sums.{suffix_len-le-length, sum_by-append}
 use Rattle.std.proofs.lemmas.Str.{encodes-chars, IsUtf8-take, encode_ascii}
-use Rattle.lalrpop_lexer.specs.Position.{is_line_feed, position_of}
+use Rattle.bajofeki_rules.specs.Position.{is_line_feed, position_of}
 use Rattle.lalrpop_emit.specs.BytePositions.{begins_character, line_behind, column_behind}
 use Rattle.lalrpop_emit.proofs.CharacterBytes.{encode_two, encode_three, encode_four}
 

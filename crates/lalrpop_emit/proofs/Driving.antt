@@ -5,10 +5,10 @@ use Rattle.std.proofs.lemmas.List.{length-map, append-nil, drop_all, take_all}
 use Rattle.std.proofs.lemmas.Option.{slice_get-map, slice_get-get_or, slice_get_read}
 use Rattle.std.specs.Option.{option_map}
 use Rattle.lalrpop_dense.specs.DenseTable.{TableNumbers}
-use Rattle.lalrpop_modes.specs.declared.action.Action.{Action}
-use Rattle.lalrpop_modes.specs.Stack.{Stack, act_all, actions_of}
-use Rattle.lalrpop_modes.specs.Modes.{ModeRules, EachMode, trees_in}
-use Rattle.lalrpop_modes.proofs.ModeLaws.{act-keeps}
+use Rattle.bajofeki_rules.specs.declared.action.Action.{Action}
+use Rattle.bajofeki_rules.specs.Stack.{Stack, act_all, actions_of}
+use Rattle.lalrpop_rules.specs.Modes.{ModeRules, EachMode, trees_in}
+use Rattle.lalrpop_rules.proofs.ModeLaws.{act-keeps}
 use Rattle.lalrpop_hir.specs.Longest.{IsLongest}
 use Rattle.lalrpop_emit.specs.BytePieces.{IsByteFault, Fits}
 use Rattle.lalrpop_emit.specs.Names.{distinct_names, place_of_name}

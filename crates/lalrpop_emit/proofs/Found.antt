@@ -7,7 +7,7 @@ use Rattle.lalrpop_hir.specs.Longest.{IsLongest}
 use Rattle.lalrpop_dfa.specs.Dfa.{Row, Recognizes}
 use Rattle.lalrpop_dfa.proofs.Recognized.{on_words}
 use Rattle.lalrpop_dense.specs.DenseTable.{IsTableFor, TableNumbers}
-use Rattle.lalrpop_modes.specs.Modes.{ModeRules, trees_in}
+use Rattle.lalrpop_rules.specs.Modes.{ModeRules, trees_in}
 use Rattle.lalrpop_emit.specs.NumberedRules.{NumberedRules, AreNumbersOf}
 use Rattle.lalrpop_emit.specs.Internal.Running.{IsRunOf, IsTokenAt}
 use Rattle.lalrpop_emit.specs.Internal.Walking.{IsDrivable, AreRulesBelow}

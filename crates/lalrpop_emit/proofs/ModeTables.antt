@@ -9,7 +9,7 @@ use Rattle.std.proofs.lemmas.Option.{get_or_from_slice_get, slice_get_within, sl
 use Rattle.lalrpop_dfa.specs.Dfa.{Row, after}
 use Rattle.lalrpop_dfa.proofs.EdgeTargets.{the_some}
 use Rattle.lalrpop_dense.specs.DenseTable.{TableNumbers, IsRowLike, IsTableFor, row_after}
-use Rattle.lalrpop_modes.specs.Modes.{ModeRules}
+use Rattle.lalrpop_rules.specs.Modes.{ModeRules}
 use Rattle.lalrpop_emit.specs.NumberedRules.{IsStorableTable}
 use Rattle.lalrpop_emit.specs.Internal.Lists.{AreBelow, AreModeTables, IsModeTable, list_numbers}
 use Rattle.lalrpop_emit.specs.Internal.Walking.{AreRulesBelow, IsWalkable}

@@ -1,8 +1,8 @@
 -- cases: proofs/Cases/ByteCut.antt
 -- A cut of a text of bytes that goes on, a piece at a time.
 use Rattle.std.specs.Prelude.{◌≡◌, ℕ, ◌+◌, true, false, List, Option, Some, None, take, reverse}
-use Rattle.lalrpop_modes.specs.Modes.{ModeRules}
-use Rattle.lalrpop_modes.specs.Stack.{Stack}
+use Rattle.lalrpop_rules.specs.Modes.{ModeRules}
+use Rattle.bajofeki_rules.specs.Stack.{Stack}
 use Rattle.lalrpop_emit.specs.BytePieces.{Fits, IsModePiece, StopsAt, piece_actions, after_piece}
 use Rattle.lalrpop_emit.specs.declared.numbered_piece.NumberedPiece.{NumberedPiece}
 -- a cutter: where it goes on, and what it has found of the text; and that this is true of a text, by these numbers. Before the first

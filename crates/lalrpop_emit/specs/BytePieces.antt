@@ -7,9 +7,9 @@ use Rattle.lalrpop_hir.specs.Chain.{AtEnd}
 use Rattle.lalrpop_rules.specs.Found.{MatchesAt, NoMatchBefore}
 use Rattle.lalrpop_rules.specs.declared.item.Item.{Item}
 use Rattle.lalrpop_rules.specs.declared.item.Item.TheVariants.{Token, Skipped, Fault}
-use Rattle.lalrpop_modes.specs.declared.action.Action.{Action}
-use Rattle.lalrpop_modes.specs.Stack.{Stack, start, act, act_all, actions_of}
-use Rattle.lalrpop_modes.specs.Modes.{ModeRules, trees_in}
+use Rattle.bajofeki_rules.specs.declared.action.Action.{Action}
+use Rattle.bajofeki_rules.specs.Stack.{Stack, start, act, act_all, actions_of}
+use Rattle.lalrpop_rules.specs.Modes.{ModeRules, trees_in}
 use Rattle.lalrpop_emit.specs.declared.numbered_piece.NumberedPiece.{NumberedPiece}
 
 -- a token of this rule and length at the front of a text: the longest match; its kind is that of its rule

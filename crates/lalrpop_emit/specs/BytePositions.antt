@@ -3,7 +3,7 @@
 use Rattle.std.specs.Prelude.{ℕ, ◌+◌, Bool, not, List, take}
 use Rattle.std.specs.Int.{is_in_range}
 use Rattle.std.specs.List.{count_by, after_last}
-use Rattle.lalrpop_lexer.specs.Position.{is_line_feed}
+use Rattle.bajofeki_rules.specs.Position.{is_line_feed}
 use Rattle.lalrpop_emit.specs.declared.byte_positions.BytePosition.{BytePosition}
 
 -- a character begins with the byte: it isn't one of the 64 that only follow another

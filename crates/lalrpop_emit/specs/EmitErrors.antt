@@ -3,7 +3,7 @@
 use Rattle.std.specs.Prelude.{◌≡◌, ℕ, ◌^◌, ◌<◌, ◌≤◌, List, [], length, Some, slice_get}
 use Rattle.lalrpop_lexer.specs.Dfa.{Row}
 use Rattle.lalrpop_dfa.specs.declared.Kind.TheVariants.{Accepts}
-use Rattle.lalrpop_modes.specs.Modes.{ModeRules}
+use Rattle.lalrpop_rules.specs.Modes.{ModeRules}
 use Rattle.lalrpop_emit.specs.Names.{IsName, IsIdentifier}
 use Rattle.lalrpop_emit.specs.NumberedRules.{action_numbers, actions_of_rules}
 use Rattle.lalrpop_emit.specs.declared.error.EmitError.{EmitError}

@@ -5,10 +5,10 @@ use Rattle.std.specs.List.{All, range_with_len}
 use Rattle.lalrpop_dense.specs.DenseTable.{TableNumbers, IsTableFor}
 use Rattle.lalrpop_lexer.specs.Dfa.{Row}
 use Rattle.lalrpop_lexer.specs.Rules.{IsBuiltFrom}
-use Rattle.lalrpop_modes.specs.Modes.{ModeRules, trees_in}
-use Rattle.lalrpop_modes.specs.Stack.{actions_of}
-use Rattle.lalrpop_modes.specs.declared.action.Action.{Action}
-use Rattle.lalrpop_modes.specs.declared.action.Action.TheVariants.{Mode, Push, Pop}
+use Rattle.lalrpop_rules.specs.Modes.{ModeRules, trees_in}
+use Rattle.bajofeki_rules.specs.Stack.{actions_of}
+use Rattle.bajofeki_rules.specs.declared.action.Action.{Action}
+use Rattle.bajofeki_rules.specs.declared.action.Action.TheVariants.{Mode, Push, Pop}
 use Rattle.lalrpop_emit.specs.Ahead.{AheadNumbers, IsAheadOf}
 use Rattle.lalrpop_emit.specs.Names.{IsName, distinct_names, kinds_of}
 

@@ -7,7 +7,7 @@ ghost use Rattle.lalrpop_emit.specs.Internal.Lists.{AreSmall, HasSmallMode, Lead
 
 use crate::error::EmitError;
 use lalrpop_lexer::lexer::dfa::NfaIndex;
-use lalrpop_modes::{Action, ModeLexer};
+use lalrpop_rules::{Action, RuleLexer};
 use std::alloc::{AllocError, Global};
 
 // How many numbers there are at most, so that each place fits 32 bits.
@@ -53,7 +53,7 @@ fn push_actions(numbers: &mut Vec<u32>, actions: &[Action]) -> Result<(), AllocE
 /// # Errors
 ///
 /// `TooManyActions` if a place doesn't fit 32 bits, `OutOfMemory` if a request for memory was refused.
-pub(crate) fn action_lists(alloc: Global, rules: &ModeLexer) -> Result<ActionLists, EmitError>
+pub(crate) fn action_lists(alloc: Global, rules: &RuleLexer) -> Result<ActionLists, EmitError>
     requires modes { rules.now.modes ≤ 2 ^ 16 }
     ensures first { IfOk result (λ lists.
         lists.first_places.items ≡ first_places 0 (actions_of_rules rules.now)) }

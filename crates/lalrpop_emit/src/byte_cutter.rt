@@ -1,7 +1,7 @@
 //! A cut of a text of bytes that goes on, a piece at a time.
 ghost use Rattle.std.specs.Prelude.{◌≡◌, ◌<◌, ◌≤◌, ℕ, List, length, IfOk, IfErr, OnOk, IfSome};
-ghost use Rattle.lalrpop_modes.specs.Modes.{ModeRules};
-ghost use Rattle.lalrpop_modes.specs.Stack.{start};
+ghost use Rattle.lalrpop_rules.specs.Modes.{ModeRules};
+ghost use Rattle.bajofeki_rules.specs.Stack.{start};
 ghost use Rattle.lalrpop_emit.specs.ByteCut.{GivesBytePiece, IsCutOf, IsTooDeep, place_of, stack_in};
 ghost use Rattle.lalrpop_emit.specs.NumberedRules.{AreNumbersOf};
 

@@ -1,6 +1,6 @@
 //! The pieces of a text of bytes.
 ghost use Rattle.std.specs.Prelude.{IfOk};
-ghost use Rattle.lalrpop_modes.specs.Modes.{ModeRules};
+ghost use Rattle.lalrpop_rules.specs.Modes.{ModeRules};
 ghost use Rattle.lalrpop_emit.specs.BytePieces.{AreBytePieces};
 ghost use Rattle.lalrpop_emit.specs.NumberedRules.{AreNumbersOf};
 

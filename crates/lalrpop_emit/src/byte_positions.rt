@@ -1,7 +1,7 @@
 //! Places in a text of bytes, as line and column.
 ghost use Rattle.std.specs.Prelude.{◌≡◌, min, length};
 ghost use Rattle.std.specs.Str.{IsUtf8, IsCharBoundary};
-ghost use Rattle.lalrpop_lexer.specs.Position.{position_of};
+ghost use Rattle.bajofeki_rules.specs.Position.{position_of};
 ghost use Rattle.lalrpop_emit.specs.BytePositions.{byte_position_of};
 
 use crate::driver::move_on;

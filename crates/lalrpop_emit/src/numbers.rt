@@ -2,8 +2,8 @@
 ghost use Rattle.std.specs.Prelude.{◌≡◌, ◌<◌, ◌^◌, Bool, IsTrue, List, length, map, take, string_bytes, IfOk, IfErr, OnOk};
 ghost use Rattle.std.specs.List.{All};
 ghost use Rattle.lalrpop_rules.specs.declared.item.Item.{Item};
-ghost use Rattle.lalrpop_modes.specs.Modes.{ModeRules, ArePiecesFrom};
-ghost use Rattle.lalrpop_modes.specs.Stack.{Stack, start};
+ghost use Rattle.lalrpop_rules.specs.Modes.{ModeRules, ArePiecesFrom};
+ghost use Rattle.bajofeki_rules.specs.Stack.{Stack, start};
 ghost use Rattle.lalrpop_emit.specs.BytePieces.{AreBytePieces, numbered};
 ghost use Rattle.lalrpop_emit.specs.EmitErrors.{IsNumbersError};
 ghost use Rattle.lalrpop_emit.specs.Names.{IsName};
@@ -17,7 +17,7 @@ use crate::byte_pieces::{BytePieces, all_pieces};
 use crate::error::EmitError;
 use crate::naming::{distinct_names, first_bad_name, kind_list};
 use crate::table_lists::{TableLists, mode_tables};
-use lalrpop_modes::ModeLexer;
+use lalrpop_rules::RuleLexer;
 use std::alloc::{AllocError, Global};
 use std::marker::Model;
 
@@ -86,7 +86,7 @@ impl LexerNumbers {
     ///
     /// There are no rules, or 65,536 rules or modes or more; more or fewer skips than names; a name that isn't made of ASCII
     /// letters, digits and `_`; a pattern without a name; a mode whose automaton has no table; too many actions; or out of memory.
-    pub fn new(alloc: Global, rules: &ModeLexer) -> Result<LexerNumbers, EmitError>
+    pub fn new(alloc: Global, rules: &RuleLexer) -> Result<LexerNumbers, EmitError>
         ensures numbers { IfOk result (AreNumbersOf rules.now) }
         ensures storable { IfOk result IsStorable }
         ensures as_many { OnOk result (length rules.now.skips ≡ length rules.now.names) }
@@ -192,7 +192,7 @@ impl LexerNumbers {
 }
 
 // There are rules, not too many, each with a skip and a name that can be part of an identifier, and modes, not too many.
-fn check_rules(rules: &ModeLexer) -> Result<(), EmitError>
+fn check_rules(rules: &RuleLexer) -> Result<(), EmitError>
     ensures few { OnOk result (length rules.now.names < 2 ^ 16) }
     ensures modes { OnOk result ((0 < rules.now.modes) × (rules.now.modes < 2 ^ 16)) }
     ensures names { OnOk result (All IsName rules.now.names) }

@@ -9,7 +9,7 @@ use crate::class_order::in_class_order;
 use crate::error::EmitError;
 use crate::patterns::unnamed_pattern;
 use lalrpop_dense::{DenseTable, TableCells};
-use lalrpop_modes::ModeLexer;
+use lalrpop_rules::RuleLexer;
 use std::alloc::{AllocError, Global};
 
 /// The numbers of a table, all of 32 bits: see `DenseTable`.
@@ -73,7 +73,7 @@ fn table_lists(alloc: Global, table: &DenseTable<'_>) -> Result<TableLists, Allo
 }
 
 // The numbers of the table of a mode, if each rule that it accepts has a name.
-fn mode_table(alloc: Global, rules: &ModeLexer, mode: usize) -> Result<TableLists, EmitError>
+fn mode_table(alloc: Global, rules: &RuleLexer, mode: usize) -> Result<TableLists, EmitError>
     requires there { mode < rules.now.modes }
     ensures table { IfOk result (λ lists. IsModeTable rules.now mode (list_numbers lists)) }
     ensures error { IfErr result (IsNumbersError rules.now) }
@@ -94,7 +94,7 @@ fn mode_table(alloc: Global, rules: &ModeLexer, mode: usize) -> Result<TableList
 ///
 /// `NoName` if an automaton accepts a pattern that has no name, `NoTable` if one has no table, `OutOfMemory` if a request for
 /// memory was refused.
-pub(crate) fn mode_tables(alloc: Global, rules: &ModeLexer) -> Result<Vec<TableLists>, EmitError>
+pub(crate) fn mode_tables(alloc: Global, rules: &RuleLexer) -> Result<Vec<TableLists>, EmitError>
     ensures modes { IfOk result (λ tables. length tables.items ≡ rules.now.modes) }
     ensures tables { IfOk result (λ tables.
         AreModeTables rules.now (map list_numbers tables.items)) }

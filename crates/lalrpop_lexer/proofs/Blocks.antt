@@ -17,7 +17,7 @@ use Rattle.lalrpop_lexer.specs.Internal.Memory.{Memory}
 use Rattle.lalrpop_lexer.specs.Internal.Standing.{IsReached, spare_of}
 use Rattle.lalrpop_lexer.specs.Internal.Blocks.{Rest, bytes_of, chars_from, IsSettled, prepaid_of, IsNextMatch, IsPrepaid, IsPaidFor}
 use Rattle.lalrpop_lexer.proofs.Standings.{chars_behind, count_between}
-use Rattle.lalrpop_lexer.proofs.Places.{few_chars}
+use Rattle.bajofeki_rules.proofs.Places.{few_chars}
 use Rattle.lalrpop_lexer.proofs.Cuttings.{some_char}
 
 -- a text begins with its first character

@@ -3,12 +3,9 @@ mod Cutting
 mod LexerTokens
 mod TokenList
 mod LeadingTokens
-mod Position
-mod Quoted
 mod Rules
 mod LexerErrors
 mod Spelled
-mod Lines
 pub mod Line
 pub mod Terminals
 pub mod Matching

@@ -6,18 +6,10 @@ pub mod TokenLists
 pub mod Costs
 pub mod Founds
 pub mod LexerCosts
-pub mod Places
-pub mod InLine
 -- what lines say
-pub mod LineLemmas
 pub mod LineParts
 pub mod TerminalLemmas
 pub mod TerminalLaws
--- the characters of a quoted form
-mod Unseen
-pub mod Quotes
-pub mod QuotedRuns
-pub mod ByteRuns
 -- texts and their trees
 pub mod SpelledTexts
 -- what the definitions mean: the clash, the list of clashes and the longest match are unique
@@ -32,9 +24,9 @@ pub use Rattle.lalrpop_build.proofs.Agreeing
 pub use Rattle.lalrpop_build.proofs.AfterLaws
 pub use Rattle.lalrpop_dfa.proofs.Recognized
 pub use Rattle.lalrpop_dfa.proofs.WitnessLaws
--- how many characters a text has, and the place behind it
-pub mod StartLaws
-pub mod PlaceLaws
+-- how many characters a text has, and the place after it
+pub use Rattle.bajofeki_rules.proofs.StartLaws
+pub use Rattle.bajofeki_rules.proofs.PlaceLaws
 -- states from which no match comes, and what a run knows of those that are noted
 pub mod Hopes
 pub mod Kept

@@ -11,7 +11,7 @@ use Rattle.lalrpop_dfa.specs.Dfa.{Row}
 use Rattle.lalrpop_lexer.specs.Internal.Memory.{Memory, IsFor, IsNoted, room}
 use Rattle.lalrpop_lexer.specs.Internal.Hopeless.{IsHopeless, IsSound}
 use Rattle.lalrpop_lexer.specs.Internal.Standing.{IsStanding, IsReached, spare_of}
-use Rattle.lalrpop_lexer.proofs.Places.{few_chars}
+use Rattle.bajofeki_rules.proofs.Places.{few_chars}
 
 pub standing_start : (d : List Row) (text : List ℕ) (m : Memory) → IsUtf8 text → length text < 2 ^ 63 → m.places ≡ length text / 64 + 1 → IsFor d m → ((p k : ℕ) → ¬ IsNoted m p k) → IsStanding d text 0 0 m
 standing_start d text m u small places fits none = record {

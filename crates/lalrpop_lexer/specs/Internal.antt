@@ -1,9 +1,6 @@
-pub mod Places
-pub mod ByteRuns
 pub mod Code
 -- matches that are found ahead
 pub mod Blocks
-pub mod Starts
 pub mod Finding
 -- matches in linear time
 pub mod Memory

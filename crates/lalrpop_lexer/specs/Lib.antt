@@ -3,12 +3,12 @@ pub mod Cutting
 pub mod LexerTokens
 pub mod TokenList
 pub mod LeadingTokens
-pub mod Position
-pub mod Quoted
+pub use Rattle.bajofeki_rules.specs.Position
+pub use Rattle.bajofeki_rules.specs.Quoted
 pub mod Rules
 pub mod LexerErrors
 pub mod Spelled
-pub mod Lines
+pub use Rattle.bajofeki_rules.specs.Lines
 pub mod Line
 pub mod Terminals
 pub mod SameTokens

@@ -11,13 +11,6 @@ use Rattle.lalrpop_lexer.specs.declared.form.Form.TheVariants as forms
 use Rattle.lalrpop_lexer.specs.declared.terminal_line.TerminalLine.{TerminalLine}
 use Rattle.lalrpop_lexer.specs.declared.terminal_line.TerminalLine.TheVariants.{Bad, NoTree, Terminal}
 
--- 1 to 20 decimal digits whose value is n, which fits 64 bits
-pub record IsPrecedence (digits : List ℕ) (n : ℕ) : Type 0 where
-  pub numeral : IsNumeral 10 digits
-  pub short : length digits ≤ 20
-  pub value : n ≡ digits_value 10 digits
-  pub fits : n ≤ 18446744073709551615
-
 -- the letter of a form
 abbrev pub letter : Form → List ℕ
 letter forms.Literal = codes "l"

@@ -2,7 +2,7 @@
 -- What the lines of a list say.
 use Rattle.std.specs.Prelude.{ℕ, zero, suc, List, [], ◌∷◌, map}
 use Rattle.lalrpop_hir.specs.Tree.{Tree}
-use Rattle.lalrpop_lexer.specs.Lines.{lines}
+use Rattle.bajofeki_rules.specs.Lines.{lines}
 use Rattle.lalrpop_lexer.specs.Line.{LineSays}
 use Rattle.lalrpop_lexer.specs.declared.terminal_line.TerminalLine.{TerminalLine}
 use Rattle.lalrpop_lexer.specs.declared.terminal_line.TerminalLine.TheVariants as meaning

@@ -2,29 +2,9 @@
 
 ghost use Rattle.std.specs.Prelude.{◌≡◌, ◌+◌, length};
 ghost use Rattle.std.specs.Str.{chars};
-ghost use Rattle.lalrpop_lexer.specs.Internal.Starts.{is_start};
 
+use bajofeki_rules::char_count;
 use lalrpop_nfa::Steps;
-
-/// Whether a character begins with the byte.
-#[inline(always)]
-pub(crate) fn is_start(byte: u8) -> bool
-    ensures { result ≡ is_start byte }
-{
-    !(128..=191).contains(&byte)
-}
-
-/// How many characters the text has.
-#[inline(always)]
-pub(crate) fn char_count(text: &str) -> usize
-    ensures count { result ≡ length (chars text.now) }
-{
-    let mut count = 0usize;
-    for byte in text.as_bytes() {
-        count += is_start(*byte) as usize;
-    }
-    count
-}
 
 /// Counts so many steps. The compiler leaves nothing of the loop.
 #[inline(always)]

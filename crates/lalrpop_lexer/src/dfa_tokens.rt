@@ -2,9 +2,9 @@
 
 ghost use Rattle.std.specs.Prelude.{◌≡◌};
 
-use lalrpop_hir::{NfaIndex, TokenFault};
 use lalrpop_dfa::Dfa;
 use lalrpop_dfa::interpret::interpret;
+use lalrpop_hir::{NfaIndex, TokenFault};
 use std::iter::FusedIterator;
 use std::marker::Model;
 

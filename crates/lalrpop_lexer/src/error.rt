@@ -3,7 +3,7 @@ ghost use Rattle.std.specs.Prelude.{◌≡◌};
 ghost use Rattle.lalrpop_lexer.specs.LexerErrors.{of_regex, of_construction};
 ghost use Rattle.lalrpop_lexer.specs.declared.error.LexerError.TheVariants.{OutOfMemory};
 
-use crate::quote::ShownWord;
+use bajofeki_rules::ShownWord;
 use lalrpop_build::DfaConstructionError;
 use lalrpop_nfa::NfaConstructionError;
 use lalrpop_re::{RegexError, SyntaxKind};

@@ -4,8 +4,8 @@ ghost use Rattle.std.specs.Prelude.{◌≡◌};
 
 use crate::linear_matches::LinearMatches;
 use crate::matches::Matches;
-use lalrpop_hir::{Token, TokenFault};
 use lalrpop_dense::DenseDfa;
+use lalrpop_hir::{Token, TokenFault};
 use lalrpop_nfa::Steps;
 use std::fmt;
 use std::iter::FusedIterator;

@@ -21,30 +21,28 @@ mod longest;
 mod matches;
 mod neighbours;
 mod patterns;
-mod position;
-mod quote;
 mod remembering;
-mod runs;
 mod terminal_line;
 mod terminals;
 mod token_list;
 mod visited_pairs;
 
+pub use bajofeki_rules::{
+    Position, Positions, ShownWord, is_unseen, push_escaped_char, push_quoted, quoted,
+};
 pub use cut::tokens;
 pub use dfa_tokens::Tokens;
 pub use end_list::EndList;
 pub use error::LexerError;
 pub use form::Form;
 pub use join_error::JoinError;
-pub use lalrpop_hir::{Token, TokenFault};
 pub use lalrpop_dfa::kernel_set;
+pub use lalrpop_hir::{Token, TokenFault};
 pub use lexer::Lexer;
 pub use lexer_tokens::LexerTokens;
 pub use linear_matches::LinearMatches;
 pub use longest::longest_match;
 pub use matches::Matches;
 pub use neighbours::Neighbours;
-pub use position::{Position, Positions};
-pub use quote::{ShownWord, is_unseen, push_escaped_char, push_quoted, quoted};
 pub use terminals::{Terminals, read_terminals};
 pub use token_list::{ListedTokens, TokenList};

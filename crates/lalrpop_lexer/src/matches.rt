@@ -1,7 +1,7 @@
 //! The longest matches of a text, one after another, without a memo.
 
 use crate::ahead::{Ahead, LEAST};
-use crate::counting::char_count;
+use bajofeki_rules::char_count;
 use lalrpop_dense::DenseDfa;
 use lalrpop_dfa::NfaIndex;
 use lalrpop_nfa::Steps;

@@ -5,9 +5,9 @@ ghost use Rattle.lalrpop_lexer.specs.Internal.RunningOn.{AreRunningOn};
 
 use crate::join_error::JoinError;
 use crate::lexer::Lexer;
-use lalrpop_hir::{NfaIndex, Token};
 use lalrpop_dfa::Dfa;
 use lalrpop_dfa::follow::running_on;
+use lalrpop_hir::{NfaIndex, Token};
 use std::alloc::{AllocError, Global};
 use std::marker::Model;
 

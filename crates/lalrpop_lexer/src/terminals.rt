@@ -2,8 +2,8 @@
 ghost use Rattle.std.specs.Prelude.{IfOk};
 ghost use Rattle.lalrpop_lexer.specs.Terminals.{AreSaid};
 
-use crate::line::split_line;
 use crate::terminal_line::{TerminalLine, parse_terminal};
+use bajofeki_rules::split_line;
 use lalrpop_build::Precedence;
 use lalrpop_re::Regex;
 use std::alloc::{AllocError, Global};

@@ -13,8 +13,8 @@ ghost use Rattle.lalrpop_dfa.specs.Dfa.{Recognizes};
 ghost use Rattle.lalrpop_lexer.specs.TokenList.{AreCuts, AreTokenEnds, GivesListed, Listing, fault_items};
 
 use crate::end_list::{EndList, EndsLeft};
-use lalrpop_hir::{Token, TokenFault};
 use lalrpop_dense::{DenseDfa, TokenEnd, TokenEnds};
+use lalrpop_hir::{Token, TokenFault};
 use lalrpop_nfa::Steps;
 use std::alloc::{AllocError, Global};
 use std::iter::FusedIterator;

@@ -10,7 +10,7 @@ ghost use Rattle.lalrpop_markup.specs.Places.{EachBegins};
 
 use crate::runs::{Shows, push_shown};
 use lalrpop_lexer::lexer::dfa::NfaIndex;
-use lalrpop_rules::{Item, RuleLexer};
+use lalrpop_rules::{Item, OldRuleLexer};
 use std::alloc::{AllocError, Global};
 use std::marker::Model;
 
@@ -254,7 +254,7 @@ impl<'rules> Painter<'rules> {
 /// # Errors
 ///
 /// `AllocError` if a request for memory was refused.
-pub fn ansi(alloc: Global, lexer: &RuleLexer, text: &str) -> Result<String, AllocError>
+pub fn ansi(alloc: Global, lexer: &OldRuleLexer, text: &str) -> Result<String, AllocError>
     ensures pieces { IfOk result (λ page. (xs : List ItemValue)
         × (ArePieces lexer.now.trees lexer.now.precedences lexer.now.skips text.now 0 xs
         × (string_bytes page ≡ flat_map (painted lexer.now.names) xs))) }

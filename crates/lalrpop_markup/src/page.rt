@@ -7,7 +7,7 @@ ghost use Rattle.lalrpop_markup.specs.Places.{EachBegins, EachEnds};
 
 use crate::runs::{Shows, push_shown};
 use lalrpop_lexer::lexer::dfa::NfaIndex;
-use lalrpop_rules::{Item, RuleLexer};
+use lalrpop_rules::{Item, OldRuleLexer};
 use std::alloc::{AllocError, Global};
 
 // The entity of a character that has a meaning in HTML, or that a reader of HTML doesn't keep: the carriage return.
@@ -115,7 +115,7 @@ pub fn push_html(page: &mut String, names: &[String], item: &Item) -> Result<(),
 /// # Errors
 ///
 /// `AllocError` if a request for memory was refused.
-pub fn html(alloc: Global, lexer: &RuleLexer, text: &str) -> Result<String, AllocError>
+pub fn html(alloc: Global, lexer: &OldRuleLexer, text: &str) -> Result<String, AllocError>
     ensures pieces { IfOk result (λ page. (xs : List ItemValue)
         × (ArePieces lexer.now.trees lexer.now.precedences lexer.now.skips text.now 0 xs
         × (string_bytes page ≡ flat_map (marked lexer.now.names) xs))) }

@@ -195,6 +195,7 @@ pub trait EdgeLabel: Sized {
     ghost use Rattle.std.specs.Prelude.{Some, None};
     ghost use Rattle.lalrpop_nfa.specs.declared.edge.Edge.{Edge};
     ghost use Rattle.lalrpop_nfa.specs.declared.edge.State.{State};
+    ghost use Rattle.lalrpop_nfa.specs.Graph.{Lists};
     ghost use Rattle.lalrpop_nfa.specs.Firsts.{LabelKind, SameListsBut, index_of, with_index};
     ghost use Rattle.lalrpop_nfa.specs.Contiguous.{IsContiguous, AreContiguous};
     ghost use Rattle.lalrpop_nfa.specs.Lending.{LendsList, LendsFirst};

@@ -11,8 +11,8 @@ ghost use Rattle.lalrpop_re.specs.Internal.Views.{text, unread, Finds, HasMember
 ghost use Rattle.lalrpop_re.specs.Internal.Items.{Gains};
 
 use crate::cursor::{Cursor, error_at};
-use crate::escape_sequence::{EscapedPart, parse_escape};
 use crate::error::{RegexError, SyntaxKind};
+use crate::escape_sequence::{EscapedPart, parse_escape};
 use crate::flags::Flags;
 use crate::posix::posix_class;
 use crate::sets::{leaf_of_range, leaf_of_set};

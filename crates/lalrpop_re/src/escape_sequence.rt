@@ -9,9 +9,9 @@ ghost use Rattle.lalrpop_re.specs.Internal.Views.{text, unread, Gives, Finds, St
 ghost use Rattle.lalrpop_re.specs.CharacterSet.{HasRuns};
 
 use crate::cursor::{Cursor, error_at};
-use crate::number::number_of;
 use crate::error::{RegexError, SyntaxKind};
 use crate::named::named_set;
+use crate::number::number_of;
 use lalrpop_hir::{ClassUnicode, Look};
 use std::alloc::{AllocError, Global};
 

@@ -9,10 +9,10 @@ ghost use Rattle.lalrpop_re.specs.Internal.Reading.{span, count, braces, bounds,
 ghost use Rattle.lalrpop_re.specs.Internal.Views.{text, unread, Gives};
 
 use crate::cursor::{Cursor, error_at};
+use crate::error::{RegexError, SyntaxKind};
 use crate::number::number_of;
 use crate::opening::after_first;
 use crate::part::{Part, is_name_in_braces, part_after};
-use crate::error::{RegexError, SyntaxKind};
 use unicode::properties::is_white_space;
 
 /// How often a piece is repeated, and whether more repetitions are preferred.

@@ -15,13 +15,13 @@ ghost use Rattle.lalrpop_re.specs.Internal.Parts.{group_or_directive, step, esca
 
 use crate::bracket::{BracketSet, parse_bracket};
 use crate::cursor::{Cursor, error_at};
+use crate::error::{RegexError, SyntaxKind};
 use crate::escape_sequence::{EscapedPart, parse_escape};
+use crate::flags::Flags;
+use crate::names::repeated_name;
 use crate::opening::{GroupOpening, after_first, parse_opening};
 use crate::operator::{RepetitionOperator, is_at_operator, is_at_unknown, parse_operator_at};
 use crate::part::{Part, part_after};
-use crate::error::{RegexError, SyntaxKind};
-use crate::flags::Flags;
-use crate::names::repeated_name;
 use crate::sets::{leaf_of_set, tree_of_character, tree_of_class, tree_of_dot};
 use lalrpop_hir::{Capture, Hir, Look, Regex, Repetition};
 use std::alloc::{AllocError, Global};

@@ -8,10 +8,10 @@ ghost use Rattle.lalrpop_re.specs.Internal.Reading.{part_after};
 ghost use Rattle.lalrpop_re.specs.Refusal.{MakesNoPart, PointsInto};
 
 use crate::cursor::error_at;
-use crate::opening::split_before;
-use crate::parser::{Nested, parse_in_bytes};
 use crate::error::{RegexError, SyntaxKind};
 use crate::names::count_names;
+use crate::opening::split_before;
+use crate::parser::{Nested, parse_in_bytes};
 use lalrpop_hir::Regex;
 use std::alloc::{AllocError, Global};
 use std::marker::Model;

@@ -4,8 +4,8 @@ ghost use Rattle.lalrpop_re.specs.CharacterSet.{Set, range, set_tree, HasRuns};
 ghost use Rattle.lalrpop_re.specs.Bracket.{leaf, leaf_or_complement};
 ghost use Rattle.lalrpop_re.specs.Pattern.{literal_tree, dot_tree, is_one_member};
 
-use crate::flags::Flags;
 use crate::characters::range_class;
+use crate::flags::Flags;
 use crate::folding::fold;
 use lalrpop_hir::{Class, ClassUnicode, Hir};
 use std::alloc::{AllocError, Global};

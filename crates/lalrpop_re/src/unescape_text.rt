@@ -8,9 +8,9 @@ ghost use Rattle.lalrpop_re.specs.Internal.Characters.{character_at};
 
 use crate::bracket::{Primary, parse_primary};
 use crate::cursor::{Cursor, error_at};
+use crate::error::{RegexError, SyntaxKind};
 use crate::escape_sequence::EscapedPart;
 use crate::parser::byte_offset;
-use crate::error::{RegexError, SyntaxKind};
 use std::alloc::Global;
 
 /// The text that `s` says: each escape stands for its character, as `\n`, `\\`, `\"`, `\x41` and `\u{41}` do in a pattern,

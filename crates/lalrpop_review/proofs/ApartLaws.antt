@@ -10,7 +10,7 @@ use Rattle.lalrpop_dfa.specs.Witness.{IsLeast}
 use Rattle.lalrpop_dfa.specs.declared.Kind.{Kind}
 use Rattle.lalrpop_dfa.specs.declared.Kind.TheVariants.{Accepts, Reject, Neither}
 use Rattle.lalrpop_lexer.specs.Rules.{IsBuiltFrom}
-use Rattle.lalrpop_modes.specs.Modes.{ModeRules, kinds_of, mode_rules, trees_in}
+use Rattle.lalrpop_rules.specs.Modes.{ModeRules, kinds_of, mode_rules, trees_in}
 use Rattle.lalrpop_rules.specs.Kinds.{merged_behind}
 use Rattle.lalrpop_verdicts.specs.Answers.{accepted_by, accepted_at, answer}
 use Rattle.lalrpop_verdicts.specs.Differences.{Answers, label_of, TellsApart as LabelsDiffer}

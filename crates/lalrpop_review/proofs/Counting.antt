@@ -4,7 +4,8 @@ use Rattle.std.specs.Prelude.{Some, slice_get}
 use Rattle.std.proofs.lemmas.Bool.{cases_eq}
 use Rattle.std.proofs.lemmas.List.{get_or-replicate, length-replicate}
 use Rattle.std.proofs.lemmas.Option.{get_or_from_slice_get, same_Some, slice_get-get_or, slice_get_within}
-use Rattle.lalrpop_modes.specs.Modes.{ModeRules, Belongs}
+use Rattle.lalrpop_rules.specs.Modes.{ModeRules}
+use Rattle.bajofeki_rules.specs.EnteredModes.{Belongs}
 use Rattle.lalrpop_review.specs.Internal.Kinds.{IsCount, IsMember}
 
 -- by kind, how many of the rules below n are of the kind and belong to the mode

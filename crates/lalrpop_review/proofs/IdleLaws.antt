@@ -8,7 +8,8 @@ use Rattle.lalrpop_hir.specs.Language.{Matches, Words}
 use Rattle.lalrpop_hir.specs.Tree.{Tree}
 use Rattle.lalrpop_hir.proofs.Contained.{contains_none}
 use Rattle.lalrpop_hir.proofs.Pushed.{pushed_cases}
-use Rattle.lalrpop_modes.specs.Modes.{ModeRules, Belongs, trees_in}
+use Rattle.lalrpop_rules.specs.Modes.{ModeRules, trees_in}
+use Rattle.bajofeki_rules.specs.EnteredModes.{Belongs}
 use Rattle.lalrpop_verdicts.specs.WonWord.{WonWord}
 use Rattle.lalrpop_verdicts.specs.Verdicts.{AreWinners, IsVerdict, IsWonBy, words_of}
 use Rattle.lalrpop_verdicts.specs.declared.verdict.Verdict.TheVariants.{Unmatched}

@@ -4,7 +4,7 @@ use Rattle.std.specs.Prelude.{Some, slice_get, option_map}
 use Rattle.std.proofs.lemmas.Bool.{cases_lt}
 use Rattle.std.proofs.lemmas.Option.{same_Some, slice_get-get_or, slice_get-map, slice_get_cases}
 use Rattle.lalrpop_hir.proofs.Pushed.{pushed_cases, pushed_last}
-use Rattle.lalrpop_modes.specs.Modes.{ModeRules}
+use Rattle.lalrpop_rules.specs.Modes.{ModeRules}
 use Rattle.lalrpop_review.specs.Apart.{Told, told}
 use Rattle.lalrpop_review.specs.Internal.Meanings.{meant, IsFirst, AreFirsts}
 use Rattle.lalrpop_review.specs.declared.apart.Meaning.{Meaning}

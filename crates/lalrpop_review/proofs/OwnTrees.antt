@@ -10,7 +10,8 @@ use Rattle.std.proofs.lemmas.Option.{same_Some, slice_get-map}
 use Rattle.lalrpop_hir.specs.Tree.{Tree}
 use Rattle.lalrpop_hir.proofs.Contained.{contains_cases, contains_later, contains_none}
 use Rattle.lalrpop_rules.specs.Kinds.{is_kind, trees_of_kind, one_tree, gathered, merged_behind}
-use Rattle.lalrpop_modes.specs.Modes.{ModeRules, Belongs, kinds_of, mode_rules, trees_in}
+use Rattle.lalrpop_rules.specs.Modes.{ModeRules, kinds_of, mode_rules, trees_in}
+use Rattle.bajofeki_rules.specs.EnteredModes.{Belongs}
 use Rattle.lalrpop_review.specs.Internal.Kinds.{IsMember}
 
 -- ---- among trees that are merged by kinds

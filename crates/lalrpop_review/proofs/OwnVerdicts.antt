@@ -5,7 +5,8 @@ use Rattle.std.specs.Option.{option_to_list}
 use Rattle.std.proofs.lemmas.Bool.{false≢true}
 use Rattle.std.proofs.lemmas.Option.{slice_get-get_or, slice_get_within}
 use Rattle.lalrpop_hir.specs.Tree.{empty}
-use Rattle.lalrpop_modes.specs.Modes.{ModeRules, Belongs, trees_in}
+use Rattle.lalrpop_rules.specs.Modes.{ModeRules, trees_in}
+use Rattle.bajofeki_rules.specs.EnteredModes.{Belongs}
 use Rattle.lalrpop_verdicts.specs.Verdicts.{IsVerdict}
 use Rattle.lalrpop_verdicts.specs.declared.verdict.Verdict.{Verdict}
 use Rattle.lalrpop_review.specs.Internal.Idle.{AreVerdictsFrom, IsOwnVerdict}

@@ -2,9 +2,9 @@
 -- Where two lists of rules with modes make different tokens of a text.
 use Rattle.std.specs.Prelude.{◌≢◌, ℕ, Bool, false, List, [], slice_get, unwrap_or, Option, Some, None}
 use Rattle.lalrpop_hir.specs.Winners.{Matched, IsOnlyStrongest}
-use Rattle.lalrpop_modes.specs.Modes.{ModeRules, trees_in}
-use Rattle.lalrpop_modes.specs.Stack.{actions_of}
-use Rattle.lalrpop_modes.specs.declared.action.Action.{Action}
+use Rattle.lalrpop_rules.specs.Modes.{ModeRules, trees_in}
+use Rattle.bajofeki_rules.specs.Stack.{actions_of}
+use Rattle.bajofeki_rules.specs.declared.action.Action.{Action}
 use Rattle.lalrpop_verdicts.specs.Answers.{IsTextWord}
 
 -- what a token is: the name of its rule, whether it is skipped, and what it does to the stack of modes

@@ -6,7 +6,8 @@ use Rattle.lalrpop_hir.specs.Winners.{Matched, TreeMatches, IsOnlyStrongest}
 use Rattle.lalrpop_dfa.specs.Dfa.{Row}
 use Rattle.lalrpop_dfa.specs.Lookahead.{IsLookahead, StaysOpenEver}
 use Rattle.lalrpop_dfa.specs.Witness.{OpenMatch, IsOpenMatch, IsWitness}
-use Rattle.lalrpop_modes.specs.Modes.{ModeRules, Belongs, trees_in}
+use Rattle.lalrpop_rules.specs.Modes.{ModeRules, trees_in}
+use Rattle.bajofeki_rules.specs.EnteredModes.{Belongs}
 use Rattle.lalrpop_verdicts.specs.Smallest.{IsLeastCount}
 use Rattle.lalrpop_verdicts.specs.Verdicts.{AreWinners, IsWonBy, words_of}
 use Rattle.lalrpop_review.specs.declared.idle.IdleRule.{IdleRule}

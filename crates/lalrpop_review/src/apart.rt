@@ -3,13 +3,13 @@ ghost use Rattle.std.specs.Prelude.{◌≡◌, ◌≢◌, ◌<◌, ◌++◌, ℕ
 ghost use Rattle.std.specs.Bool.{MatchBool};
 ghost use Rattle.lalrpop_dfa.specs.Dfa.{RecognizesAll};
 ghost use Rattle.lalrpop_dfa.specs.Witness.{IsLeast};
-ghost use Rattle.lalrpop_modes.specs.Modes.{trees_in};
+ghost use Rattle.lalrpop_rules.specs.Modes.{trees_in};
 ghost use Rattle.lalrpop_review.specs.Apart.{IsTokenIn, TellsApart, Told, told};
 ghost use Rattle.lalrpop_review.specs.Internal.Meanings.{AreFirsts, AreTold, IsFirst, meant};
 
 use lalrpop_dfa::Dfa;
 use lalrpop_lexer::lexer::dfa::NfaIndex;
-use lalrpop_modes::{Action, ModeLexer};
+use lalrpop_rules::{Action, RuleLexer};
 use lalrpop_verdicts::{Difference, least_difference};
 use std::alloc::{AllocError, Global};
 
@@ -22,7 +22,7 @@ struct Meaning<'lexer> {
 }
 
 // What a token of the rule with this index is.
-fn meaning_of(lexer: &ModeLexer, index: usize) -> Meaning<'_>
+fn meaning_of(lexer: &RuleLexer, index: usize) -> Meaning<'_>
     ensures { Some (meant result) ≡ told lexer.now (Some index) }
 {
     let rule = NfaIndex::new(index);
@@ -34,7 +34,7 @@ fn meaning_of(lexer: &ModeLexer, index: usize) -> Meaning<'_>
 }
 
 // What a token of each rule is, in order.
-fn meanings(alloc: Global, lexer: &ModeLexer) -> Result<Vec<Meaning<'_>>, AllocError>
+fn meanings(alloc: Global, lexer: &RuleLexer) -> Result<Vec<Meaning<'_>>, AllocError>
     ensures { IfOk result (λ all. AreTold lexer.now (map meant all.items)) }
 {
     let mut all = Vec::new(alloc);
@@ -79,8 +79,8 @@ fn first_places(alloc: Global, all: &[Meaning]) -> Result<Vec<usize>, AllocError
 // What the tokens of the left lexer are, and then those of the right one.
 fn all_meanings<'lexers>(
     alloc: Global,
-    left: &'lexers ModeLexer,
-    right: &'lexers ModeLexer,
+    left: &'lexers RuleLexer,
+    right: &'lexers RuleLexer,
 ) -> Result<Vec<Meaning<'lexers>>, AllocError>
     ensures { IfOk result (λ all. (ts us : List Told) × (AreTold left.now ts
         × AreTold right.now us × (map meant all.items ≡ ts ++ us))) }
@@ -92,7 +92,7 @@ fn all_meanings<'lexers>(
 }
 
 // The automaton of a mode.
-fn automaton(lexer: &ModeLexer, mode: usize) -> &Dfa
+fn automaton(lexer: &RuleLexer, mode: usize) -> &Dfa
     requires there { mode < lexer.now.modes }
     ensures recognizes { RecognizesAll result.now (trees_in lexer.now mode) lexer.now.precedences }
 {
@@ -110,14 +110,14 @@ fn automaton(lexer: &ModeLexer, mode: usize) -> &Dfa
 /// compared with those before it, up to the first that makes the same tokens.
 ///
 /// ```
-/// use lalrpop_modes::{ModeLexer, ModeRule};
+/// use lalrpop_rules::{RuleLexer, ModeRule};
 /// use lalrpop_review::difference_in;
 /// use lalrpop_rules::Rule;
 ///
 /// let names = [ModeRule { rule: Rule::pattern("NAME", "[a-z]+"), modes: &[0], actions: &[] }];
 /// let numbers = [ModeRule { rule: Rule::pattern("NAME", "[0-9]+"), modes: &[0], actions: &[] }];
-/// let old = ModeLexer::from_rules(alloc, &names, 1)?;
-/// let new = ModeLexer::from_rules(alloc, &numbers, 1)?;
+/// let old = RuleLexer::from_rules(alloc, &names, 1)?;
+/// let new = RuleLexer::from_rules(alloc, &numbers, 1)?;
 /// if let Some(found) = difference_in(alloc, &old, &new, 0)? {
 ///     let word = &found.word; // "0": no token of the old lexer, and a NAME of the new one
 /// }
@@ -128,8 +128,8 @@ fn automaton(lexer: &ModeLexer, mode: usize) -> &Dfa
 /// `AllocError` if a request for memory was refused.
 pub fn difference_in(
     alloc: Global,
-    left: &ModeLexer,
-    right: &ModeLexer,
+    left: &RuleLexer,
+    right: &RuleLexer,
     mode: usize,
 ) -> Result<Option<Difference>, AllocError>
     requires left_there { mode < left.now.modes }

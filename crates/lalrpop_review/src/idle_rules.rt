@@ -1,7 +1,8 @@
 //! The rules of a mode that never win there.
 ghost use Rattle.std.specs.Prelude.{◌≡◌, ◌<◌, ◌↔◌, ℕ, List, Option, Some, length, slice_get, IfOk, IfSome, IsSomeAnd, IsTrue};
 ghost use Rattle.lalrpop_hir.specs.Tree.{Tree};
-ghost use Rattle.lalrpop_modes.specs.Modes.{Belongs, ModeRules, trees_in};
+ghost use Rattle.lalrpop_rules.specs.Modes.{ModeRules, trees_in};
+ghost use Rattle.bajofeki_rules.specs.EnteredModes.{Belongs};
 ghost use Rattle.lalrpop_verdicts.specs.Verdicts.{IsVerdict, words_of};
 ghost use Rattle.lalrpop_verdicts.specs.declared.verdict.Verdict.{Verdict as VerdictValue};
 ghost use Rattle.lalrpop_review.specs.Review.{AreIdle};
@@ -10,12 +11,12 @@ ghost use Rattle.lalrpop_review.specs.Internal.Idle.{AreOfOtherKinds, AreTold, A
 use crate::idle::IdleRule;
 use crate::kind_counts::{belongs, kind_counts};
 use lalrpop_lexer::lexer::dfa::NfaIndex;
-use lalrpop_modes::ModeLexer;
+use lalrpop_rules::RuleLexer;
 use lalrpop_verdicts::{Verdict, WonWord, verdicts, winners};
 use std::alloc::{AllocError, Global};
 
 // The verdict on each tree of the mode.
-fn mode_verdicts(alloc: Global, lexer: &ModeLexer, mode: usize) -> Result<Vec<Verdict>, AllocError>
+fn mode_verdicts(alloc: Global, lexer: &RuleLexer, mode: usize) -> Result<Vec<Verdict>, AllocError>
     requires there { mode < lexer.now.modes }
     ensures each { IfOk result (λ found. (i : ℕ) (v : VerdictValue)
         → slice_get found.items i ≡ Some v
@@ -32,7 +33,7 @@ fn mode_verdicts(alloc: Global, lexer: &ModeLexer, mode: usize) -> Result<Vec<Ve
 // The rules that win words of any rule in the mode, found by a walk of its own.
 fn walked_winners(
     alloc: Global,
-    lexer: &ModeLexer,
+    lexer: &RuleLexer,
     mode: usize,
     index: usize,
 ) -> Result<Vec<WonWord>, AllocError>
@@ -83,7 +84,7 @@ fn own_verdict(
 // tree in the mode, if that tree is the rule's own.
 fn rule_winners(
     alloc: Global,
-    lexer: &ModeLexer,
+    lexer: &RuleLexer,
     mode: usize,
     index: usize,
     own: Option<Verdict>,
@@ -147,7 +148,7 @@ fn idle_rule(kinds: &[usize], index: usize, told: Option<Vec<WonWord>>) -> Optio
 // The same for any rule: none is told if it doesn't belong to the mode.
 fn idle_at(
     alloc: Global,
-    lexer: &ModeLexer,
+    lexer: &RuleLexer,
     mode: usize,
     index: usize,
     own: Option<Verdict>,
@@ -168,7 +169,7 @@ fn idle_at(
 /// The rules that belong to the mode and never win there, ascending.
 pub(crate) fn idle_rules(
     alloc: Global,
-    lexer: &ModeLexer,
+    lexer: &RuleLexer,
     mode: usize,
 ) -> Result<Vec<IdleRule>, AllocError>
     requires there { mode < lexer.now.modes }

@@ -1,15 +1,15 @@
 //! How many rules of a mode there are of each kind.
 ghost use Rattle.std.specs.Prelude.{◌≡◌, ℕ, Some, length, slice_get, IfOk};
 ghost use Rattle.std.specs.Bool.{MatchBool};
-ghost use Rattle.lalrpop_modes.specs.Modes.{Belongs};
+ghost use Rattle.bajofeki_rules.specs.EnteredModes.{Belongs};
 ghost use Rattle.lalrpop_review.specs.Internal.Kinds.{IsCount};
 
 use lalrpop_lexer::lexer::dfa::NfaIndex;
-use lalrpop_modes::ModeLexer;
+use lalrpop_rules::RuleLexer;
 use std::alloc::{AllocError, Global};
 
 /// Whether the rule with this index belongs to the mode.
-pub(crate) fn belongs(lexer: &ModeLexer, mode: usize, index: usize) -> bool
+pub(crate) fn belongs(lexer: &RuleLexer, mode: usize, index: usize) -> bool
     ensures { MatchBool result (Belongs lexer.now.members mode index)
         (¬ Belongs lexer.now.members mode index) }
 {
@@ -22,7 +22,7 @@ pub(crate) fn belongs(lexer: &ModeLexer, mode: usize, index: usize) -> bool
 /// By kind, how many rules of the kind belong to the mode.
 pub(crate) fn kind_counts(
     alloc: Global,
-    lexer: &ModeLexer,
+    lexer: &RuleLexer,
     mode: usize,
 ) -> Result<Vec<usize>, AllocError>
     ensures counts { IfOk result (λ counts. (k c : ℕ) → slice_get counts.items k ≡ Some c

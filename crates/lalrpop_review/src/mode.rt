@@ -5,7 +5,7 @@ ghost use Rattle.lalrpop_review.specs.Review.{IsModeReview};
 use crate::idle::IdleRule;
 use crate::idle_rules::idle_rules;
 use crate::look::{Look, look_of};
-use lalrpop_modes::ModeLexer;
+use lalrpop_rules::RuleLexer;
 use lalrpop_verdicts::least_state_count;
 use std::alloc::{AllocError, Global};
 
@@ -31,7 +31,7 @@ pub struct ModeReview {
 /// The review of the mode.
 pub(crate) fn mode_review(
     alloc: Global,
-    lexer: &ModeLexer,
+    lexer: &RuleLexer,
     mode: usize,
 ) -> Result<ModeReview, AllocError>
     requires there { mode < lexer.now.modes }

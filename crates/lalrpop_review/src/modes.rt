@@ -5,7 +5,7 @@ ghost use Rattle.lalrpop_review.specs.Review.{IsReview};
 use crate::empty::empty_rules;
 use crate::mode::mode_review;
 use crate::whole::Review;
-use lalrpop_modes::ModeLexer;
+use lalrpop_rules::RuleLexer;
 use std::alloc::{AllocError, Global};
 
 /// The review of the rules of this lexer: the rules that match the empty text; and for each mode the rules that never win there,
@@ -25,7 +25,7 @@ use std::alloc::{AllocError, Global};
 /// `AllocError` if a request for memory was refused.
 ///
 /// ```
-/// use lalrpop_modes::{ModeLexer, ModeRule};
+/// use lalrpop_rules::{RuleLexer, ModeRule};
 /// use lalrpop_review::review;
 /// use lalrpop_rules::Rule;
 ///
@@ -36,11 +36,11 @@ use std::alloc::{AllocError, Global};
 ///     ModeRule { rule: keyword, modes: &[0], actions: &[] },
 ///     ModeRule { rule: name, modes: &[0], actions: &[] },
 /// ];
-/// let lexer = ModeLexer::from_rules(alloc, &rules, 1)?;
+/// let lexer = RuleLexer::from_rules(alloc, &rules, 1)?;
 /// let found = review(alloc, &lexer)?;
 /// let hidden = &found.modes[0].idle[0]; // the rule 0: rule 1 wins "if"
 /// ```
-pub fn review(alloc: Global, lexer: &ModeLexer) -> Result<Review, AllocError>
+pub fn review(alloc: Global, lexer: &RuleLexer) -> Result<Review, AllocError>
     ensures review { IfOk result (IsReview lexer.now) }
 {
     let empty = empty_rules(alloc, lexer.regexs())?;

@@ -1,7 +1,7 @@
 //! A review, run.
 
 use crate::{IdleRule, Look, review};
-use lalrpop_modes::{Action, ModeLexer, ModeRule};
+use lalrpop_rules::{Action, RuleLexer, ModeRule};
 use lalrpop_rules::Rule;
 use std::process::Abort;
 
@@ -43,7 +43,7 @@ fn a_rule_is_hidden_in_one_mode(rt: HostRuntime) {
             actions: &[],
         },
     ];
-    let Ok(lexer) = ModeLexer::from_rules(rt.alloc(), &rules, 2) else {
+    let Ok(lexer) = RuleLexer::from_rules(rt.alloc(), &rules, 2) else {
         assert!(rt; false);
         return;
     };

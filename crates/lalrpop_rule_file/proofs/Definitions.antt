@@ -5,8 +5,8 @@ use Rattle.std.specs.Str.{IsCharBoundary}
 use Rattle.std.proofs.lemmas.List.{take-append-drop}
 use Rattle.lalrpop_re.specs.NamedPart.{NamedPart}
 use Rattle.lalrpop_re.specs.Pattern.{IsPart}
-use Rattle.lalrpop_lexer.specs.Lines.{lines}
-use Rattle.lalrpop_lexer.specs.Position.{position_of}
+use Rattle.bajofeki_rules.specs.Lines.{lines}
+use Rattle.bajofeki_rules.specs.Position.{position_of}
 use Rattle.lalrpop_rule_file.specs.RuleLine.{WrittenPart}
 use Rattle.lalrpop_rule_file.specs.FileModes.{Said, Define}
 use Rattle.lalrpop_rule_file.specs.FileParts.{AreParts, IsNameColumn, IsPatternColumn, no_parts, one_more, parts_in}

@@ -6,7 +6,7 @@ use Rattle.std.specs.Int.{IsInRange}
 use Rattle.std.specs.Str.Parse.{AllDigits, digits_value}
 use Rattle.std.proofs.lemmas.Bool.{false≢true}
 use Rattle.std.proofs.lemmas.Str.Parse.{digit_from_value}
-use Rattle.lalrpop_lexer.specs.Line.{IsPrecedence}
+use Rattle.bajofeki_rules.specs.Precedence.{IsPrecedence}
 use Rattle.lalrpop_rule_file.specs.Words.{EachByte, begins, IsSpan, AreBlanks, is_blank, begins_name, is_no_apostrophe, is_of_name, Lacks}
 use Rattle.lalrpop_rule_file.specs.LineText.{Form, Literal, Escaped, Pattern, Quoted, AnyCase, FromTo, IsUpToTo, delimiter}
 use Rattle.lalrpop_rule_file.specs.RuleLine.{Entry, Mode, Push, word_of, Head, Enters, bare, acting, WrittenPart, part_of, WrittenRule, rule_of, Section, Part, Listing, Headed, Named, Entering, Equals, InAnyCase, Defines, Defined, Open, Closed, Lexeme, a_blank, a_bracket, a_mode, a_star, an_end, a_star_end, a_name, a_skip, a_pop, an_entry, its_mode, an_equals, a_part, its_equals, its_pattern, an_open_pattern, a_precedence, a_text, an_open_text, an_any_case, its_literal, an_open_literal, a_from, from_to, an_open_to, no_to, Reads, nothing, lexeme_then}

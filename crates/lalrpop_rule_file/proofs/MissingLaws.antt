@@ -1,6 +1,6 @@
 -- The first mode in an action that the file doesn't have stands at one place.
 use Rattle.std.proofs.Common.{◌≡◌, ℕ, zero, suc, List, [], ◌∷◌, ◌++◌, codes, refl, sym, ap, subst, ◌∙◌, append_assoc, append-nil, inl, inr, Contains, ◌⊎◌, ◌+◌, length, length-append, true, arith}
-use Rattle.lalrpop_lexer.specs.Position.{position_of}
+use Rattle.bajofeki_rules.specs.Position.{position_of}
 use Rattle.lalrpop_rule_file.specs.Words.{IsSpan, begins, begins_name, is_blank, is_of_name}
 use Rattle.lalrpop_rule_file.specs.RuleLine.{Entry, Head, Written, Enters, Pops, WrittenRule, WrittenPart, Part, Start, Headed, Named, Entering, Equals, InAnyCase, From, Unjoined, Defining, Defines, Defined, Open, Closed, a_blank, a_bracket, a_mode, a_star, an_end, a_star_end, a_name, a_skip, a_pop, an_entry, its_mode, an_equals, a_part, its_equals, its_pattern, an_open_pattern, a_precedence, a_text, an_open_text, an_any_case, its_literal, an_open_literal, a_from, from_to, an_open_to, no_to, Reads, nothing, lexeme_then}
 use Rattle.lalrpop_rule_file.specs.FileModes.{Said, Nothing, Heading, Define, Rule, AllLeadWithin}

@@ -4,8 +4,8 @@ use Rattle.std.specs.Prelude.{Some, slice_get}
 use Rattle.std.specs.List.{range_with_len}
 use Rattle.std.proofs.lemmas.List.{take_more, take_at}
 use Rattle.lalrpop_rule_file.specs.Words.{IsSpan, begins, begins_name, is_of_name}
-use Rattle.lalrpop_lexer.specs.Position.{position_of}
-use Rattle.lalrpop_modes.specs.declared.action.Action.{Action}
+use Rattle.bajofeki_rules.specs.Position.{position_of}
+use Rattle.bajofeki_rules.specs.declared.action.Action.{Action}
 use Rattle.lalrpop_rule_file.specs.RuleLine.{Entry, Head, Written, Start, Entering, Reads}
 use Rattle.lalrpop_rule_file.specs.FileModes.{AllLeadWithin, AreActions, AreNumbers, IsAction, IsNumber, LeadsWithin}
 use Rattle.lalrpop_rule_file.specs.RuleFile.{IsNoMode}

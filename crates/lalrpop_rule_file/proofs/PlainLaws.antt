@@ -1,7 +1,7 @@
 -- A file without sections, actions and parts has one mode, INITIAL, in which all its rules stand, without actions.
 use Rattle.std.proofs.Common.{◌≡◌, ℕ, zero, suc, Bool, List, [], ◌∷◌, ◌++◌, map, get_or, drop, refl, sym, ap, subst, ◌∙◌, Option, Some, None, ◌⊎◌, inl, inr}
 use Rattle.std.specs.Prelude.{codes, slice_get}
-use Rattle.lalrpop_modes.specs.declared.action.Action.{Action}
+use Rattle.bajofeki_rules.specs.declared.action.Action.{Action}
 use Rattle.lalrpop_rule_file.specs.LineText.{Form, Literal, Escaped, Pattern, Quoted, delimiter, precedence_or}
 use Rattle.lalrpop_rule_file.specs.RuleLine.{Written, rule_of, Part, Start, Named, Equals, Closed, Lexeme, a_blank, a_name, a_skip, an_equals, a_precedence, a_text, Reads, nothing, lexeme_then, IsRule}
 use Rattle.lalrpop_rule_file.specs.FileModes.{Said, Nothing, Heading, Define, Rule, AreActions, AreModes, firsts, initial, modes_of, named_below, or_initial, without}

@@ -2,9 +2,9 @@
 use Rattle.std.proofs.Common.{◌≡◌, ℕ, zero, suc, ◌<◌, ◌+◌, inl, inr, List, [], ◌∷◌, length, Contains, subst, arith}
 use Rattle.std.specs.Prelude.{Some, slice_get}
 use Rattle.std.specs.List.{range_with_len}
-use Rattle.lalrpop_modes.specs.declared.action.Action.{Action}
-use Rattle.lalrpop_modes.specs.declared.action.Action.TheVariants as action
-use Rattle.lalrpop_modes.specs.Modes.{OneLeadsInto}
+use Rattle.bajofeki_rules.specs.declared.action.Action.{Action}
+use Rattle.bajofeki_rules.specs.declared.action.Action.TheVariants as action
+use Rattle.bajofeki_rules.specs.EnteredModes.{OneLeadsInto}
 use Rattle.lalrpop_rule_file.specs.RuleLine.{Mode, Push, Written, Enters, Pops, Section, These, Every, WrittenRule}
 use Rattle.lalrpop_rule_file.specs.FileModes.{Said, Nothing, Heading, Define, Rule, AreActions, AreModes, AreNumbers, initial}
 use Rattle.lalrpop_rule_file.specs.RuleFile.{AreRules, AreRulesBelow, IsFileRule, NamesMode}

@@ -4,7 +4,7 @@ use Rattle.std.specs.Char.{is_ascii_digit}
 use Rattle.std.specs.Str.{IsUtf8, IsCharBoundary}
 use Rattle.std.proofs.lemmas.Bool.{false≢true}
 use Rattle.std.proofs.lemmas.Str.{IsCharBoundary-at_seam}
-use Rattle.lalrpop_lexer.specs.Line.{IsPrecedence}
+use Rattle.bajofeki_rules.specs.Precedence.{IsPrecedence}
 use Rattle.lalrpop_rule_file.specs.Words.{AreBlanks, IsSpan, Lacks, begins, begins_name, is_blank, is_no_apostrophe, is_of_name}
 use Rattle.lalrpop_rule_file.specs.LineText.{Form, Literal, Escaped, Pattern, Quoted, AnyCase, FromTo, IsUpToTo, NoToBefore, delimiter}
 use Rattle.lalrpop_rule_file.specs.RuleLine.{Entry, Head, Pops, Enters, bare, marked, acting, WrittenRule, rule_of, word_of, Section, These, Every, Part, Start, Listing, Starred, Headed, Named, Entering, Equals, InAnyCase, From, Unjoined, Open, Closed, Lexeme, a_blank, a_bracket, a_mode, a_star, an_end, a_star_end, a_name, a_skip, a_pop, an_entry, its_mode, an_equals, a_part, its_equals, its_pattern, an_open_pattern, a_precedence, a_text, an_open_text, an_any_case, its_literal, an_open_literal, a_from, from_to, an_open_to, no_to, Reads, nothing, lexeme_then}

@@ -1,7 +1,7 @@
 -- A line stops being a rule, a part or a section at one place, for one reason, and one of these nowhere.
 use Rattle.std.proofs.Common.{◌≡◌, ◌≢◌, ℕ, ◌+◌, ◌-◌, ◌⊎◌, inl, inr, Bool, true, false, List, [], ◌∷◌, ◌++◌, subst, length, refl, sym, ap, ◌∙◌, arith, length-append, Some, None}
 use Rattle.std.specs.Str.{IsUtf8}
-use Rattle.lalrpop_lexer.specs.Position.{position_of}
+use Rattle.bajofeki_rules.specs.Position.{position_of}
 use Rattle.std.specs.Char.{is_ascii_digit}
 use Rattle.lalrpop_rule_file.specs.Words.{begins}
 use Rattle.lalrpop_rule_file.specs.RuleLine.{Part, Start, Listing, Starred, Headed, Named, Entering, Equals, InAnyCase, From, Unjoined, Defining, Defines, Defined, Open, Closed, Reads, Section, WrittenPart, WrittenRule, IsPartLine, IsRule, IsSection}

@@ -4,8 +4,8 @@ use Rattle.std.specs.Prelude.{◌≡◌, ℕ, if◌then◌else◌, Some, List, [
 use Rattle.std.specs.List.{range_with_len}
 use Rattle.std.specs.Str.{bytes_eq}
 use Rattle.lalrpop_rule_file.specs.RuleLine.{Mode, Push, Written, Enters, Pops, WrittenPart, WrittenRule, Section, These, Every}
-use Rattle.lalrpop_modes.specs.declared.action.Action.{Action}
-use Rattle.lalrpop_modes.specs.declared.action.Action.TheVariants as action
+use Rattle.bajofeki_rules.specs.declared.action.Action.{Action}
+use Rattle.bajofeki_rules.specs.declared.action.Action.TheVariants as action
 
 -- what a line says: nothing, where a section begins, a part, or a rule
 pub data Said : Type 0 where

@@ -4,7 +4,7 @@ use Rattle.std.specs.Prelude.{◌≡◌, ℕ, ◌+◌, List, [], ◌∷◌, ◌+
 use Rattle.std.specs.Str.{IsCharBoundary}
 use Rattle.lalrpop_re.specs.NamedPart.{NamedPart}
 use Rattle.lalrpop_re.specs.Pattern.{IsPart}
-use Rattle.lalrpop_lexer.specs.Position.{position_of}
+use Rattle.bajofeki_rules.specs.Position.{position_of}
 use Rattle.lalrpop_rule_file.specs.Words.{IsSpan, is_blank, is_of_name}
 use Rattle.lalrpop_rule_file.specs.LineText.{Pattern, Quoted, BeginsText}
 use Rattle.lalrpop_rule_file.specs.RuleLine.{WrittenPart}

@@ -3,22 +3,22 @@
 use Rattle.std.specs.Prelude.{◌≡◌, ◌⊎◌, ℕ, zero, suc, ◌+◌, ◌-◌, ◌==◌, if◌then◌else◌, true, Some, List, [], ◌∷◌, ◌++◌, length, take, drop, map, chars, codes, slice_get, Contains}
 use Rattle.std.specs.Str.{IsUtf8, bytes_eq}
 use Rattle.std.specs.Str.Lossy.{utf8_valid_len}
-use Rattle.lalrpop_lexer.specs.Lines.{lines}
-use Rattle.lalrpop_lexer.specs.Position.{position_of}
-use Rattle.lalrpop_lexer.specs.declared.position.Position.{Position}
+use Rattle.bajofeki_rules.specs.Lines.{lines}
+use Rattle.bajofeki_rules.specs.Position.{position_of}
+use Rattle.bajofeki_rules.specs.declared.position.Position.{Position}
 use Rattle.lalrpop_rule_file.specs.Words.{AreBlanks, IsSpan, begins, begins_name, is_of_name}
 use Rattle.lalrpop_rule_file.specs.LineText.{Literal, Escaped, Pattern, Text, Quoted, AnyCase, FromTo, BeginsText}
 use Rattle.lalrpop_rule_file.specs.RuleLine.{Entry, Head, WrittenPart, WrittenRule, Section, Start, Entering, Reads, IsPartLine, IsRule, IsSection}
 use Rattle.lalrpop_rule_file.specs.RuleFault.{StopsBefore}
 use Rattle.lalrpop_rule_file.specs.FileModes.{Said, Nothing, Heading, Define, Rule, AreActions, AreModes, AllLeadWithin, initial, modes_of}
 use Rattle.lalrpop_rule_file.specs.FileParts.{AreParts, IsNameColumn, IsPatternColumn, parts_above, parts_in}
-use Rattle.lalrpop_modes.specs.Modes.{OneLeadsInto}
+use Rattle.bajofeki_rules.specs.EnteredModes.{OneLeadsInto}
 use Rattle.lalrpop_re.specs.NamedPart.{NamedPart}
 use Rattle.lalrpop_re.specs.Pattern.{IsPart}
-use Rattle.lalrpop_modes.specs.declared.mode_rule.ModeRule.{ModeRule}
-use Rattle.lalrpop_rules.specs.RuleText.{IsPatternWith}
-use Rattle.lalrpop_rules.specs.declared.rule_text.RuleText.{RuleText}
-use Rattle.lalrpop_rules.specs.declared.rule_text.RuleText.TheVariants as text
+use Rattle.bajofeki_rules.specs.declared.mode_rule.ModeRule.{ModeRule}
+use Rattle.bajofeki_rules.specs.RuleText.{IsPatternWith}
+use Rattle.bajofeki_rules.specs.declared.rule_text.RuleText.{RuleText}
+use Rattle.bajofeki_rules.specs.declared.rule_text.RuleText.TheVariants as text
 use Rattle.lalrpop_rule_file.specs.declared.file_rule.FileRule.{FileRule}
 use Rattle.lalrpop_rule_file.specs.declared.error.LineFault.{LineFault}
 use Rattle.lalrpop_rule_file.specs.declared.error.LineFault.TheVariants.{NotUtf8}

@@ -4,7 +4,7 @@
 -- `anycase 'LITERAL'` or `from 'A' to 'B'`; a part is `NAME part = /PATTERN/`.
 use Rattle.std.specs.Prelude.{◌≡◌, ℕ, Bool, true, false, Option, Some, None, List, [], ◌∷◌, ◌++◌, length, codes}
 use Rattle.std.specs.Char.{is_ascii_digit}
-use Rattle.lalrpop_lexer.specs.Line.{IsPrecedence}
+use Rattle.bajofeki_rules.specs.Precedence.{IsPrecedence}
 use Rattle.lalrpop_rule_file.specs.Words.{IsSpan, Lacks, begins, begins_name, is_blank, is_no_apostrophe, is_of_name}
 use Rattle.lalrpop_rule_file.specs.LineText.{Form, Text, Quoted, AnyCase, FromTo, IsUpToTo, NoToBefore, delimiter, precedence_or}
 

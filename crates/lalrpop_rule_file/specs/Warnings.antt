@@ -2,9 +2,9 @@
 -- What a file of rules may say, but surely doesn't mean.
 use Rattle.std.specs.Prelude.{◌≡◌, ℕ, ◌<◌, ◌⊎◌, List, [], ◌++◌, Some, codes, length, map, slice_get}
 use Rattle.std.specs.Str.Iter.{HasSubslice}
-use Rattle.lalrpop_rules.specs.declared.rule_text.RuleText.{RuleText}
-use Rattle.lalrpop_rules.specs.declared.rule_text.RuleText.TheVariants.{Literal, Escaped, AnyCase, Pattern, PatternWith}
-use Rattle.lalrpop_modes.specs.Modes.{CanBeEntered}
+use Rattle.bajofeki_rules.specs.declared.rule_text.RuleText.{RuleText}
+use Rattle.bajofeki_rules.specs.declared.rule_text.RuleText.TheVariants.{Literal, Escaped, AnyCase, Pattern, PatternWith}
+use Rattle.bajofeki_rules.specs.EnteredModes.{CanBeEntered}
 use Rattle.lalrpop_rule_file.specs.declared.file_rule.FileRule.{FileRule}
 use Rattle.lalrpop_rule_file.specs.declared.part_line.PartLine.{PartLine}
 use Rattle.lalrpop_rule_file.specs.declared.file.RuleFile.{RuleFile}

@@ -1,8 +1,8 @@
 //! The lines of a file.
 ghost use Rattle.std.specs.Prelude.{◌≡◌, ◌==◌, ◌<◌, ◌≤◌, ◌-◌, ℕ, List, [], ◌∷◌, ◌++◌, length, take, position, Option, IfSome, IfNone, IfOk, IfErr};
 ghost use Rattle.std.specs.Str.{IsUtf8};
-ghost use Rattle.lalrpop_lexer.specs.Lines.{lines};
-ghost use Rattle.lalrpop_lexer.specs.Position.{position_of};
+ghost use Rattle.bajofeki_rules.specs.Lines.{lines};
+ghost use Rattle.bajofeki_rules.specs.Position.{position_of};
 ghost use Rattle.lalrpop_rule_file.specs.RuleFile.{LineSays, without_return as without_return_of};
 ghost use Rattle.lalrpop_rule_file.specs.Internal.Values.{KeepsPlaces, said_of};
 ghost use Rattle.lalrpop_rule_file.specs.Internal.Lines.{IsErrorOfLine};

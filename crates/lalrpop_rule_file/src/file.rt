@@ -1,6 +1,6 @@
 //! A whole file.
 ghost use Rattle.std.specs.Prelude.{◌≡◌, ◌<◌, ℕ, length, map, take, slice_get, Some, IfOk, IfErr};
-ghost use Rattle.lalrpop_lexer.specs.Lines.{lines};
+ghost use Rattle.bajofeki_rules.specs.Lines.{lines};
 ghost use Rattle.lalrpop_rule_file.specs.PartLines.{ArePartLines};
 ghost use Rattle.lalrpop_rule_file.specs.RuleFile.{AreFileParts, AreModeRules, AreRules, ArePlaces, HasParts, IsModeRule, IsRuleFileError, NamesMode, without_mark as without_mark_of};
 ghost use Rattle.lalrpop_rule_file.specs.declared.file_rule.FileRule.{FileRule as FileRuleValue};
@@ -12,19 +12,19 @@ use crate::part_line::PartLine;
 use crate::parts::parts_of_lines;
 use crate::rules::rules_of_lines;
 use lalrpop_lexer::lexer::re::Part;
-use lalrpop_modes::ModeRule;
+use lalrpop_rules::ModeRule;
 use lalrpop_rules::{Rule, RuleText};
 use std::alloc::{AllocError, Global};
 
 /// The modes, the parts and the rules of a file.
 ///
 /// ```
-/// use lalrpop_modes::ModeLexer;
+/// use lalrpop_rules::RuleLexer;
 /// use lalrpop_rule_file::read_rules;
 ///
 /// let file = read_rules(alloc, b"OPEN push C = '/*'\nNAME = /[a-z]+/\n[C]\nCLOSE pop = '*/'\n")?;
 /// let rules = file.mode_rules(alloc)?;
-/// let lexer = ModeLexer::from_rules(alloc, &rules, file.modes.len())?;
+/// let lexer = RuleLexer::from_rules(alloc, &rules, file.modes.len())?;
 /// let place = file.rules[1].place; // line 2, column 9
 /// ```
 #[derive(Debug, Drop)]
@@ -83,7 +83,7 @@ fn mode_rule<'file>(rule: &'file FileRule<'_>, parts: &'file [Part]) -> ModeRule
 }
 
 impl<'text> RuleFile<'text> {
-    /// The rules as `ModeLexer::from_rules` takes them, with `file.modes.len()` modes. A pattern has the parts that stand above
+    /// The rules as `RuleLexer::from_rules` takes them, with `file.modes.len()` modes. A pattern has the parts that stand above
     /// its line.
     ///
     /// # Errors
@@ -162,7 +162,7 @@ pub fn without_mark(bytes: &[u8]) -> &[u8]
 /// let text = file.rules[1].rule.text; // RuleText::Escaped("\\n")
 /// ```
 ///
-/// The patterns of rules and escapes aren't parsed here, nor is B looked at: `ModeLexer::from_rules` does that.
+/// The patterns of rules and escapes aren't parsed here, nor is B looked at: `RuleLexer::from_rules` does that.
 ///
 /// # Errors
 ///

@@ -1,7 +1,7 @@
 //! What stands right of the `=` of a rule: its precedence and its text.
 ghost use Rattle.std.specs.Prelude.{◌≡◌, ◌≢◌, ◌<◌, ◌∷◌, ◌++◌, ℕ, List, [], Option, None, Bool, true, false, codes, length, IfOk, IfErr, IfSome, IfNone};
 ghost use Rattle.std.specs.Char.{is_ascii_digit};
-ghost use Rattle.lalrpop_lexer.specs.Line.{IsPrecedence};
+ghost use Rattle.bajofeki_rules.specs.Precedence.{IsPrecedence};
 ghost use Rattle.lalrpop_rule_file.specs.Words.{EachByte, IsSpan, Lacks, begins, is_blank, is_no_apostrophe};
 ghost use Rattle.lalrpop_rule_file.specs.LineText.{BeginsText, Form as TextForm, IsTo, IsUpToTo, NoToBefore, delimiter, precedence_or as precedence_or_else};
 ghost use Rattle.lalrpop_rule_file.specs.RuleLine.{Head, Equals, InAnyCase, From, Closed, Reads, rule_of as whole_rule};

@@ -1,6 +1,6 @@
 //! The modes of a file. An action may name a mode further down, so they are known only once all lines are read.
 ghost use Rattle.std.specs.Prelude.{◌≡◌, [], codes, IfOk, IfErr, OnOk};
-ghost use Rattle.lalrpop_lexer.specs.Lines.{lines};
+ghost use Rattle.bajofeki_rules.specs.Lines.{lines};
 ghost use Rattle.lalrpop_rule_file.specs.FileModes.{initial, named_by, or_initial as or_initial_of};
 ghost use Rattle.lalrpop_rule_file.specs.RuleFile.{IsRuleFileError};
 ghost use Rattle.lalrpop_rule_file.specs.Internal.Values.{said_of, section_of};

@@ -2,7 +2,7 @@
 ghost use Rattle.std.specs.Prelude.{◌≡◌, ◌≤◌, ◌+◌, ◌-◌, ◌++◌, ℕ, List, [], ◌∷◌, length, drop, chars, Contains, IfOk, IfErr, IfSome, IfNone, OnOk};
 ghost use Rattle.std.specs.Str.{IsCharBoundary};
 ghost use Rattle.lalrpop_re.specs.Pattern.{IsPart};
-ghost use Rattle.lalrpop_lexer.specs.Lines.{lines};
+ghost use Rattle.bajofeki_rules.specs.Lines.{lines};
 ghost use Rattle.lalrpop_rule_file.specs.FileModes.{Said as SaidValue};
 ghost use Rattle.lalrpop_rule_file.specs.FileParts.{IsNameColumn, IsPatternColumn, parts_in};
 ghost use Rattle.lalrpop_rule_file.specs.PartLines.{ArePartLines};

@@ -1,7 +1,7 @@
 //! The rules of a file whose modes are known.
 ghost use Rattle.std.specs.Prelude.{◌≡◌, ◌++◌, ℕ, List, [], map, IfOk, IfErr, OnOk};
 ghost use Rattle.lalrpop_re.specs.NamedPart.{NamedPart};
-ghost use Rattle.lalrpop_lexer.specs.Lines.{lines};
+ghost use Rattle.bajofeki_rules.specs.Lines.{lines};
 ghost use Rattle.lalrpop_rule_file.specs.FileModes.{AllLeadWithin, AreActions, AreModes};
 ghost use Rattle.lalrpop_rule_file.specs.RuleLine.{Section as SectionValue};
 ghost use Rattle.lalrpop_rule_file.specs.RuleFile.{AreFileParts, AreRules, ArePlaces, IsFileRule, IsRuleFileError, IsText, IsTextColumn};
@@ -16,7 +16,7 @@ use crate::numbers::{actions_with_numbers, missing_mode, numbers_of, section_num
 use crate::written::{Form, LineRule, Said, WrittenText};
 use lalrpop_lexer::Position;
 use lalrpop_lexer::lexer::dfa::Precedence;
-use lalrpop_modes::Action;
+use lalrpop_rules::Action;
 use lalrpop_rules::{Rule, RuleText};
 use std::alloc::Global;
 

@@ -7,7 +7,7 @@ ghost use Rattle.lalrpop_rule_file.specs.declared.warning.Warning.{Warning as Wa
 use crate::file::RuleFile;
 use crate::used_parts::{reference, stands_in_part, stands_in_rule};
 use crate::warning::Warning;
-use lalrpop_modes::entered_modes;
+use lalrpop_rules::entered_modes;
 use lalrpop_rules::RuleText;
 use std::alloc::{AllocError, Global};
 

@@ -2,7 +2,11 @@
 mod Found
 mod Pieces
 mod CutToEnd
-mod RuleText
+mod TextTrees
 mod Kinds
 mod RuleSet
 mod RulesErrors
+mod Modes
+mod ModeSet
+mod ModeCut
+mod ModeClashes

@@ -19,4 +19,22 @@ pub mod Results
 -- the trees of texts
 pub mod RuleTrees
 pub mod KindLaws
-pub mod MergedTrees
+-- the pieces of a text by rules with modes, and the stack after them
+pub mod ModePieces
+pub mod ModeLaws
+pub mod ModesExist
+-- what the calls give, and what they cost
+pub mod ModeRuns
+pub mod NextRuns
+pub mod Cuts
+pub mod FirstCuts
+pub mod LinearModes
+-- the trees of a mode
+pub mod Masks
+-- modes that are there
+pub mod NamedModes
+-- the lexers of modes, one after another
+pub mod ModeByMode
+pub mod ClashLists
+-- stacks that are the same
+mod SameStacks

@@ -11,11 +11,11 @@ use Rattle.lalrpop_re.specs.Unescaped.{Unescapes}
 use Rattle.lalrpop_re.specs.declared.error.RegexError.{RegexError}
 use Rattle.lalrpop_re.specs.declared.error.RegexError.TheVariants as read
 use Rattle.lalrpop_re.specs.Refusal.{PointsInto, SaysNoText}
-use Rattle.lalrpop_rules.specs.RuleText.{HasTree, IsEscapedTree}
+use Rattle.lalrpop_rules.specs.TextTrees.{HasTree, IsEscapedTree}
 use Rattle.lalrpop_rules.specs.RuleSet.{AreTrees, IsFirstBad, IsTextError}
 use Rattle.lalrpop_rules.specs.Internal.TextFaults.{IsEscapeFault, IsTextFault}
-use Rattle.lalrpop_rules.specs.declared.rule.Rule.{Rule}
-use Rattle.lalrpop_rules.specs.declared.rule_text.RuleText.{RuleText}
+use Rattle.bajofeki_rules.specs.declared.rule.Rule.{Rule}
+use Rattle.bajofeki_rules.specs.declared.rule_text.RuleText.{RuleText}
 use Rattle.lalrpop_rules.specs.declared.text_error.TextError.{TextError}
 use Rattle.lalrpop_rules.specs.declared.text_error.TextError.TheVariants.{NotParsed, BadEnd, NotCompiled, OutOfMemory}
 

@@ -2,3 +2,6 @@ pub mod Code
 pub mod Finding
 pub mod TextFaults
 pub mod Faults
+pub mod ModeCode
+pub mod Lexers
+pub mod Cutting

@@ -4,7 +4,7 @@ use Rattle.std.specs.Prelude.{◌≡◌, ℕ, ◌<◌, ◌==◌, if◌then◌els
 use Rattle.std.specs.List.{list_any}
 use Rattle.lalrpop_hir.specs.Tree.{Tree, alternation}
 use Rattle.lalrpop_hir.specs.Parts.{trees}
-use Rattle.lalrpop_rules.specs.declared.rule.Rule.{Rule}
+use Rattle.bajofeki_rules.specs.declared.rule.Rule.{Rule}
 
 -- rules of one kind have one name and one precedence, and are both skipped or both not
 pub record AreOneKind (r q : Rule) : Type 0 where

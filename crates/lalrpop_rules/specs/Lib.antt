@@ -1,9 +1,18 @@
+-- rules, their texts and modes, in reading order
+pub use Rattle.bajofeki_rules.specs.RuleText
+pub mod TextTrees
+pub mod Kinds
+pub mod RuleSet
+pub use Rattle.bajofeki_rules.specs.Stack
+pub use Rattle.bajofeki_rules.specs.EnteredModes
+pub mod Modes
+pub mod ModeSet
+pub mod RulesErrors
+pub mod ModeClashes
+-- the pieces of a text
 pub mod Found
 pub mod Pieces
 pub mod CutToEnd
-pub mod RuleText
-pub mod Kinds
-pub mod RuleSet
-pub mod RulesErrors
+pub mod ModeCut
 -- used by proofs only
 pub mod Internal

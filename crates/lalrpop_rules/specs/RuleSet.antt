@@ -4,43 +4,21 @@ use Rattle.std.specs.Prelude.{◌≡◌, ℕ, ◌<◌, Bool, List, [], ◌∷◌
 use Rattle.std.specs.Borrow.{Bor}
 use Rattle.std.specs.Str.{IsCharBoundary}
 use Rattle.lalrpop_hir.specs.Tree.{Tree}
-use Rattle.lalrpop_hir.specs.Clash.{IsClash}
 use Rattle.lalrpop_hir.specs.Report.{NoFault, FirstFault}
 use Rattle.lalrpop_re.specs.declared.from_to_error.FromToError.{FromToError}
-use Rattle.lalrpop_lexer.specs.Dfa.{Row}
-use Rattle.lalrpop_lexer.specs.Rules.{Rules}
-use Rattle.lalrpop_rules.specs.RuleText.{HasTree, IsBadEnd, IsParsed}
-use Rattle.lalrpop_rules.specs.Kinds.{AreKinds, AreOneKind, all_at_work, merged}
-use Rattle.lalrpop_rules.specs.declared.rule.Rule.{Rule}
-use Rattle.lalrpop_rules.specs.declared.rule_text.RuleText.{RuleText}
-use Rattle.lalrpop_rules.specs.declared.rule_text.RuleText.TheVariants.{FromTo}
+use Rattle.lalrpop_rules.specs.TextTrees.{HasTree, IsBadEnd}
+use Rattle.bajofeki_rules.specs.RuleText.{IsParsed}
+use Rattle.bajofeki_rules.specs.declared.rule.Rule.{Rule}
+use Rattle.bajofeki_rules.specs.declared.rule_text.RuleText.{RuleText}
+use Rattle.bajofeki_rules.specs.declared.rule_text.RuleText.TheVariants.{FromTo}
 use Rattle.lalrpop_rules.specs.declared.text_error.TextError.{TextError}
 use Rattle.lalrpop_rules.specs.declared.text_error.TextError.TheVariants as texts
-use Rattle.lalrpop_rules.specs.declared.error.RulesError.{RulesError}
-use Rattle.lalrpop_rules.specs.declared.error.RulesError.TheVariants.{NotParsed, BadEnd, NotCompiled, Clash, OutOfMemory}
-
--- a list of rules, as a lexer knows them: their names, trees and precedences, which are skipped, and the states of the automaton
-pub record RuleSet : Type 0 where
-  pub names : List (List ℕ)
-  pub trees : List Tree
-  pub precedences : List ℕ
-  pub skips : List Bool
-  pub automaton : List Row
 
 -- each rule's text has its tree
 abbrev pub AreTrees : List Rule → List Tree → Type 0
 AreTrees [] [] = Unit {0}
 AreTrees (r ∷ rs) (t ∷ ts) = HasTree r.text t × AreTrees rs ts
 AreTrees _ _ = ⊥
-
--- the trees of the rules, which can be compiled, merged by kinds
-pub record AreMergedTrees (rs : List Rule) (ts : List Tree) : Type 0 where
-  pub each : List Tree
-  pub have : AreTrees rs each
-  pub no_fault : NoFault each
-  pub kinds : List ℕ
-  pub numbered : AreKinds AreOneKind rs kinds
-  pub merge : ts ≡ merged (all_at_work kinds) each
 
 abbrev pub names_of : List Rule → List (List ℕ)
 names_of rs = map (λ r. r.name.now) rs
@@ -72,16 +50,3 @@ IsTextError rs (texts.NotParsed i position kind) = IsNotParsed rs i position
 IsTextError rs (texts.BadEnd i e) = HasBadEnd rs i e
 IsTextError rs (texts.NotCompiled i e) = (ts : List Tree) × (AreTrees rs ts × FirstFault ts i e)
 IsTextError rs texts.OutOfMemory = Unit {0}
-
--- the error is right: the first rule whose text has no tree; else the first that can't be compiled; else the clash; or memory was
--- refused
-abbrev pub IsRulesError : List Rule → RulesError → Type 0
-IsRulesError rs (NotParsed i position kind) = IsNotParsed rs i position
-IsRulesError rs (BadEnd i e) = HasBadEnd rs i e
-IsRulesError rs (NotCompiled i e) = (ts : List Tree) × (AreTrees rs ts × FirstFault ts i e)
-IsRulesError rs (Clash i j w) = (ts : List Tree) × (AreMergedTrees rs ts × IsClash ts (precedences_of rs) w.items i j)
-IsRulesError rs OutOfMemory = Unit {0}
-
--- what the lexer of the rules recognizes
-abbrev pub recognized : RuleSet → Rules
-recognized r = record { trees = r.trees; precedences = r.precedences; automaton = r.automaton }

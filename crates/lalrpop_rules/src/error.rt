@@ -1,30 +1,36 @@
-//! Why rules can't be made into a lexer.
+//! Why rules with modes can't be made into a lexer.
 ghost use Rattle.std.specs.Prelude.{◌≡◌};
-ghost use Rattle.lalrpop_rules.specs.RulesErrors.{of_texts, of_construction};
+ghost use Rattle.lalrpop_rules.specs.RulesErrors.{of_texts};
 ghost use Rattle.lalrpop_rules.specs.declared.error.RulesError.TheVariants.{OutOfMemory};
 
 use crate::text_error::TextError;
-use lalrpop_re::FromToError;
 use lalrpop_lexer::ShownWord;
-use lalrpop_lexer::lexer::dfa::DfaConstructionError;
 use lalrpop_lexer::lexer::nfa::NfaConstructionError;
 use lalrpop_lexer::lexer::re::SyntaxKind;
+use lalrpop_re::FromToError;
 use std::alloc::{AllocError, AllocFailed};
 use thiserror::Error;
 
-/// Why rules can't be made into a lexer. Rules are numbered from 0.
+/// Why rules with modes can't be made into a lexer. Rules and modes are numbered from 0.
 ///
 /// ```
-/// use lalrpop_rules::{Rule, RuleLexer, RulesError};
+/// use lalrpop_rules::{RuleLexer, ModeRule, RulesError};
+/// use lalrpop_rules::Rule;
 ///
-/// let rules = [Rule::literal("A", "a"), Rule::literal("B", "a")];
-/// let clash = match RuleLexer::from_rules(alloc, &rules) {
-///     Err(RulesError::Clash { rule, other, .. }) => Some((rule, other)), // (1, 0)
+/// let rules = [ModeRule { rule: Rule::literal("A", "a"), modes: &[2], actions: &[] }];
+/// let missing = match RuleLexer::from_rules(alloc, &rules, 1) {
+///     Err(RulesError::NoSuchMode { rule, mode }) => Some((rule, mode)), // (0, 2)
 ///     _ => None,
 /// };
 /// ```
 #[derive(Debug, Drop, Error)]
 pub enum RulesError {
+    /// This rule names a mode that isn't there.
+    #[error("rule {rule} names mode {mode}, which isn't there")]
+    NoSuchMode {
+        rule: usize,
+        mode: usize,
+    },
     /// The text of this rule does not parse: `kind` says why, and `position` where, as an offset in bytes.
     #[error("the text of rule {rule} does not parse: {kind:?} at byte {position}")]
     NotParsed {
@@ -44,10 +50,12 @@ pub enum RulesError {
         rule: usize,
         error: NfaConstructionError,
     },
-    /// Some word has strongest rules of more than one kind: `word` is the shortest, then least, such word, and `rule` and `other` are
-    /// the first rules of two such kinds: `rule` has the greatest index, and `other` the second greatest.
-    #[error("rules {other} and {rule} clash on {shown}", shown = ShownWord(.word))]
+    /// Some word has strongest rules of more than one kind in this mode: `word` is the shortest, then least, such word, and
+    /// `rule` and `other` are the first rules of two such kinds in the mode: `rule` has the greatest index, and `other` the
+    /// second greatest.
+    #[error("in mode {mode} rules {other} and {rule} clash on {shown}", shown = ShownWord(.word))]
     Clash {
+        mode: usize,
         rule: usize,
         other: usize,
         word: Vec<u32>,
@@ -74,31 +82,6 @@ impl From<TextError> for RulesError {
             TextError::BadEnd { rule, error } => RulesError::BadEnd { rule, error },
             TextError::NotCompiled { rule, error } => RulesError::NotCompiled { rule, error },
             TextError::OutOfMemory => RulesError::OutOfMemory,
-        }
-    }
-}
-
-impl From<DfaConstructionError> for RulesError {
-    ghost from_gives = { λ error e. e ≡ of_construction error };
-
-    fn from(error: DfaConstructionError) -> RulesError {
-        match error {
-            DfaConstructionError::NfaConstructionError { index, error } => {
-                RulesError::NotCompiled {
-                    rule: index.index(),
-                    error,
-                }
-            }
-            DfaConstructionError::Ambiguity {
-                match0,
-                match1,
-                word,
-            } => RulesError::Clash {
-                rule: match0.index(),
-                other: match1.index(),
-                word,
-            },
-            DfaConstructionError::OutOfMemory => RulesError::OutOfMemory,
         }
     }
 }

@@ -3,9 +3,9 @@ ghost use Rattle.std.specs.Prelude.{◌≡◌, ◌<◌, ℕ, List, Option, Some,
 ghost use Rattle.std.specs.Bool.{MatchBool};
 ghost use Rattle.std.specs.List.{list_any};
 ghost use Rattle.lalrpop_rules.specs.Kinds.{AreKinds, AreOneKind, IsFirstSame, all_at_work, is_kind as is_of, gathered as gathered_of, merged, one_tree as one_tree_of, trees_of_kind as trees_of};
-ghost use Rattle.lalrpop_rules.specs.declared.rule.Rule.{Rule as RuleValue};
+ghost use Rattle.bajofeki_rules.specs.declared.rule.Rule.{Rule as RuleValue};
 
-use crate::rule::Rule;
+use bajofeki_rules::Rule;
 use lalrpop_lexer::lexer::re::{Hir, Regex};
 use std::alloc::{AllocError, Global};
 
@@ -22,42 +22,6 @@ pub fn are_one_kind(rule: &Rule, other: &Rule) -> bool
     rule.name == other.name
         && rule.precedence.0 == other.precedence.0
         && rule.is_skipped == other.is_skipped
-}
-
-// The index of the first rule of the kind of the rule with this index.
-fn first_of_kind(rules: &[Rule], index: usize) -> usize
-    requires within { index < length rules.now }
-    ensures first { (rule : RuleValue) → slice_get rules.now index ≡ Some rule
-        → IsFirstSame AreOneKind rules.now rule result }
-{
-    for other in 0..index {
-        if are_one_kind(&rules[other], &rules[index]) {
-            return other;
-        }
-    }
-    index
-}
-
-// For each rule the index of the first rule of its kind.
-pub(crate) fn kind_list(alloc: Global, rules: &[Rule]) -> Result<Vec<usize>, AllocError>
-    ensures kinds { IfOk result (λ all. AreKinds AreOneKind rules.now all.items) }
-{
-    let mut all = Vec::new(alloc);
-    for index in 0..rules.len() {
-        all.push(first_of_kind(rules, index))?;
-    }
-    Ok(all)
-}
-
-// All rules are at work.
-pub(crate) fn at_work(alloc: Global, kinds: &[usize]) -> Result<Vec<Option<usize>>, AllocError>
-    ensures all { IfOk result (λ all. all.items ≡ all_at_work kinds.now) }
-{
-    let mut all = Vec::new(alloc);
-    for kind in kinds {
-        all.push(Some(*kind))?;
-    }
-    Ok(all)
 }
 
 // Whether a rule is at work and of this kind.

@@ -1,33 +1,44 @@
-//! Named rules over a lexer. Their tokens may be skipped, and cutting goes on after a fault, so every text is cut to its end.
+//! Named rules, which a lexer cuts any text by, from its beginning to its end. Their tokens may be skipped, and cutting goes on after a
+//! fault.
+//!
+//! Which rules are at work depends on a stack of modes, which goes along with the text. A rule's token may put a mode on the
+//! stack, take the one on top away, or put another in its place, as for nested comments and strings with code in them. Rules
+//! without modes are those of one mode.
 #![tactic(auto)]
 
+mod clashes;
 mod cut;
+mod cutter;
 mod error;
 mod faults;
 mod finder;
 mod front;
 mod item;
 mod kinds;
+mod known_rule;
 mod leftmost;
+mod lexers;
+mod masked;
+mod missing;
+mod mode_kinds;
+mod mode_stack;
+mod mode_trees;
 mod pieces;
-mod reading;
-mod rule;
+mod rule_items;
 mod rule_lexer;
-mod rule_text;
-mod rule_trees;
+#[cfg(test)]
+mod test;
 mod text_error;
 mod trees;
 
-pub use cut::{items, items_linear};
+pub use bajofeki_rules::{Action, ModeRule, Rule, RuleText, entered_modes};
+pub use clashes::mode_clashes;
 pub use error::RulesError;
 pub use front::piece_at;
 pub use item::Item;
-pub use kinds::{are_one_kind, merged_trees};
 pub use lalrpop_re::FromToError;
 pub use leftmost::find;
-pub use pieces::Items;
-pub use rule::Rule;
+pub use mode_stack::ModeStack;
+pub use rule_items::RuleItems;
 pub use rule_lexer::RuleLexer;
-pub use rule_text::RuleText;
 pub use text_error::TextError;
-pub use trees::trees_of;

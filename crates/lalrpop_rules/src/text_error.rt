@@ -2,9 +2,9 @@
 ghost use Rattle.std.specs.Prelude.{◌≡◌};
 ghost use Rattle.lalrpop_rules.specs.declared.text_error.TextError.TheVariants.{OutOfMemory};
 
-use lalrpop_re::FromToError;
 use lalrpop_lexer::lexer::nfa::NfaConstructionError;
 use lalrpop_lexer::lexer::re::SyntaxKind;
+use lalrpop_re::FromToError;
 use std::alloc::{AllocError, AllocFailed};
 use thiserror::Error;
 

@@ -2,17 +2,16 @@
 ghost use Rattle.std.specs.Prelude.{◌≡◌, IfOk, IfErr};
 ghost use Rattle.lalrpop_hir.specs.Report.{NoFault};
 ghost use Rattle.lalrpop_rules.specs.RuleSet.{AreTrees, IsTextError};
-ghost use Rattle.lalrpop_rules.specs.RuleText.{HasTree, IsEscapedTree};
+ghost use Rattle.lalrpop_rules.specs.TextTrees.{HasTree, IsEscapedTree};
 ghost use Rattle.lalrpop_rules.specs.Internal.TextFaults.{IsEscapeFault, IsTextFault, of_end, of_syntax};
 
 use crate::faults::all_compile;
-use crate::rule::Rule;
-use crate::rule_text::RuleText;
 use crate::text_error::TextError;
-use lalrpop_re::{FromToError, from_to};
+use bajofeki_rules::{Rule, RuleText};
 use lalrpop_lexer::lexer::re::{
     Regex, RegexError, parse_any_case, parse_literal, parse_regex, parse_with, unescape,
 };
+use lalrpop_re::{FromToError, from_to};
 use std::alloc::Global;
 
 // The error of rule `rule` for an error of its pattern or its escapes.

@@ -10,7 +10,7 @@ use Rattle.lalrpop_hir.specs.declared.error.NfaConstructionError.{NfaConstructio
 use Rattle.lalrpop_lexer.proofs.ClashLaws.{clash-unique, clash_or_none}
 use Rattle.lalrpop_lexer.proofs.Longests.{longest-unique}
 use Rattle.lalrpop_lexer.proofs.TerminalLaws.{terminals-unique, NoTerminal, stop_or_terminals, stop-unique}
-use Rattle.lalrpop_lexer.specs.Lines.{lines}
+use Rattle.bajofeki_rules.specs.Lines.{lines}
 use Rattle.lalrpop_lexer.specs.Terminals.{AreTerminals, FirstSays}
 use Rattle.lexdfa_lib.specs.Answer.{HaveAutomaton, Reports, IsReported, Finds, IsOutcome}
 use Rattle.lalrpop_lexer.specs.declared.terminal_line.TerminalLine.{TerminalLine}

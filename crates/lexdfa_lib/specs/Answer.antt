@@ -5,7 +5,7 @@ use Rattle.lalrpop_hir.specs.Tree.{Tree}
 use Rattle.lalrpop_lexer.specs.Clash.{IsClash, NoClash}
 use Rattle.lalrpop_lexer.specs.Longest.{IsLongest}
 use Rattle.lalrpop_lexer.specs.Report.{NoFault, FirstFault}
-use Rattle.lalrpop_lexer.specs.Lines.{lines}
+use Rattle.bajofeki_rules.specs.Lines.{lines}
 use Rattle.lalrpop_lexer.specs.Terminals.{AreTerminals, FirstSays}
 use Rattle.lexdfa_lib.specs.Printed.{line_of}
 use Rattle.lexdfa_lib.specs.Watch.{ReadsAll, AppendsPrefix}

@@ -1,7 +1,7 @@
 //! Cutting a text into tokens: a line for each, and the outcome.
 ghost use Rattle.std.specs.Prelude.{◌≡◌, ◌++◌, ℕ, List, length, map, flat_map, string_bytes, IfOk, OnOk};
 ghost use Rattle.lexdfa_lib.specs.Answer.{IsReported, HaveAutomaton};
-ghost use Rattle.lalrpop_lexer.specs.Lines.{lines};
+ghost use Rattle.bajofeki_rules.specs.Lines.{lines};
 ghost use Rattle.lexdfa_lib.specs.Printed.{line_of};
 ghost use Rattle.lalrpop_lexer.specs.Terminals.{AreTerminals};
 ghost use Rattle.lexdfa_lib.specs.Whole.{Token, Cuts, AreAnswers, token_line};

@@ -3,7 +3,7 @@ ghost use Rattle.std.specs.Prelude.{◌≡◌, ℕ, List, IfOk, OnErr};
 ghost use Rattle.lalrpop_hir.specs.Tree.{Tree};
 ghost use Rattle.lalrpop_lexer.specs.Report.{IsReport};
 ghost use Rattle.lexdfa_lib.specs.Answer.{IsReported};
-ghost use Rattle.lalrpop_lexer.specs.Lines.{lines};
+ghost use Rattle.bajofeki_rules.specs.Lines.{lines};
 ghost use Rattle.lalrpop_lexer.specs.Terminals.{AreTerminals};
 
 use crate::outcome::Outcome;

@@ -5,7 +5,7 @@ use Rattle.lalrpop_hir.specs.Tree.{Tree}
 use Rattle.lalrpop_lexer.proofs.ClashListLaws.{first_is_clash}
 use Rattle.lalrpop_lexer.specs.Clashes.{Entry, AreClashes}
 use Rattle.lalrpop_lexer.specs.Report.{NoFault}
-use Rattle.lalrpop_lexer.specs.Lines.{lines}
+use Rattle.bajofeki_rules.specs.Lines.{lines}
 use Rattle.lalrpop_lexer.specs.Terminals.{AreTerminals}
 use Rattle.lexdfa_lib.specs.declared.outcome.Outcome.{Outcome}
 use Rattle.lines_lib.specs.ClashesShown.{entry_line, first_reported, AreClashesShown}

@@ -15,7 +15,7 @@ use Rattle.lalrpop_hir.specs.Tokens.{AreTokens}
 use Rattle.lalrpop_lexer.specs.Longest.{IsLongest}
 use Rattle.lalrpop_hir.specs.declared.token.Token.{Token}
 use Rattle.lalrpop_hir.specs.declared.token.TokenFault.{TokenFault}
-use Rattle.lalrpop_lexer.specs.Quoted.{quoted}
+use Rattle.bajofeki_rules.specs.Quoted.{quoted}
 use Rattle.lines_lib.specs.TokenLines.{place_text, token_line, token_lines}
 
 -- two equal matches have the same number and the same slice

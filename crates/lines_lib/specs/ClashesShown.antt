@@ -6,7 +6,7 @@ use Rattle.lalrpop_hir.specs.Tree.{Tree}
 use Rattle.lalrpop_lexer.specs.Clashes.{Entry, AreClashes}
 use Rattle.lalrpop_lexer.specs.Report.{NoFault}
 use Rattle.lexdfa_lib.specs.Answer.{IsReported}
-use Rattle.lalrpop_lexer.specs.Lines.{lines}
+use Rattle.bajofeki_rules.specs.Lines.{lines}
 use Rattle.lexdfa_lib.specs.Printed.{line_of}
 use Rattle.lalrpop_lexer.specs.Terminals.{AreTerminals}
 use Rattle.lexdfa_lib.specs.Watch.{AppendsPrefix}

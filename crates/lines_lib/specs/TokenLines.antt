@@ -5,14 +5,14 @@ use Rattle.std.specs.Io.KnownBytes.{Appends}
 use Rattle.std.specs.Str.{IsCharBoundary}
 use Rattle.lalrpop_hir.specs.Tree.{Tree}
 use Rattle.lalrpop_hir.specs.Tokens.{AreTokens}
-use Rattle.lalrpop_lexer.specs.Position.{position_of}
+use Rattle.bajofeki_rules.specs.Position.{position_of}
 use Rattle.lalrpop_hir.specs.declared.token.Token.{Token}
-use Rattle.lalrpop_lexer.specs.declared.position.Position.{Position}
+use Rattle.bajofeki_rules.specs.declared.position.Position.{Position}
 use Rattle.lalrpop_hir.specs.declared.token.TokenFault.{TokenFault}
 use Rattle.lexdfa_lib.specs.Watch.{AppendsPrefix}
 use Rattle.lexdfa_lib.specs.declared.outcome.Outcome.{Outcome}
 use Rattle.lexdfa_lib.specs.declared.outcome.Outcome.TheVariants.{All, Stopped}
-use Rattle.lalrpop_lexer.specs.Quoted.{quoted}
+use Rattle.bajofeki_rules.specs.Quoted.{quoted}
 
 -- a place in a file
 abbrev pub place_in : List ℕ → Position → List ℕ

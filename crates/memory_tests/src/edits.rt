@@ -2,12 +2,12 @@
 
 use crate::calls::{Call, add, expect, halves};
 use lalrpop_edits::{Chunks, EditError, LexedText};
-use lalrpop_modes::ModeLexer;
+use lalrpop_rules::RuleLexer;
 use lalrpop_rule_file::read_rules;
 use std::alloc::{AllocError, Global};
 
 // The lexer of a file of lines with `;` between them.
-fn lexer_of(alloc: Global, lines: &str) -> Result<ModeLexer, AllocError> {
+fn lexer_of(alloc: Global, lines: &str) -> Result<RuleLexer, AllocError> {
     let lines = lines.replace(alloc, ';', "\n")?;
     let Ok(file) = read_rules(alloc, lines.as_bytes()) else {
         return Err(AllocError);
@@ -17,7 +17,7 @@ fn lexer_of(alloc: Global, lines: &str) -> Result<ModeLexer, AllocError> {
     if modes == 0 {
         return Err(AllocError);
     }
-    match ModeLexer::from_rules(alloc, &rules, modes) {
+    match RuleLexer::from_rules(alloc, &rules, modes) {
         Ok(lexer) => Ok(lexer),
         Err(_) => Err(AllocError),
     }

@@ -2,12 +2,12 @@
 
 use crate::calls::{Call, add, expect, halves};
 use lalrpop_emit::{ByteCutter, LexerNumbers, NumberedPiece, c_source, rust_source};
-use lalrpop_modes::{ModeLexer, ModesError};
+use lalrpop_rules::{RuleLexer, RulesError};
 use lalrpop_rule_file::{RuleFile, RuleFileError, read_rules};
 use std::alloc::{AllocError, Global};
 
 // The slices of the pieces of a text. A loop ends after an error. Then `next_item` goes on with the piece that was refused.
-fn slices<'x>(alloc: Global, lexer: &'x ModeLexer, text: &'x str) -> Result<String, AllocError> {
+fn slices<'x>(alloc: Global, lexer: &'x RuleLexer, text: &'x str) -> Result<String, AllocError> {
     let mut line = String::new(alloc);
     let mut items = lexer.items(alloc, text);
     let mut is_refused = false;
@@ -35,9 +35,9 @@ fn cut_by(alloc: Global, file: &RuleFile, text: &str) -> Result<String, AllocErr
     if modes == 0 {
         return String::from_str(alloc, "no modes");
     }
-    match ModeLexer::from_rules(alloc, &rules, modes) {
+    match RuleLexer::from_rules(alloc, &rules, modes) {
         Ok(lexer) => slices(alloc, &lexer, text),
-        Err(ModesError::OutOfMemory) => Err(AllocError),
+        Err(RulesError::OutOfMemory) => Err(AllocError),
         Err(error) => format!(in alloc; "{error}"),
     }
 }
@@ -91,7 +91,7 @@ fn numbers_of(alloc: Global, lines: &str) -> Result<LexerNumbers, AllocError> {
     if modes == 0 {
         return Err(AllocError);
     }
-    let Ok(lexer) = ModeLexer::from_rules(alloc, &rules, modes) else {
+    let Ok(lexer) = RuleLexer::from_rules(alloc, &rules, modes) else {
         return Err(AllocError);
     };
     match LexerNumbers::new(alloc, &lexer) {

@@ -5,7 +5,7 @@ use lalrpop_lexer::lexer::dfa::Precedence;
 use lalrpop_lexer::{Form, Lexer, LexerError};
 use lalrpop_markup::{ansi, html};
 use lalrpop_rule_file::{FileRule, RuleFileError, read_rules};
-use lalrpop_rules::{Item, Rule, RuleLexer, RulesError};
+use lalrpop_rules::{Item, Rule, OldRuleLexer, OldRulesError};
 use std::alloc::{AllocError, Global};
 
 // The pattern of `PRECEDENCE l TEXT` or `PRECEDENCE r PATTERN`.
@@ -66,22 +66,22 @@ fn rule_of(row: &str) -> Rule {
     }
 }
 
-fn rule_lexer_of(alloc: Global, rows: &str) -> Result<Result<RuleLexer, RulesError>, AllocError> {
+fn rule_lexer_of(alloc: Global, rows: &str) -> Result<Result<OldRuleLexer, OldRulesError>, AllocError> {
     let mut rules = Vec::new(alloc);
     for row in rows.split(" / ") {
         rules.push(rule_of(row))?;
     }
-    Ok(RuleLexer::from_rules(alloc, &rules))
+    Ok(OldRuleLexer::from_rules(alloc, &rules))
 }
 
-fn told(alloc: Global, error: RulesError) -> Result<String, AllocError> {
+fn told(alloc: Global, error: OldRulesError) -> Result<String, AllocError> {
     match error {
-        RulesError::OutOfMemory => Err(AllocError),
+        OldRulesError::OutOfMemory => Err(AllocError),
         error => format!(in alloc; "{error}"),
     }
 }
 
-fn names_in(alloc: Global, lexer: &RuleLexer, text: &str) -> Result<String, AllocError> {
+fn names_in(alloc: Global, lexer: &OldRuleLexer, text: &str) -> Result<String, AllocError> {
     let mut line = String::new(alloc);
     for item in lexer.items(text) {
         if let Item::Token(token) = item {
@@ -93,7 +93,7 @@ fn names_in(alloc: Global, lexer: &RuleLexer, text: &str) -> Result<String, Allo
 
 fn names_in_linear_time(
     alloc: Global,
-    lexer: &RuleLexer,
+    lexer: &OldRuleLexer,
     text: &str,
 ) -> Result<String, AllocError> {
     let mut line = String::new(alloc);

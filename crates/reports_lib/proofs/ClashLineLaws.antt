@@ -4,10 +4,10 @@ use Rattle.std.specs.Prelude.{Option, option_map, unwrap_or, slice_get, flat_map
 use Rattle.std.proofs.lemmas.List.{append-nil, take_more, map-append, length-map, length-take-le}
 use Rattle.std.proofs.lemmas.Option.{slice_get-map}
 use Rattle.lalrpop_hir.specs.Clashes.{Entry}
-use Rattle.lalrpop_modes.specs.ModeSet.{rules_of}
-use Rattle.lalrpop_modes.specs.declared.mode_rule.ModeRule.{ModeRule}
+use Rattle.lalrpop_rules.specs.ModeSet.{rules_of}
+use Rattle.bajofeki_rules.specs.declared.mode_rule.ModeRule.{ModeRule}
 use Rattle.lalrpop_rules.specs.RuleSet.{names_of}
-use Rattle.lalrpop_rules.specs.declared.rule.Rule.{Rule}
+use Rattle.bajofeki_rules.specs.declared.rule.Rule.{Rule}
 use Rattle.reports_lib.specs.ItemLines.{mode_named, name_at}
 use Rattle.reports_lib.specs.RuleClashes.{named_line, clash_lines}
 

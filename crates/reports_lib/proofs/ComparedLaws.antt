@@ -9,9 +9,9 @@ use Rattle.std.specs.String.{string_eq}
 use Rattle.std.proofs.lemmas.List.{append-nil, length-append}
 use Rattle.std.proofs.lemmas.Slice.Eq.{bytes_eq-Decides, slice_eq-Decides}
 use Rattle.lalrpop_hir.proofs.Pushed.{pushed_cases}
-use Rattle.lalrpop_modes.specs.Modes.{ModeRules}
-use Rattle.lalrpop_modes.specs.Stack.{actions_of}
-use Rattle.lalrpop_modes.specs.declared.action.Action.{Action}
+use Rattle.lalrpop_rules.specs.Modes.{ModeRules}
+use Rattle.bajofeki_rules.specs.Stack.{actions_of}
+use Rattle.bajofeki_rules.specs.declared.action.Action.{Action}
 use Rattle.lalrpop_review.specs.Apart.{told}
 use Rattle.lalrpop_verdicts.specs.Differences.{Answers}
 use Rattle.lexdfa_lib.specs.Watch.{AppendsPrefix}

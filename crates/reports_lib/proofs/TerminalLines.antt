@@ -5,7 +5,7 @@ use Rattle.std.specs.Str.{chars, chars_after, continuation_len, lead_bits}
 use Rattle.std.proofs.lemmas.Option.{slice_get_within}
 use Rattle.lalrpop_hir.specs.Tree.{Tree}
 use Rattle.lalrpop_lexer.specs.Line.{LineSays}
-use Rattle.lalrpop_lexer.specs.Lines.{lines, begin_with}
+use Rattle.bajofeki_rules.specs.Lines.{lines, begin_with}
 use Rattle.lalrpop_lexer.specs.Terminals.{AreTerminals, FirstSays}
 use Rattle.lalrpop_lexer.specs.declared.terminal_line.TerminalLine.{TerminalLine}
 

@@ -2,10 +2,10 @@
 -- The answer for two files of rules that are compared.
 use Rattle.std.specs.Prelude.{◌≡◌, ◌≢◌, ℕ, ◌+◌, min, ◌⊎◌, Bool, true, false, List, [], ◌∷◌, ◌++◌, length, Option, Some, None, slice_get, codes, flat_map}
 use Rattle.lalrpop_dfa.specs.Witness.{IsLeast}
-use Rattle.lalrpop_lexer.specs.Quoted.{quoted_word}
-use Rattle.lalrpop_modes.specs.Modes.{ModeRules}
-use Rattle.lalrpop_modes.specs.declared.action.Action.{Action}
-use Rattle.lalrpop_modes.specs.declared.action.Action.TheVariants.{Mode, Push, Pop}
+use Rattle.bajofeki_rules.specs.Quoted.{quoted_word}
+use Rattle.lalrpop_rules.specs.Modes.{ModeRules}
+use Rattle.bajofeki_rules.specs.declared.action.Action.{Action}
+use Rattle.bajofeki_rules.specs.declared.action.Action.TheVariants.{Mode, Push, Pop}
 use Rattle.lalrpop_review.specs.Apart.{Told, told, IsTokenIn, TellsApart}
 use Rattle.lalrpop_verdicts.specs.Differences.{Answers}
 use Rattle.reports_lib.specs.Answer.{Answer}

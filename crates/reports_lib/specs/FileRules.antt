@@ -1,7 +1,7 @@
 -- cases: proofs/Cases/FileRules.antt
 -- The rules of a file, as a lexer takes them.
 use Rattle.std.specs.Prelude.{◌≡◌, List, map}
-use Rattle.lalrpop_modes.specs.declared.mode_rule.ModeRule.{ModeRule}
+use Rattle.bajofeki_rules.specs.declared.mode_rule.ModeRule.{ModeRule}
 use Rattle.lalrpop_re.specs.NamedPart.{NamedPart}
 use Rattle.lalrpop_rule_file.specs.RuleFile as file
 use Rattle.lalrpop_rule_file.specs.declared.file_rule.FileRule.{FileRule}

@@ -4,13 +4,13 @@ use Rattle.std.specs.Prelude.{ℕ, ◌+◌, nat_lt, Bool, true, false, List, [],
 use Rattle.std.specs.Bool.{then_some}
 use Rattle.json.specs.Token as json
 use Rattle.json.specs.Print.{print}
-use Rattle.lalrpop_lexer.specs.Position.{position_of}
-use Rattle.lalrpop_lexer.specs.declared.position.Position.{Position}
-use Rattle.lalrpop_modes.specs.Modes.{ModeRules, after}
-use Rattle.lalrpop_modes.specs.Stack.{Stack, start as first_stack}
+use Rattle.bajofeki_rules.specs.Position.{position_of}
+use Rattle.bajofeki_rules.specs.declared.position.Position.{Position}
+use Rattle.lalrpop_rules.specs.Modes.{ModeRules, after}
+use Rattle.bajofeki_rules.specs.Stack.{Stack, start as first_stack}
 use Rattle.lalrpop_rules.specs.declared.item.Item.{Item}
 use Rattle.lalrpop_rules.specs.declared.item.Item.TheVariants.{Token, Skipped, Fault}
-use Rattle.lalrpop_lexer.specs.Quoted.{quoted}
+use Rattle.bajofeki_rules.specs.Quoted.{quoted}
 use Rattle.reports_lib.specs.declared.layout.Layout.{Layout}
 use Rattle.reports_lib.specs.declared.layout.LineForm.{LineForm}
 use Rattle.reports_lib.specs.declared.layout.LineForm.TheVariants.{Plain, Json}

@@ -10,19 +10,19 @@ use Rattle.lalrpop_re.specs.declared.error.SyntaxKind.{SyntaxKind}
 use Rattle.lalrpop_re.specs.declared.error.SyntaxKind.TheVariants as kinds
 use Rattle.lalrpop_lexer.specs.Line.{IsLine}
 use Rattle.lalrpop_lexer.specs.declared.form.Form.TheVariants.{Pattern}
-use Rattle.lalrpop_lexer.specs.declared.position.Position.{Position}
+use Rattle.bajofeki_rules.specs.declared.position.Position.{Position}
 use Rattle.lalrpop_rule_file.specs.RuleFault.{reason_of}
-use Rattle.lalrpop_rules.specs.declared.rule_text.RuleText.{RuleText}
-use Rattle.lalrpop_rules.specs.declared.rule_text.RuleText.TheVariants as texts
+use Rattle.bajofeki_rules.specs.declared.rule_text.RuleText.{RuleText}
+use Rattle.bajofeki_rules.specs.declared.rule_text.RuleText.TheVariants as texts
 use Rattle.lalrpop_rules.specs.RuleSet.{names_of}
-use Rattle.lalrpop_modes.specs.declared.error.ModesError.{ModesError}
-use Rattle.lalrpop_modes.specs.declared.error.ModesError.TheVariants as modes_errors
-use Rattle.lalrpop_rules.specs.declared.rule.Rule.{Rule}
+use Rattle.lalrpop_rules.specs.declared.error.RulesError.{RulesError}
+use Rattle.lalrpop_rules.specs.declared.error.RulesError.TheVariants as modes_errors
+use Rattle.bajofeki_rules.specs.declared.rule.Rule.{Rule}
 use Rattle.lalrpop_rule_file.specs.declared.error.RuleFileError.{RuleFileError}
 use Rattle.lalrpop_rule_file.specs.declared.error.RuleFileError.TheVariants as file_errors
 use Rattle.lexdfa_lib.specs.declared.outcome.Outcome.{Outcome}
 use Rattle.lexdfa_lib.specs.declared.outcome.Outcome.TheVariants as outcomes
-use Rattle.lalrpop_lexer.specs.Quoted.{quoted_word}
+use Rattle.bajofeki_rules.specs.Quoted.{quoted_word}
 use Rattle.reports_lib.specs.ItemLines.{mode_named, name_at}
 
 -- ---- in words
@@ -116,7 +116,7 @@ mode_said (Some mode) = codes " in mode " ++ mode
 
 -- what is said of rules of modes with these names, whose texts begin at these places: where a text that can't be used begins, or doesn't parse; of a clash, both
 -- names and lines, and the mode, if there are several
-abbrev pub SaysRules : List (List ℕ) → List Rule → List Position → ModesError → List ℕ → Type 0
+abbrev pub SaysRules : List (List ℕ) → List Rule → List Position → RulesError → List ℕ → Type 0
 SaysRules modes rs places (modes_errors.NotParsed i position kind) said =
     (shown : List ℕ) × (said ≡ placed (place_at places i).line ((place_at places i).column + length (chars (take position (text_at rs i)))) (syntax_text kind) shown)
 SaysRules modes rs places (modes_errors.BadEnd i error) said = (shown : List ℕ) × (said ≡ placed (place_at places i).line (place_at places i).column (bad_end_text error) shown)
@@ -129,7 +129,7 @@ SaysRules modes rs places modes_errors.OutOfMemory said = ⊥
 
 -- an error that rules of a file can have: they name only modes that are there, and a pattern that doesn't parse stops where a character
 -- begins, or at its end
-abbrev pub CanBeSaid : List Rule → ModesError → Type 0
+abbrev pub CanBeSaid : List Rule → RulesError → Type 0
 CanBeSaid rs (modes_errors.NoSuchMode i m) = ⊥
 CanBeSaid rs (modes_errors.NotParsed i position kind) = IsCharBoundary (text_at rs i) position
 CanBeSaid rs error = Unit {0}

@@ -1,6 +1,6 @@
 -- A file of rules, as a report speaks of it.
 use Rattle.std.specs.Prelude.{ℕ, List}
-use Rattle.lalrpop_lexer.specs.declared.position.Position.{Position}
+use Rattle.bajofeki_rules.specs.declared.position.Position.{Position}
 
 -- its name, the names of its modes and of its rules, and where the texts of the rules begin
 pub record ReportedFile : Type 0 where

@@ -5,7 +5,7 @@ use Rattle.json.specs.Token as json
 use Rattle.json.specs.Print.{print}
 use Rattle.lalrpop_hir.specs.Clashes.{Entry}
 use Rattle.lalrpop_dfa.specs.Witness.{OpenMatch}
-use Rattle.lalrpop_lexer.specs.Quoted.{is_character}
+use Rattle.bajofeki_rules.specs.Quoted.{is_character}
 use Rattle.lalrpop_review.specs.declared.idle.IdleRule.{IdleRule}
 use Rattle.lalrpop_review.specs.declared.look.Look.{Look}
 use Rattle.lalrpop_review.specs.declared.look.Look.TheVariants.{AtMost, Unbounded}

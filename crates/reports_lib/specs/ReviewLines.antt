@@ -4,8 +4,8 @@ use Rattle.std.specs.Prelude.{ℕ, ◌+◌, nat_lt, Bool, ◌||◌, ◌==◌, Li
 use Rattle.std.specs.List.{join_by, list_any}
 use Rattle.lalrpop_hir.specs.Clashes.{Entry}
 use Rattle.lalrpop_dfa.specs.Witness.{OpenMatch}
-use Rattle.lalrpop_lexer.specs.Quoted.{quoted_word}
-use Rattle.lalrpop_lexer.specs.declared.position.Position.{Position}
+use Rattle.bajofeki_rules.specs.Quoted.{quoted_word}
+use Rattle.bajofeki_rules.specs.declared.position.Position.{Position}
 use Rattle.lalrpop_review.specs.declared.idle.IdleRule.{IdleRule}
 use Rattle.lalrpop_review.specs.declared.look.Look.{Look}
 use Rattle.lalrpop_review.specs.declared.look.Look.TheVariants.{AtMost, Unbounded}

@@ -2,7 +2,7 @@
 -- What is written for all clashes of named rules.
 use Rattle.std.specs.Prelude.{ℕ, ◌+◌, List, [], ◌∷◌, ◌++◌, Option, Some, None, codes, flat_map}
 use Rattle.lalrpop_hir.specs.Clashes.{Entry}
-use Rattle.lalrpop_lexer.specs.Quoted.{quoted_word}
+use Rattle.bajofeki_rules.specs.Quoted.{quoted_word}
 use Rattle.reports_lib.specs.ItemLines.{mode_named, name_at}
 
 -- the mode, if it is named

@@ -1,7 +1,7 @@
 -- cases: proofs/Cases/Warned.antt
 -- What is said of what a file of rules says, but surely doesn't mean.
 use Rattle.std.specs.Prelude.{◌≡◌, ◌↔◌, ℕ, List, ◌++◌, Contains, codes, decimal, flat_map, map}
-use Rattle.lalrpop_lexer.specs.declared.position.Position.{Position}
+use Rattle.bajofeki_rules.specs.declared.position.Position.{Position}
 use Rattle.lalrpop_rule_file.specs.Warnings.{AreInOrder, IsWarning}
 use Rattle.lalrpop_rule_file.specs.declared.file.RuleFile.{RuleFile}
 use Rattle.lalrpop_rule_file.specs.declared.file_rule.FileRule.{FileRule}

@@ -10,7 +10,7 @@ ghost use Rattle.reports_lib.specs.ItemLines.{mode_named, name_at};
 use crate::file_lexer::FileLexer;
 use lalrpop_lexer::ShownWord;
 use lalrpop_lexer::lexer::dfa::NfaIndex;
-use lalrpop_modes::{Action, ModeLexer};
+use lalrpop_rules::{Action, RuleLexer};
 use lalrpop_review::{Difference, difference_in};
 use lexdfa_lib::{RunError, Watched, write_whole};
 use std::alloc::{AllocError, Global};
@@ -39,14 +39,14 @@ fn push_action(text: &mut String, modes: &[String], action: Action) -> Result<()
 }
 
 // The name of the rule with this index, or the empty string if no rule has it.
-fn rule_name(lexer: &ModeLexer, rule: NfaIndex) -> &str
+fn rule_name(lexer: &RuleLexer, rule: NfaIndex) -> &str
     ensures { result.now ≡ name_at lexer.now.names rule }
 {
     lexer.name(rule).unwrap_or("")
 }
 
 // Whether it is skipped.
-fn is_skipped(lexer: &ModeLexer, rule: NfaIndex) -> bool
+fn is_skipped(lexer: &RuleLexer, rule: NfaIndex) -> bool
     ensures { result ≡ unwrap_or (slice_get lexer.now.skips rule) false }
 {
     lexer.skips().get(rule.index()).copied().unwrap_or(false)
@@ -66,7 +66,7 @@ fn push_skip(text: &mut String, is_skipped: bool) -> Result<(), AllocError>
 fn push_token(
     text: &mut String,
     modes: &[String],
-    lexer: &ModeLexer,
+    lexer: &RuleLexer,
     rule: Option<NfaIndex>,
 ) -> Result<(), AllocError>
     ensures { OnOk result (string_bytes text.new ≡ string_bytes text.old

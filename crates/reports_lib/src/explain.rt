@@ -2,12 +2,12 @@
 ghost use Rattle.std.specs.Prelude.{◌≡◌, ◌==◌, ◌<◌, ◌+◌, ◌∷◌, ◌++◌, ℕ, [], List, Some, codes, length, option_map, position, slice_get, string_bytes, IfNone, IfOk, IfSome};
 ghost use Rattle.std.specs.Str.{IsUtf8};
 ghost use Rattle.lalrpop_lexer.specs.Line.{IsLine, LineSays};
-ghost use Rattle.lalrpop_lexer.specs.Lines.{lines};
+ghost use Rattle.bajofeki_rules.specs.Lines.{lines};
 ghost use Rattle.lalrpop_lexer.specs.Terminals.{FirstSays};
 ghost use Rattle.lalrpop_lexer.specs.declared.form.Form.TheVariants.{Pattern};
 ghost use Rattle.lalrpop_lexer.specs.declared.terminal_line.TerminalLine.TheVariants.{NoTree};
 ghost use Rattle.lexdfa_lib.specs.Answer.{IsReported};
-ghost use Rattle.lalrpop_lexer.specs.Quoted.{quoted_word};
+ghost use Rattle.bajofeki_rules.specs.Quoted.{quoted_word};
 ghost use Rattle.reports_lib.specs.Reasons.{IsPatternColumn, SaysNoTerminal, SaysSyntax, SaysTerminals, clash_advice, clash_text};
 
 use crate::reasons::{

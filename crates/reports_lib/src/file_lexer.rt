@@ -1,7 +1,7 @@
 //! The lexer of the rules of a file.
 ghost use Rattle.std.specs.Prelude.{◌≡◌, map, string_bytes, IfOk, IfErr};
 
-use lalrpop_modes::ModeLexer;
+use lalrpop_rules::RuleLexer;
 use lexdfa_lib::RunError;
 use std::alloc::{AllocError, Global};
 
@@ -11,13 +11,13 @@ use std::alloc::{AllocError, Global};
 /// use reports_lib::{FileLexer, ModeFile, with_names};
 ///
 /// let file = ModeFile::of(alloc, &read)?;
-/// let lexer = ModeLexer::from_rules(alloc, &file.rules, file.modes.len())?;
+/// let lexer = RuleLexer::from_rules(alloc, &file.rules, file.modes.len())?;
 /// let FileLexer { lexer, modes } = with_names(alloc, lexer, &file.modes)?;
 /// ```
 #[derive(Debug, Drop)]
 pub struct FileLexer {
     /// The lexer.
-    pub lexer: ModeLexer,
+    pub lexer: RuleLexer,
     /// The names of the modes, in order.
     pub modes: Vec<String>,
 }
@@ -39,7 +39,7 @@ fn owned_names(alloc: Global, names: &[&str]) -> Result<Vec<String>, AllocError>
 /// # Errors
 ///
 /// `OutOfMemory` if a request for memory was refused.
-pub fn with_names(alloc: Global, lexer: ModeLexer, names: &[&str]) -> Result<FileLexer, RunError>
+pub fn with_names(alloc: Global, lexer: RuleLexer, names: &[&str]) -> Result<FileLexer, RunError>
     ensures lexer { IfOk result (λ f. f.lexer ≡ lexer) }
     ensures names { IfOk result (λ f.
         map string_bytes f.modes.items ≡ map (λ m. m.now) names.now) }

@@ -1,7 +1,7 @@
 //! What the program says of files of rules and of terminals that give no lexer, for programs of one's own.
 ghost use Rattle.std.specs.Prelude.{◌≡◌, ℕ, List, map, string_bytes, IfOk};
-ghost use Rattle.lalrpop_lexer.specs.Lines.{lines};
-ghost use Rattle.lalrpop_modes.specs.ModeSet.{rules_of};
+ghost use Rattle.bajofeki_rules.specs.Lines.{lines};
+ghost use Rattle.lalrpop_rules.specs.ModeSet.{rules_of};
 ghost use Rattle.lexdfa_lib.specs.Answer.{IsReported};
 ghost use Rattle.reports_lib.specs.Answer.{about, headed};
 ghost use Rattle.reports_lib.specs.Reasons.{CanBeSaid, SaysBadLine, SaysRules, SaysTerminals};
@@ -9,7 +9,7 @@ ghost use Rattle.reports_lib.specs.Reasons.{CanBeSaid, SaysBadLine, SaysRules, S
 use crate::explain::explanation;
 use crate::mode_file::ModeFile;
 use crate::rule_explain::{bad_line_explained, can_be_said, rules_explained};
-use lalrpop_modes::ModesError;
+use lalrpop_rules::RulesError;
 use lalrpop_rule_file::{RuleFileError, without_mark};
 use lexdfa_lib::Outcome;
 use std::alloc::{AllocError, Global};
@@ -69,14 +69,14 @@ pub fn bad_line_message(
 /// its line; of a clash both lines, the word, and what can be done. It ends with a line feed.
 ///
 /// The bytes are those that `lalrpop_rule_file::read_rules` was given, the file is what it read, and the error is one of
-/// `ModeLexer::from_rules` or `mode_clashes` for its rules. Any other error is only said not to be one of these rules.
+/// `RuleLexer::from_rules` or `mode_clashes` for its rules. Any other error is only said not to be one of these rules.
 ///
 /// ```
-/// use tokens_lib::{ModeFile, ModeLexer, read_rules, rules_message};
+/// use tokens_lib::{ModeFile, RuleLexer, read_rules, rules_message};
 ///
 /// let read = read_rules(alloc, bytes)?;
 /// let file = ModeFile::of(alloc, &read)?;
-/// if let Err(error) = ModeLexer::from_rules(alloc, &file.rules, file.modes.len()) {
+/// if let Err(error) = RuleLexer::from_rules(alloc, &file.rules, file.modes.len()) {
 ///     let message = rules_message(alloc, "c.rules", bytes, &file, &error)?; // "tokens: c.rules:2: B clashes with A ..\n"
 /// }
 /// ```
@@ -89,7 +89,7 @@ pub fn rules_message(
     name: &str,
     bytes: &[u8],
     file: &ModeFile<'_>,
-    error: &ModesError,
+    error: &RulesError,
 ) -> Result<String, AllocError>
     ensures message { IfOk result (λ message.
         CanBeSaid (rules_of file.now.rules.items) error.now → (said : List ℕ)

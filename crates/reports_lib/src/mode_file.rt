@@ -3,18 +3,18 @@ ghost use Rattle.std.specs.Prelude.{◌≡◌, map, IfOk};
 ghost use Rattle.reports_lib.specs.FileRules.{AreFileRules};
 
 use lalrpop_lexer::Position;
-use lalrpop_modes::ModeRule;
+use lalrpop_rules::ModeRule;
 use lalrpop_rule_file::{FileRule, RuleFile};
 use std::alloc::{AllocError, Global};
 
-/// The rules of a file as `ModeLexer::from_rules` takes them, their modes, and where their texts begin.
+/// The rules of a file as `RuleLexer::from_rules` takes them, their modes, and where their texts begin.
 ///
 /// ```
-/// use tokens_lib::{ModeFile, ModeLexer, read_rules};
+/// use tokens_lib::{ModeFile, RuleLexer, read_rules};
 ///
 /// let read = read_rules(alloc, b"IF = 'if'\nNAME = 1 /[a-z]+/\n")?;
 /// let file = ModeFile::of(alloc, &read)?;
-/// let lexer = ModeLexer::from_rules(alloc, &file.rules, file.modes.len())?;
+/// let lexer = RuleLexer::from_rules(alloc, &file.rules, file.modes.len())?;
 /// ```
 #[derive(Debug, Drop)]
 pub struct ModeFile<'text> {

@@ -1,7 +1,7 @@
 //! The lines of the clashes of named rules.
 ghost use Rattle.std.specs.Prelude.{◌≡◌, ◌≢◌, ◌++◌, List, map, flat_map, option_map, false, true, string_bytes, IfOk, OnOk, OnErr, IfErr};
 ghost use Rattle.std.specs.Io.KnownBytes.{Appends};
-ghost use Rattle.lalrpop_modes.specs.ModeSet.{rules_of};
+ghost use Rattle.lalrpop_rules.specs.ModeSet.{rules_of};
 ghost use Rattle.lalrpop_rules.specs.RuleSet.{names_of};
 ghost use Rattle.lexdfa_lib.specs.Watch.{AppendsPrefix};
 ghost use Rattle.reports_lib.specs.ItemLines.{mode_named as mode_named_of, name_at};
@@ -10,7 +10,7 @@ ghost use Rattle.reports_lib.specs.RuleClashes.{clash_lines, mode_text, named_li
 
 use lalrpop_lexer::ShownWord;
 use lalrpop_lexer::lexer::dfa::Clash;
-use lalrpop_modes::ModeRule;
+use lalrpop_rules::ModeRule;
 use lexdfa_lib::{RunError, Watched, write_whole};
 use std::alloc::{AllocError, Global};
 use std::io::Write;
@@ -115,7 +115,7 @@ fn lines_of(
     Ok(lines)
 }
 
-/// Writes a line for each of these clashes, mode by mode, as `lalrpop_modes::mode_clashes` finds them: the name of the mode, if
+/// Writes a line for each of these clashes, mode by mode, as `lalrpop_rules::mode_clashes` finds them: the name of the mode, if
 /// there are several, the names of the two rules, the earlier one first, and the word in quotes.
 ///
 /// ```

@@ -1,7 +1,7 @@
 //! What is wrong with a pattern, in words for people, and the place in its line.
 ghost use Rattle.std.specs.Prelude.{◌≡◌, ◌++◌, ℕ, List, chars, codes, length, string_bytes, take, IfOk, OnOk};
 ghost use Rattle.std.specs.Str.{IsCharBoundary};
-ghost use Rattle.lalrpop_lexer.specs.Quoted.{quoted_word};
+ghost use Rattle.bajofeki_rules.specs.Quoted.{quoted_word};
 ghost use Rattle.reports_lib.specs.Reasons.{bad_end_text, clash_advice, numbered, placed, refusal_text, syntax_text};
 
 use lalrpop_re::FromToError;

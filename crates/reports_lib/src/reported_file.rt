@@ -1,12 +1,12 @@
 //! A file of rules that a report speaks of.
 ghost use Rattle.std.specs.Prelude.{◌≡◌, map, option_map};
-ghost use Rattle.lalrpop_modes.specs.ModeSet.{rules_of};
+ghost use Rattle.lalrpop_rules.specs.ModeSet.{rules_of};
 ghost use Rattle.lalrpop_rules.specs.RuleSet.{names_of};
 
 use crate::named_clashes::{mode_named, name_of};
 use lalrpop_lexer::Position;
 use lalrpop_lexer::lexer::dfa::NfaIndex;
-use lalrpop_modes::ModeRule;
+use lalrpop_rules::ModeRule;
 use std::marker::Model;
 
 // A place for a number that no rule has.
@@ -27,7 +27,7 @@ pub(crate) struct ReportedFile<'text> {
 
 impl<'text> Model for ReportedFile<'text> {
     ghost use Rattle.std.specs.Prelude.{map};
-    ghost use Rattle.lalrpop_modes.specs.ModeSet.{rules_of};
+    ghost use Rattle.lalrpop_rules.specs.ModeSet.{rules_of};
     ghost use Rattle.lalrpop_rules.specs.RuleSet.{names_of};
     ghost use Rattle.reports_lib.specs.ReportedFile.{ReportedFile};
 

@@ -1,6 +1,6 @@
 //! What a review says, in plain lines, and the whole of it.
 ghost use Rattle.std.specs.Prelude.{◌≡◌, ◌++◌, flat_map, map, option_map, string_bytes, IfOk, OnOk};
-ghost use Rattle.lalrpop_modes.specs.ModeSet.{rules_of};
+ghost use Rattle.lalrpop_rules.specs.ModeSet.{rules_of};
 ghost use Rattle.lalrpop_rules.specs.RuleSet.{names_of};
 ghost use Rattle.reports_lib.specs.Internal.Commas.{comma_before};
 ghost use Rattle.reports_lib.specs.Reasons.{mode_said};
@@ -11,7 +11,7 @@ use crate::reported_file::ReportedFile;
 use crate::review_json::{automaton_object, clash_object, empty_object, idle_object};
 use lalrpop_lexer::lexer::dfa::{Clash, NfaIndex, Witness};
 use lalrpop_lexer::{Position, ShownWord};
-use lalrpop_modes::ModeRule;
+use lalrpop_rules::ModeRule;
 use lalrpop_review::{IdleRule, Look, ModeReview, Review, WonWord};
 use std::alloc::{AllocError, Global};
 
@@ -480,7 +480,7 @@ fn clashes_told(
     Ok(lines)
 }
 
-/// The text of the clashes of rules with these modes, as `lalrpop_modes::mode_clashes` finds them, mode by mode: a line for each,
+/// The text of the clashes of rules with these modes, as `lalrpop_rules::mode_clashes` finds them, mode by mode: a line for each,
 /// at the place where the text of the later rule begins. A line names the mode if there are several.
 ///
 /// ```

@@ -1,8 +1,8 @@
 //! Why a file of named rules gives no lexer, in words for people.
 ghost use Rattle.std.specs.Prelude.{◌≡◌, ◌+◌, ◌≤◌, ℕ, List, false, true, map, option_map, string_bytes, IfOk};
-ghost use Rattle.lalrpop_modes.specs.ModeSet.{rules_of};
+ghost use Rattle.lalrpop_rules.specs.ModeSet.{rules_of};
 ghost use Rattle.lalrpop_rules.specs.RuleSet.{names_of};
-ghost use Rattle.lalrpop_lexer.specs.Quoted.{quoted_word};
+ghost use Rattle.bajofeki_rules.specs.Quoted.{quoted_word};
 ghost use Rattle.lalrpop_rule_file.specs.RuleFault.{reason_of};
 ghost use Rattle.reports_lib.specs.ItemLines.{mode_named as mode_named_of, name_at};
 ghost use Rattle.reports_lib.specs.Reasons.{CanBeSaid, SaysBadLine, SaysRules, clash_advice, clash_text, mode_said, parsed_text as what_is_parsed, place_at, placed, syntax_text, text_at};
@@ -15,7 +15,7 @@ use crate::reasons::{
 };
 use lalrpop_lexer::lexer::re::SyntaxKind;
 use lalrpop_lexer::{Position, Terminals, read_terminals};
-use lalrpop_modes::{ModeRule, ModesError};
+use lalrpop_rules::{ModeRule, RulesError};
 use lalrpop_rule_file::{LineFault, RuleFileError};
 use lalrpop_rules::RuleText;
 use std::alloc::{AllocError, Global};
@@ -170,13 +170,13 @@ fn clash_explained(
 }
 
 /// Whether rules of a file can have this error.
-pub(crate) fn can_be_said(file: &ModeFile<'_>, error: &ModesError) -> bool
+pub(crate) fn can_be_said(file: &ModeFile<'_>, error: &RulesError) -> bool
     ensures yes { result ≡ true → CanBeSaid (rules_of file.now.rules.items) error.now }
     ensures no { result ≡ false → ¬ CanBeSaid (rules_of file.now.rules.items) error.now }
 {
     match error {
-        ModesError::NoSuchMode { .. } => false,
-        ModesError::NotParsed { rule, position, .. } => {
+        RulesError::NoSuchMode { .. } => false,
+        RulesError::NotParsed { rule, position, .. } => {
             text_of(&file.rules, *rule).is_char_boundary(*position)
         }
         _ => true,
@@ -193,7 +193,7 @@ pub fn rules_explained(
     alloc: Global,
     bytes: &[u8],
     file: &ModeFile<'_>,
-    error: &ModesError,
+    error: &RulesError,
 ) -> Result<String, AllocError>
     requires error { CanBeSaid (rules_of file.now.rules.items) error.now }
     ensures said { IfOk result (λ message.
@@ -202,8 +202,8 @@ pub fn rules_explained(
 {
     match error {
         // A file names the modes that it has.
-        ModesError::NoSuchMode { .. } => unreachable!(),
-        ModesError::NotParsed {
+        RulesError::NoSuchMode { .. } => unreachable!(),
+        RulesError::NotParsed {
             rule,
             position,
             kind,
@@ -211,19 +211,19 @@ pub fn rules_explained(
             let inside = characters_before(text_of(&file.rules, *rule), *position);
             syntax_explained(alloc, bytes, place_of(file, *rule), inside, *kind)
         }
-        ModesError::BadEnd { rule, error } => {
+        RulesError::BadEnd { rule, error } => {
             text_explained(alloc, bytes, place_of(file, *rule), bad_end_text(*error))
         }
-        ModesError::NotCompiled { rule, error } => {
+        RulesError::NotCompiled { rule, error } => {
             text_explained(alloc, bytes, place_of(file, *rule), refusal_text(*error))
         }
-        ModesError::Clash {
+        RulesError::Clash {
             mode,
             rule,
             other,
             word,
         } => clash_explained(alloc, bytes, file, *mode, (*other, *rule), word),
-        ModesError::OutOfMemory => Err(AllocError),
+        RulesError::OutOfMemory => Err(AllocError),
     }
 }
 

@@ -1,7 +1,7 @@
 //! Files of rules, and what is wrong with them.
 
 use crate::rules::{expect, halves};
-use lalrpop_modes::{ModeLexer, ModesError};
+use lalrpop_rules::{RuleLexer, RulesError};
 use lalrpop_rule_file::{FileRule, RuleFile, RuleFileError, read_rules};
 use std::alloc::{AllocError, Global};
 
@@ -365,7 +365,7 @@ fn rules_know_the_parts_above_them(rt: HostRuntime) {
 }
 
 // The slices of the pieces of a text.
-fn slices<'x>(alloc: Global, lexer: &'x ModeLexer, text: &'x str) -> Result<String, AllocError> {
+fn slices<'x>(alloc: Global, lexer: &'x RuleLexer, text: &'x str) -> Result<String, AllocError> {
     let mut line = String::new(alloc);
     for item in lexer.items(alloc, text) {
         match item {
@@ -382,7 +382,7 @@ fn cut_by(alloc: Global, file: &RuleFile, text: &str) -> Result<String, AllocErr
     if modes == 0 {
         return Err(AllocError);
     }
-    match ModeLexer::from_rules(alloc, &rules, modes) {
+    match RuleLexer::from_rules(alloc, &rules, modes) {
         Ok(lexer) => slices(alloc, &lexer, text),
         Err(_) => Err(AllocError),
     }
@@ -401,9 +401,9 @@ fn refusal(alloc: Global, file: &RuleFile) -> Result<String, AllocError> {
     if modes == 0 {
         return Err(AllocError);
     }
-    match ModeLexer::from_rules(alloc, &rules, modes) {
+    match RuleLexer::from_rules(alloc, &rules, modes) {
         Ok(_) => String::from_str(alloc, "none"),
-        Err(ModesError::OutOfMemory) => Err(AllocError),
+        Err(RulesError::OutOfMemory) => Err(AllocError),
         Err(error) => format!(in alloc; "{error}"),
     }
 }

@@ -3,7 +3,7 @@
 use lalrpop_lexer::Lexer;
 use lalrpop_lexer::lexer::dfa::Precedence;
 use lalrpop_lexer::lexer::re::{Regex, RegexError, parse_literal, parse_regex};
-use lalrpop_rules::{Item, Rule, RuleLexer};
+use lalrpop_rules::{Item, Rule, OldRuleLexer};
 use std::alloc::{AllocError, Global};
 use std::process::Abort;
 
@@ -48,15 +48,15 @@ pub(crate) fn word_lexer(alloc: Global) -> Result<Lexer, AllocError> {
 }
 
 /// The lexer of the rules.
-pub(crate) fn lexer_from(alloc: Global, rules: &[Rule]) -> Result<RuleLexer, AllocError> {
-    match RuleLexer::from_rules(alloc, rules) {
+pub(crate) fn lexer_from(alloc: Global, rules: &[Rule]) -> Result<OldRuleLexer, AllocError> {
+    match OldRuleLexer::from_rules(alloc, rules) {
         Ok(lexer) => Ok(lexer),
         Err(_) => Err(AllocError),
     }
 }
 
 /// A keyword, names, spaces, which are skipped, operators, and comments. A comment stays open for as long as it isn't closed.
-pub(crate) fn rule_lexer(alloc: Global) -> Result<RuleLexer, AllocError> {
+pub(crate) fn rule_lexer(alloc: Global) -> Result<OldRuleLexer, AllocError> {
     let rules = [
         Rule::literal("IF", "if"),
         Rule::pattern("NAME", "[a-z]+"),
@@ -70,7 +70,7 @@ pub(crate) fn rule_lexer(alloc: Global) -> Result<RuleLexer, AllocError> {
 }
 
 /// A piece, with the name of its rule and its place.
-pub(crate) fn shown(alloc: Global, lexer: &RuleLexer, item: &Item) -> Result<String, AllocError> {
+pub(crate) fn shown(alloc: Global, lexer: &OldRuleLexer, item: &Item) -> Result<String, AllocError> {
     let slice = item.slice();
     let start = item.start();
     match item {
@@ -95,7 +95,7 @@ b*? => rule 1 can't be compiled: NonGreedy
 
 // The error of two rules, whose patterns are `a` and the text.
 fn refused(alloc: Global, text: &str) -> Result<String, AllocError> {
-    match RuleLexer::from_rules(
+    match OldRuleLexer::from_rules(
         alloc,
         &[Rule::pattern("A", "a"), Rule::pattern("OTHER", text)],
     ) {
@@ -138,7 +138,7 @@ fn rules_of_one_name_are_one_kind(rt: HostRuntime) {
 
 // The pieces of a text that is cut by the rules, or why they give no lexer.
 fn cut_by(alloc: Global, rules: &[Rule], text: &str) -> Result<String, AllocError> {
-    let lexer = match RuleLexer::from_rules(alloc, rules) {
+    let lexer = match OldRuleLexer::from_rules(alloc, rules) {
         Ok(lexer) => lexer,
         Err(error) => return format!(in alloc; "{error}"),
     };

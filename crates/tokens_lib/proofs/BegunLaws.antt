@@ -10,9 +10,9 @@ use Rattle.std.proofs.lemmas.List.{append-nil, map-append, take-append-drop, dro
 use Rattle.std.proofs.lemmas.Result.{on_err_weaker}
 use Rattle.lalrpop_hir.specs.Tree.{Tree}
 use Rattle.lalrpop_rule_file.specs.RuleFile.{without_mark}
-use Rattle.lalrpop_modes.specs.Modes.{ModeRules}
+use Rattle.lalrpop_rules.specs.Modes.{ModeRules}
 use Rattle.lalrpop_edits.specs.Chunked.{Chunked}
-use Rattle.lalrpop_modes.specs.Stack.{start}
+use Rattle.bajofeki_rules.specs.Stack.{start}
 use Rattle.lalrpop_rules.specs.declared.item.Item.{Item}
 use Rattle.lexdfa_lib.proofs.Known.{Appends-again}
 use Rattle.lexdfa_lib.specs.Answer.{HaveAutomaton}

@@ -5,8 +5,8 @@ use Rattle.std.specs.Io.KnownBytes.{Appends, Consumes, IsAtEnd}
 use Rattle.lalrpop_edits.specs.Chunked.{Chunked}
 use Rattle.lalrpop_edits.specs.Decoded.{Decoding}
 use Rattle.lalrpop_edits.proofs.ChunkLaws.{came_pieces, came_rest}
-use Rattle.lalrpop_lexer.specs.Position.{position_of}
-use Rattle.lalrpop_modes.specs.Modes.{ModeRules}
+use Rattle.bajofeki_rules.specs.Position.{position_of}
+use Rattle.lalrpop_rules.specs.Modes.{ModeRules}
 use Rattle.lalrpop_rule_file.specs.RuleFile.{without_mark}
 use Rattle.lalrpop_rules.specs.Pieces.{joined}
 use Rattle.lalrpop_rules.specs.declared.item.Item.{Item}

@@ -6,8 +6,8 @@ use Rattle.std.proofs.lemmas.Str.{IsUtf8-append, IsUtf8-nil, chars-append}
 use Rattle.std.specs.Prelude.{◌||◌, Option, Some, None, is_none, is_some, map, reverse}
 use Rattle.std.specs.Borrow.{Bor}
 use Rattle.std.specs.Str.{chars, IsUtf8}
-use Rattle.lalrpop_lexer.specs.Position.{place_after, position_of, place_behind}
-use Rattle.lalrpop_lexer.specs.declared.position.Position.{Position}
+use Rattle.bajofeki_rules.specs.Position.{place_after, position_of, place_behind}
+use Rattle.bajofeki_rules.specs.declared.position.Position.{Position}
 use Rattle.lalrpop_edits.specs.Chunked.{Chunked, GivesFinal, IsFinal, nothing_come, Came, nothing, fed, given, ended}
 use Rattle.lalrpop_edits.specs.Decoded.{Decoding}
 use Rattle.lalrpop_edits.specs.Given.{item_by, item_of}
@@ -15,10 +15,10 @@ use Rattle.lalrpop_edits.specs.Lexed.{placed}
 use Rattle.lalrpop_edits.specs.declared.given_piece.GivenPiece.{GivenPiece}
 use Rattle.lalrpop_edits.proofs.Chunking.{slice_placed}
 use Rattle.lalrpop_edits.proofs.ChunkLaws.{came_nothing, came_more, came_given, came_whole, came_rest}
-use Rattle.lalrpop_modes.specs.Modes.{ModeRules, after, after_all, trees_in, AllOf}
-use Rattle.lalrpop_modes.specs.Stack.{Stack, start, actions_of}
-use Rattle.lalrpop_modes.specs.declared.action.Action.{Action}
-use Rattle.lalrpop_modes.specs.declared.action.Action.TheVariants.{Mode, Push, Pop}
+use Rattle.lalrpop_rules.specs.Modes.{ModeRules, after, after_all, trees_in, AllOf}
+use Rattle.bajofeki_rules.specs.Stack.{Stack, start, actions_of}
+use Rattle.bajofeki_rules.specs.declared.action.Action.{Action}
+use Rattle.bajofeki_rules.specs.declared.action.Action.TheVariants.{Mode, Push, Pop}
 use Rattle.lalrpop_rules.proofs.PieceLaws.{is_front}
 use Rattle.lalrpop_rules.specs.Pieces.{joined, slice_of, start_of}
 use Rattle.lalrpop_rules.specs.declared.item.Item.{Item}
@@ -29,7 +29,7 @@ use Rattle.tokens_lib.specs.Internal.CutTexts.{BeginWithin, GivesCut, IsCutInto,
 use Rattle.tokens_lib.specs.Internal.Incoming.{IsFed}
 use Rattle.tokens_lib.specs.declared.cutter.Cutter.{Cutter}
 use Rattle.tokens_lib.specs.declared.incoming.Incoming.{Incoming}
-use Rattle.lalrpop_lexer.proofs.PlaceLaws.{place_behind_slice}
+use Rattle.bajofeki_rules.proofs.PlaceLaws.{place_behind_slice}
 
 -- ---- lists of pieces
 

@@ -11,7 +11,7 @@ use Rattle.std.proofs.lemmas.Slice.Zip.{all_zipped_more, get_or-zip, length-zip}
 use Rattle.lalrpop_hir.specs.Tree.{Tree}
 use Rattle.lalrpop_hir.proofs.Pushed.{pushed_cases}
 use Rattle.lalrpop_dfa.specs.Dfa.{Row}
-use Rattle.lalrpop_modes.specs.Modes.{ModeRules}
+use Rattle.lalrpop_rules.specs.Modes.{ModeRules}
 use Rattle.lalrpop_verdicts.specs.Picture.{dot}
 use Rattle.tokens_lib.specs.Pictured.{ArePictures, AreRulePictures, AreSmallest, IsSmallestIn, IsSmallestOf, trees_named}
 

@@ -4,23 +4,23 @@ use Rattle.std.specs.Prelude.{Option, Some, None, option_map, slice_get, unwrap_
 use Rattle.std.specs.Str.{IsCharBoundary}
 use Rattle.std.proofs.lemmas.Option.{slice_get-map}
 use Rattle.lalrpop_re.specs.NamedPart.{NamedPart}
-use Rattle.lalrpop_rules.specs.RuleText.{IsParsed}
-use Rattle.lalrpop_rules.specs.declared.rule_text.RuleText.{RuleText}
-use Rattle.lalrpop_rules.specs.declared.rule_text.RuleText.TheVariants as texts
+use Rattle.bajofeki_rules.specs.RuleText.{IsParsed}
+use Rattle.bajofeki_rules.specs.declared.rule_text.RuleText.{RuleText}
+use Rattle.bajofeki_rules.specs.declared.rule_text.RuleText.TheVariants as texts
 use Rattle.lalrpop_rule_file.specs.RuleFile.{NamesMode as NamedInFile}
 use Rattle.lalrpop_rule_file.specs.declared.file_rule.FileRule.{FileRule}
 use Rattle.lalrpop_rules.specs.RuleSet.{IsNotParsed}
-use Rattle.lalrpop_modes.specs.ModeClashes.{IsModesFault}
-use Rattle.lalrpop_modes.specs.ModeSet.{IsModesError, rules_of}
-use Rattle.lalrpop_modes.specs.Modes.{OneLeadsInto}
-use Rattle.lalrpop_modes.specs.declared.action.Action.{Action}
-use Rattle.lalrpop_modes.specs.declared.error.ModesError.{ModesError}
-use Rattle.lalrpop_modes.specs.declared.error.ModesError.TheVariants as errors
-use Rattle.lalrpop_modes.specs.declared.mode_rule.ModeRule.{ModeRule}
+use Rattle.lalrpop_rules.specs.ModeClashes.{IsModesFault}
+use Rattle.lalrpop_rules.specs.ModeSet.{IsRulesError, rules_of}
+use Rattle.bajofeki_rules.specs.EnteredModes.{OneLeadsInto}
+use Rattle.bajofeki_rules.specs.declared.action.Action.{Action}
+use Rattle.lalrpop_rules.specs.declared.error.RulesError.{RulesError}
+use Rattle.lalrpop_rules.specs.declared.error.RulesError.TheVariants as errors
+use Rattle.bajofeki_rules.specs.declared.mode_rule.ModeRule.{ModeRule}
 use Rattle.reports_lib.specs.FileRules.{AreFileRules}
 use Rattle.reports_lib.specs.Reasons.{parsed_text, text_at, CanBeSaid}
 use Rattle.tokens_lib.specs.Internal.Faults.{NameOnly}
-use Rattle.lalrpop_rules.specs.declared.rule.Rule.{Rule}
+use Rattle.bajofeki_rules.specs.declared.rule.Rule.{Rule}
 
 -- ---- rules
 
@@ -51,7 +51,7 @@ stops_inside rs i position h = subst (λ (x : List ℕ). IsCharBoundary x positi
 -- ---- modes
 
 -- a file names no mode that it hasn't
-no_other_mode : (rs : List ModeRule) (n i m : ℕ) → NameOnly rs n → ¬ IsModesError rs n (errors.NoSuchMode i m)
+no_other_mode : (rs : List ModeRule) (n i m : ℕ) → NameOnly rs n → ¬ IsRulesError rs n (errors.NoSuchMode i m)
 no_other_mode rs n i m within is = let below = within i m is.1.0 is.1.1.0 is.1.1.1 in omega (arith, below, is.0)
 
 -- what a file of rules names is what a lexer takes
@@ -84,7 +84,7 @@ pub names_only : (ps : List NamedPart) (fs : List FileRule) (rs : List ModeRule)
 names_only ps fs rs n are within = rule_named ps fs rs n are within
 
 -- the error of a lexer can be said
-pub error_said : (rs : List ModeRule) (n : ℕ) (error : ModesError) → NameOnly rs n → IsModesError rs n error → CanBeSaid (rules_of rs) error
+pub error_said : (rs : List ModeRule) (n : ℕ) (error : RulesError) → NameOnly rs n → IsRulesError rs n error → CanBeSaid (rules_of rs) error
 error_said rs n (errors.NoSuchMode i m) within is = no_other_mode rs n i m within is
 error_said rs n (errors.NotParsed i position kind) within is = stops_inside (rules_of rs) i position is.1
 error_said rs n (errors.BadEnd i e) within is = tt
@@ -93,7 +93,7 @@ error_said rs n (errors.Clash m i j w) within is = tt
 error_said rs n errors.OutOfMemory within is = tt
 
 -- and one that isn't a clash
-pub fault_said : (rs : List ModeRule) (n : ℕ) (error : ModesError) → NameOnly rs n → IsModesFault rs n error → CanBeSaid (rules_of rs) error
+pub fault_said : (rs : List ModeRule) (n : ℕ) (error : RulesError) → NameOnly rs n → IsModesFault rs n error → CanBeSaid (rules_of rs) error
 fault_said rs n (errors.NoSuchMode i m) within is = no_other_mode rs n i m within is
 fault_said rs n (errors.NotParsed i position kind) within is = stops_inside (rules_of rs) i position is.1
 fault_said rs n (errors.BadEnd i e) within is = tt

@@ -3,12 +3,12 @@ use Rattle.std.proofs.Common.{◌≡◌, ℕ, ◌+◌, ◌≤◌, inl, inr, List
 use Rattle.std.specs.Prelude.{nat_lt, length, map, slice_get, Bool, true, false, if◌then◌else◌, Option, Some, None}
 use Rattle.lalrpop_hir.specs.Clashes.{Entry}
 use Rattle.lalrpop_hir.specs.Tree.{Tree}
-use Rattle.lalrpop_lexer.specs.Lines.{lines}
+use Rattle.bajofeki_rules.specs.Lines.{lines}
 use Rattle.lalrpop_rule_file.specs.RuleFile.{without_mark}
-use Rattle.lalrpop_modes.specs.Modes.{ModeRules}
-use Rattle.lalrpop_modes.specs.declared.error.ModesError.{ModesError}
-use Rattle.lalrpop_modes.specs.declared.error.ModesError.TheVariants as errors
-use Rattle.lalrpop_modes.specs.declared.mode_rule.ModeRule.{ModeRule}
+use Rattle.lalrpop_rules.specs.Modes.{ModeRules}
+use Rattle.lalrpop_rules.specs.declared.error.RulesError.{RulesError}
+use Rattle.lalrpop_rules.specs.declared.error.RulesError.TheVariants as errors
+use Rattle.bajofeki_rules.specs.declared.mode_rule.ModeRule.{ModeRule}
 use Rattle.lexdfa_lib.specs.Status.{outcome_status}
 use Rattle.lexdfa_lib.specs.declared.outcome.Outcome.{Outcome}
 use Rattle.lexdfa_lib.specs.declared.outcome.Outcome.TheVariants as outcomes
@@ -56,7 +56,7 @@ cut_status_low (Whole true (Some o)) = omega arith
 cut_status_low (Stopped place found) = omega arith
 cut_status_low (Broken error) = omega arith
 
-rules_low : (error : ModesError) → rules_status error ≤ 6
+rules_low : (error : RulesError) → rules_status error ≤ 6
 rules_low (errors.NoSuchMode i m) = omega arith
 rules_low (errors.NotParsed i position kind) = omega arith
 rules_low (errors.BadEnd i e) = omega arith

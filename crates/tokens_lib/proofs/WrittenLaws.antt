@@ -5,7 +5,7 @@ use Rattle.std.specs.Prelude.{Option, Result, Ok, Err, IfOk, OnErr, flat_map}
 use Rattle.std.specs.Io.KnownBytes.{Appends, Consumes}
 use Rattle.lalrpop_edits.specs.Chunked.{nothing_come, nothing}
 use Rattle.lalrpop_edits.specs.Decoded.{NoCharacter}
-use Rattle.lalrpop_modes.specs.Modes.{ModeRules}
+use Rattle.lalrpop_rules.specs.Modes.{ModeRules}
 use Rattle.lalrpop_rules.specs.declared.item.Item.{Item}
 use Rattle.lalrpop_markup.specs.Terminal.{painted}
 use Rattle.lexdfa_lib.specs.Watch.{AppendsPrefix}

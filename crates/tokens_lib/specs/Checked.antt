@@ -2,11 +2,11 @@
 -- What is answered by a check of named rules.
 use Rattle.std.specs.Prelude.{◌≡◌, ℕ, ◌⊎◌, List, [], length, if◌then◌else◌}
 use Rattle.lalrpop_hir.specs.Clashes.{Entry}
-use Rattle.lalrpop_lexer.specs.declared.position.Position.{Position}
-use Rattle.lalrpop_modes.specs.ModeClashes.{AreModeClashes}
-use Rattle.lalrpop_modes.specs.ModeSet.{AreModeRules, rules_of}
-use Rattle.lalrpop_modes.specs.Modes.{ModeRules, IsModeClash}
-use Rattle.lalrpop_modes.specs.declared.mode_rule.ModeRule.{ModeRule}
+use Rattle.bajofeki_rules.specs.declared.position.Position.{Position}
+use Rattle.lalrpop_rules.specs.ModeClashes.{AreModeClashes}
+use Rattle.lalrpop_rules.specs.ModeSet.{AreModeRules, rules_of}
+use Rattle.lalrpop_rules.specs.Modes.{ModeRules, IsModeClash}
+use Rattle.bajofeki_rules.specs.declared.mode_rule.ModeRule.{ModeRule}
 use Rattle.lalrpop_review.specs.Review.{IsReview}
 use Rattle.lalrpop_review.specs.declared.whole.Review.{Review}
 use Rattle.lalrpop_rules.specs.RuleSet.{names_of}

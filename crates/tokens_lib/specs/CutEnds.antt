@@ -4,9 +4,9 @@ use Rattle.std.specs.Prelude.{◌≡◌, ◌≢◌, ℕ, ◌⊎◌, Bool, true, 
 use Rattle.std.specs.Str.{chars, IsUtf8}
 use Rattle.lalrpop_edits.specs.Chunked.{Chunked, Came, IsHeldBack, BeginsFault, MayMatch}
 use Rattle.lalrpop_edits.specs.Decoded.{NoCharacter, IsBegun, IsBad}
-use Rattle.lalrpop_lexer.specs.Position.{position_of}
-use Rattle.lalrpop_modes.specs.Modes.{ModeRules, ArePiecesFrom}
-use Rattle.lalrpop_modes.specs.Stack.{Stack, start}
+use Rattle.bajofeki_rules.specs.Position.{position_of}
+use Rattle.lalrpop_rules.specs.Modes.{ModeRules, ArePiecesFrom}
+use Rattle.bajofeki_rules.specs.Stack.{Stack, start}
 use Rattle.lalrpop_rule_file.specs.RuleFile.{without_mark}
 use Rattle.lalrpop_rules.specs.declared.item.Item.{Item}
 use Rattle.lalrpop_rules.specs.declared.item.Item.TheVariants.{Fault}

@@ -9,7 +9,7 @@ use Rattle.lalrpop_emit.specs.NumberedRules.{NumberedRules, AreNumbersOf}
 use Rattle.lalrpop_emit.specs.RustSource.{rust_file, IsRustError}
 use Rattle.lalrpop_emit.specs.declared.error.EmitError.{EmitError}
 use Rattle.lalrpop_emit.specs.declared.error.EmitError.TheVariants as error
-use Rattle.lalrpop_modes.specs.Modes.{ModeRules}
+use Rattle.lalrpop_rules.specs.Modes.{ModeRules}
 use Rattle.reports_lib.specs.Answer.{Answer, refusal, about}
 use Rattle.tokens_lib.specs.declared.command.Language.{Language}
 use Rattle.tokens_lib.specs.declared.command.Language.TheVariants.{C, Rust}

@@ -3,7 +3,7 @@
 use Rattle.std.specs.Prelude.{ℕ, List, Option}
 use Rattle.std.specs.Io.KnownBytes.{Appends}
 use Rattle.lalrpop_edits.specs.Chunked.{Chunked}
-use Rattle.lalrpop_modes.specs.Modes.{ModeRules}
+use Rattle.lalrpop_rules.specs.Modes.{ModeRules}
 use Rattle.lalrpop_rules.specs.declared.item.Item.{Item}
 use Rattle.lexdfa_lib.specs.Watch.{AppendsPrefix}
 use Rattle.reports_lib.specs.declared.layout.Layout.{Layout}

@@ -2,14 +2,14 @@
 -- What is answered by a file of named rules.
 use Rattle.std.specs.Prelude.{◌≡◌, ℕ, ◌⊎◌, List, [], ◌∷◌, length, map}
 use Rattle.lalrpop_hir.specs.Clashes.{Entry}
-use Rattle.lalrpop_lexer.specs.Lines.{lines}
-use Rattle.lalrpop_lexer.specs.declared.position.Position.{Position}
-use Rattle.lalrpop_modes.specs.ModeClashes.{AreModeClashes, IsModesFault}
-use Rattle.lalrpop_modes.specs.ModeSet.{AreModeRules, IsModesError, rules_of}
-use Rattle.lalrpop_modes.specs.Modes.{ModeRules, NoModeClash}
-use Rattle.lalrpop_modes.specs.declared.error.ModesError.{ModesError}
-use Rattle.lalrpop_modes.specs.declared.error.ModesError.TheVariants.{NotParsed, BadEnd}
-use Rattle.lalrpop_modes.specs.declared.mode_rule.ModeRule.{ModeRule}
+use Rattle.bajofeki_rules.specs.Lines.{lines}
+use Rattle.bajofeki_rules.specs.declared.position.Position.{Position}
+use Rattle.lalrpop_rules.specs.ModeClashes.{AreModeClashes, IsModesFault}
+use Rattle.lalrpop_rules.specs.ModeSet.{AreModeRules, IsRulesError, rules_of}
+use Rattle.lalrpop_rules.specs.Modes.{ModeRules, NoModeClash}
+use Rattle.lalrpop_rules.specs.declared.error.RulesError.{RulesError}
+use Rattle.lalrpop_rules.specs.declared.error.RulesError.TheVariants.{NotParsed, BadEnd}
+use Rattle.bajofeki_rules.specs.declared.mode_rule.ModeRule.{ModeRule}
 use Rattle.lalrpop_rules.specs.RuleSet.{names_of}
 use Rattle.lalrpop_re.specs.NamedPart.{NamedPart}
 use Rattle.lalrpop_rule_file.specs.RuleFile.{AreFileParts, AreRules, ArePlaces, IsRuleFileError, without_mark}
@@ -42,7 +42,7 @@ abbrev pub AreRulesOf : List ℕ → ModeRules → List (List ℕ) → Type 0
 AreRulesOf bytes r modes = (rs : List ModeRule) × (SayRules (lines (without_mark bytes)) modes rs × IsSetOf rs modes r)
 
 -- 3 if a text has no tree, 2 if a rule can't be compiled or two clash
-abbrev pub rules_status : ModesError → ℕ
+abbrev pub rules_status : RulesError → ℕ
 rules_status (NotParsed i position kind) = 3
 rules_status (BadEnd i e) = 3
 rules_status error = 2
@@ -68,18 +68,18 @@ abbrev pub RulesOf : Verbosity → (List ℕ → List (List ℕ) → List (List 
 RulesOf verbosity IsFor file bytes answer = RulesTold remark verbosity IsFor file bytes answer
 
 -- an error of the rules of these lines is said
-abbrev pub ErrorAnswer : List ℕ → List (List ℕ) → List (List ℕ) → List ModeRule → ModesError → Answer → Type 0
+abbrev pub ErrorAnswer : List ℕ → List (List ℕ) → List (List ℕ) → List ModeRule → RulesError → Answer → Type 0
 ErrorAnswer file ls modes rs error answer =
     (places : List Position) × (StandAt ls rs places
     × ((said : List ℕ) × (SaysRules modes (rules_of rs) places error said × (answer ≡ refusal (rules_status error) (headed file said)))))
 
 -- a rule has no tree or can't be compiled, which is said; no clash is meant
 abbrev pub FaultAnswer : List ℕ → List (List ℕ) → List (List ℕ) → List ModeRule → Answer → Type 0
-FaultAnswer file ls modes rs answer = (error : ModesError) × (IsModesFault rs (length modes) error × ErrorAnswer file ls modes rs error answer)
+FaultAnswer file ls modes rs answer = (error : RulesError) × (IsModesFault rs (length modes) error × ErrorAnswer file ls modes rs error answer)
 
 -- these rules make no lexer
 abbrev pub RulesRefused : List ℕ → List (List ℕ) → List (List ℕ) → List ModeRule → Answer → Type 0
-RulesRefused file ls modes rs answer = (error : ModesError) × (IsModesError rs (length modes) error × ErrorAnswer file ls modes rs error answer)
+RulesRefused file ls modes rs answer = (error : RulesError) × (IsRulesError rs (length modes) error × ErrorAnswer file ls modes rs error answer)
 
 -- they don't, or their lexer has this answer
 abbrev pub LexerOf : (ModeRules → List (List ℕ) → Answer → Type 0) → List ℕ → List (List ℕ) → List (List ℕ) → List ModeRule → Answer → Type 0

@@ -2,10 +2,10 @@
 -- The modes that tokens put on top of others, by the places at which those tokens begin.
 use Rattle.std.specs.Prelude.{ℕ, List, [], ◌∷◌, Option, Some, None}
 use Rattle.std.specs.List.{fold}
-use Rattle.lalrpop_lexer.specs.Position.{position_of}
-use Rattle.lalrpop_modes.specs.Stack.{actions_of}
-use Rattle.lalrpop_modes.specs.declared.action.Action.{Action}
-use Rattle.lalrpop_modes.specs.declared.action.Action.TheVariants.{Mode, Push, Pop}
+use Rattle.bajofeki_rules.specs.Position.{position_of}
+use Rattle.bajofeki_rules.specs.Stack.{actions_of}
+use Rattle.bajofeki_rules.specs.declared.action.Action.{Action}
+use Rattle.bajofeki_rules.specs.declared.action.Action.TheVariants.{Mode, Push, Pop}
 use Rattle.lalrpop_rules.specs.declared.item.Item.{Item}
 use Rattle.lalrpop_rules.specs.declared.item.Item.TheVariants.{Token, Skipped, Fault}
 use Rattle.tokens_lib.specs.declared.cut_end.OpenMode.{OpenMode}

@@ -5,7 +5,7 @@ use Rattle.std.specs.Io.KnownBytes.{Appends}
 use Rattle.lalrpop_edits.specs.Chunked.{Chunked}
 use Rattle.lalrpop_markup.specs.Markup.{marked}
 use Rattle.lalrpop_markup.specs.Terminal.{painted}
-use Rattle.lalrpop_modes.specs.Modes.{ModeRules}
+use Rattle.lalrpop_rules.specs.Modes.{ModeRules}
 use Rattle.lalrpop_rules.specs.declared.item.Item.{Item}
 use Rattle.lexdfa_lib.specs.Watch.{AppendsPrefix}
 use Rattle.tokens_lib.specs.CutEnds.{IsTextOf, BeginsWith, AreGiven, IsCutTo}

@@ -5,7 +5,7 @@ use Rattle.std.specs.List.{AllZip, zip}
 use Rattle.std.specs.Str.{bytes_eq}
 use Rattle.lalrpop_hir.specs.Tree.{Tree}
 use Rattle.lalrpop_dfa.specs.Dfa.{RecognizesAll, Row}
-use Rattle.lalrpop_modes.specs.Modes.{ModeRules}
+use Rattle.lalrpop_rules.specs.Modes.{ModeRules}
 use Rattle.lalrpop_verdicts.specs.Picture.{dot}
 use Rattle.lalrpop_verdicts.specs.Smallest.{AnswerAlike, IsCanonical, IsSmallest}
 use Rattle.reports_lib.specs.Answer.{Answer, refusal, about}

@@ -2,8 +2,8 @@
 -- The answer of the whole program, for its arguments, what the files give and what standard input gives.
 use Rattle.std.specs.Prelude.{◌≡◌, ℕ, ◌⊎◌, nat_lt, List, [], length, map, slice_get, unwrap_or, Option, Some, None, codes}
 use Rattle.lalrpop_hir.specs.Tree.{Tree}
-use Rattle.lalrpop_lexer.specs.Lines.{lines}
-use Rattle.lalrpop_modes.specs.Modes.{ModeRules}
+use Rattle.bajofeki_rules.specs.Lines.{lines}
+use Rattle.lalrpop_rules.specs.Modes.{ModeRules}
 use Rattle.lexdfa_lib.specs.Answer.{HaveAutomaton, IsReported}
 use Rattle.lexdfa_lib.specs.Status.{outcome_status}
 use Rattle.lexdfa_lib.specs.declared.ending.Failure.{Failure}

@@ -7,11 +7,11 @@ use Rattle.lalrpop_hir.specs.Tokens.{AreTokens}
 use Rattle.lalrpop_hir.specs.declared.token.Token.{Token}
 use Rattle.lalrpop_hir.specs.declared.token.TokenFault.{TokenFault}
 use Rattle.lalrpop_edits.specs.Chunked.{Chunked}
-use Rattle.lalrpop_lexer.specs.Position.{position_of}
-use Rattle.lalrpop_lexer.specs.Quoted.{told}
-use Rattle.lalrpop_lexer.specs.declared.position.Position.{Position}
-use Rattle.lalrpop_modes.specs.Modes.{ModeRules}
-use Rattle.lalrpop_modes.specs.Stack.{start}
+use Rattle.bajofeki_rules.specs.Position.{position_of}
+use Rattle.bajofeki_rules.specs.Quoted.{told}
+use Rattle.bajofeki_rules.specs.declared.position.Position.{Position}
+use Rattle.lalrpop_rules.specs.Modes.{ModeRules}
+use Rattle.bajofeki_rules.specs.Stack.{start}
 use Rattle.lalrpop_rules.specs.declared.item.Item.{Item}
 use Rattle.lexdfa_lib.specs.declared.outcome.Outcome.{Outcome}
 use Rattle.lexdfa_lib.specs.declared.outcome.Outcome.TheVariants.{Stopped as StoppedTokens}

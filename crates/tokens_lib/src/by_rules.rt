@@ -1,7 +1,7 @@
 //! The lexer of a file of named rules.
 ghost use Rattle.std.specs.Prelude.{◌≡◌, ◌<◌, ℕ, List, length, slice_get, Some, Ok, map, string_bytes, IfOk, OnOk, IfErr};
-ghost use Rattle.lalrpop_lexer.specs.Lines.{lines};
-ghost use Rattle.lalrpop_modes.specs.ModeSet.{rules_of};
+ghost use Rattle.bajofeki_rules.specs.Lines.{lines};
+ghost use Rattle.lalrpop_rules.specs.ModeSet.{rules_of};
 ghost use Rattle.lalrpop_rule_file.specs.RuleFile.{AreFileParts, AreRules, ArePlaces, NamesMode, without_mark as without_mark_of};
 ghost use Rattle.lalrpop_rule_file.specs.declared.file_rule.FileRule.{FileRule as FileRuleValue};
 ghost use Rattle.reports_lib.specs.Answer.{Answer, headed};
@@ -16,7 +16,7 @@ use crate::command::Verbosity;
 use crate::files::{Files, NO_TEXT, bytes_of, say_headed};
 use crate::warnings::say_warnings;
 use lalrpop_lexer::lexer::dfa::Clash;
-use lalrpop_modes::{ModeLexer, ModesError};
+use lalrpop_rules::{RuleLexer, RulesError};
 use lalrpop_rule_file::{RuleFile, RuleFileError, read_rules, without_mark};
 use lexdfa_lib::{RunError, Watched};
 use reports_lib::{FileLexer, ModeFile, bad_line_explained, rules_explained, with_names};
@@ -51,11 +51,11 @@ pub(crate) fn report_line<E: Write>(
 }
 
 // The status of rules with this error.
-fn status_of(error: &ModesError) -> u8
+fn status_of(error: &RulesError) -> u8
     ensures { result ≡ rules_status error.now }
 {
     match error {
-        ModesError::NotParsed { .. } | ModesError::BadEnd { .. } => BAD_LINE,
+        RulesError::NotParsed { .. } | RulesError::BadEnd { .. } => BAD_LINE,
         _ => REFUSED,
     }
 }
@@ -66,7 +66,7 @@ pub(crate) fn report_rules<E: Write>(
     name: &str,
     bytes: &[u8],
     file: &ModeFile<'_>,
-    error: &ModesError,
+    error: &RulesError,
     err: &mut Watched<E>,
 ) -> Result<u8, RunError>
     requires error { CanBeSaid (rules_of file.now.rules.items) error.now }
@@ -108,7 +108,7 @@ fn lexer_of_file<E: Write>(
     ensures memory { IfErr result (λ e. e ≡ RunError.OutOfMemory) }
     ensures no_late_message { err.new.late ≡ err.old.late }
 {
-    match ModeLexer::from_rules(alloc, &file.rules, file.modes.len()) {
+    match RuleLexer::from_rules(alloc, &file.rules, file.modes.len()) {
         Ok(lexer) => Ok(Ok(with_names(alloc, lexer, &file.modes)?)),
         Err(error) => Ok(Err(report_rules(alloc, name, bytes, file, &error, err)?)),
     }

@@ -1,6 +1,6 @@
 //! The program for a file of terminals, one a line, which are referred to by their numbers.
 ghost use Rattle.std.specs.Prelude.{◌≡◌, ◌≢◌, ℕ, List, Some, Ok, false, true, IfOk, OnOk, OnErr, IfErr};
-ghost use Rattle.lalrpop_lexer.specs.Lines.{lines};
+ghost use Rattle.bajofeki_rules.specs.Lines.{lines};
 ghost use Rattle.lexdfa_lib.specs.Answer.{HaveAutomaton, IsReported};
 ghost use Rattle.lexdfa_lib.specs.Status.{outcome_status};
 ghost use Rattle.reports_lib.specs.Answer.{Answer, headed, Begun};

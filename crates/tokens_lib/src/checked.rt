@@ -1,8 +1,8 @@
 //! A check of named rules: their clashes, or a review.
 ghost use Rattle.std.specs.Prelude.{◌≡◌, ◌≢◌, ◌<◌, List, [], length, false, true, map, IfOk, OnOk, OnErr, IfErr, if◌then◌else◌};
-ghost use Rattle.lalrpop_lexer.specs.Lines.{lines};
-ghost use Rattle.lalrpop_modes.specs.ModeClashes.{IsModesFault};
-ghost use Rattle.lalrpop_modes.specs.ModeSet.{IsModesError, rules_of};
+ghost use Rattle.bajofeki_rules.specs.Lines.{lines};
+ghost use Rattle.lalrpop_rules.specs.ModeClashes.{IsModesFault};
+ghost use Rattle.lalrpop_rules.specs.ModeSet.{IsRulesError, rules_of};
 ghost use Rattle.lalrpop_review.specs.Review.{IsReview};
 ghost use Rattle.lalrpop_review.specs.declared.whole.Review.{Review as ReviewValue};
 ghost use Rattle.lalrpop_rules.specs.RuleSet.{names_of};
@@ -14,7 +14,7 @@ ghost use Rattle.tokens_lib.specs.Internal.Faults.{NameOnly, is_clash};
 
 use crate::by_rules::report_rules;
 use lalrpop_lexer::lexer::dfa::Clash;
-use lalrpop_modes::{ModeLexer, ModesError, mode_clashes};
+use lalrpop_rules::{RuleLexer, RulesError, mode_clashes};
 use lalrpop_review::review;
 use lexdfa_lib::{RunError, Watched, write_whole};
 use reports_lib::{LineForm, ModeFile, clash_report, has_findings, review_text};
@@ -67,7 +67,7 @@ fn told_clashes(
     form: LineForm,
     name: &str,
     file: &ModeFile<'_>,
-) -> Result<Told, ModesError>
+) -> Result<Told, RulesError>
     ensures told { IfOk result (λ told. AreToldClashes form name.now
         (map (λ m. m.now) file.now.modes.items) file.now.rules.items file.now.places.items
         (record { status = told.status; out = told.text.items; err = [] })) }
@@ -77,7 +77,7 @@ fn told_clashes(
     let found = mode_clashes(alloc, &file.rules, file.modes.len())?;
     match clash_lines(alloc, form, name, file, &found) {
         Ok(told) => Ok(told),
-        Err(_) => Err(ModesError::OutOfMemory),
+        Err(_) => Err(RulesError::OutOfMemory),
     }
 }
 
@@ -94,7 +94,7 @@ fn told_review(
     form: LineForm,
     name: &str,
     file: &ModeFile<'_>,
-    lexer: &ModeLexer,
+    lexer: &RuleLexer,
 ) -> Result<Told, AllocError>
     ensures { IfOk result (λ told. (found : ReviewValue) × (IsReview lexer.now found
         × (record { status = told.status; out = told.text.items; err = [] }
@@ -116,10 +116,10 @@ fn told_review(
 }
 
 // Whether the error is a clash.
-fn is_clash(error: &ModesError) -> bool
+fn is_clash(error: &RulesError) -> bool
     ensures { result ≡ is_clash error.now }
 {
-    matches!(error, ModesError::Clash { .. })
+    matches!(error, RulesError::Clash { .. })
 }
 
 // All clashes, if this error of the rules is one; otherwise the error.
@@ -128,9 +128,9 @@ fn told_instead(
     form: LineForm,
     name: &str,
     file: &ModeFile<'_>,
-    error: ModesError,
-) -> Result<Told, ModesError>
-    requires error { IsModesError file.now.rules.items
+    error: RulesError,
+) -> Result<Told, RulesError>
+    requires error { IsRulesError file.now.rules.items
         (length (map (λ m. m.now) file.now.modes.items)) error }
     ensures told { IfOk result (λ told. ClashesTold form name.now
         (map (λ m. m.now) file.now.modes.items) file.now.rules.items file.now.places.items
@@ -150,7 +150,7 @@ fn told_of(
     form: LineForm,
     name: &str,
     file: &ModeFile<'_>,
-) -> Result<Told, ModesError>
+) -> Result<Told, RulesError>
     requires some { 0 < length file.now.modes.items }
     ensures told { IfOk result (λ told. IsTold form name.now (map (λ m. m.now) file.now.modes.items)
         file.now.rules.items file.now.places.items
@@ -158,13 +158,13 @@ fn told_of(
     ensures fault { IfErr result (IsModesFault file.now.rules.items
         (length (map (λ m. m.now) file.now.modes.items))) }
 {
-    let lexer = match ModeLexer::from_rules(alloc, &file.rules, file.modes.len()) {
+    let lexer = match RuleLexer::from_rules(alloc, &file.rules, file.modes.len()) {
         Ok(lexer) => lexer,
         Err(error) => return told_instead(alloc, form, name, file, error),
     };
     match told_review(alloc, form, name, file, &lexer) {
         Ok(told) => Ok(told),
-        Err(_) => Err(ModesError::OutOfMemory),
+        Err(_) => Err(RulesError::OutOfMemory),
     }
 }
 

@@ -1,7 +1,7 @@
 //! Cutting files one after another: the lines or the markup of each are written.
 ghost use Rattle.std.specs.Prelude.{◌≡◌, ◌≢◌, max, take, false, true, map, string_bytes, flat_map, List, ℕ, IfOk, IfSome, OnOk, OnErr, IfErr};
 ghost use Rattle.std.specs.Str.{chars, IsCharBoundary};
-ghost use Rattle.lalrpop_lexer.specs.Quoted.{told};
+ghost use Rattle.bajofeki_rules.specs.Quoted.{told};
 ghost use Rattle.lines_lib.specs.Text.{lack_text};
 ghost use Rattle.lines_lib.specs.TokenLines.{IsStopOf};
 ghost use Rattle.reports_lib.specs.Answer.{Answer, about, Begun};

@@ -6,7 +6,7 @@ ghost use Rattle.std.specs.Str.{chars, IsUtf8};
 ghost use Rattle.lalrpop_edits.specs.Chunked.{nothing_come, GivesFinal, BeginsFault, MayMatch};
 ghost use Rattle.lalrpop_edits.specs.Decoded.{nothing_decoded};
 ghost use Rattle.lalrpop_edits.specs.Given.{item_of};
-ghost use Rattle.lalrpop_lexer.specs.Position.{place_after};
+ghost use Rattle.bajofeki_rules.specs.Position.{place_after};
 ghost use Rattle.tokens_lib.specs.OpenModes.{pushed, pushed_all};
 ghost use Rattle.tokens_lib.specs.Internal.CutTexts.{Comes, GivesCut, IsCutInto, end_by, open_place, opened_by};
 ghost use Rattle.tokens_lib.specs.Internal.Incoming.{IsIncoming};
@@ -16,7 +16,7 @@ use crate::incoming::{Brought, Incoming};
 use lalrpop_edits::GivenPiece;
 use lalrpop_lexer::Position;
 use lalrpop_lexer::lexer::dfa::NfaIndex;
-use lalrpop_modes::{Action, ModeLexer};
+use lalrpop_rules::{Action, RuleLexer};
 use lexdfa_lib::{RunError, Watched};
 use lines_lib::TextError;
 use std::alloc::{AllocError, Global};
@@ -26,7 +26,7 @@ use std::io::Read;
 /// have one below them, and where the next piece begins.
 #[derive(Drop)]
 pub(crate) struct Cutter<'rules> {
-    lexer: &'rules ModeLexer,
+    lexer: &'rules RuleLexer,
     incoming: Incoming<'rules>,
     has_fault: bool,
     // The mode on top is the last one.
@@ -95,7 +95,7 @@ fn note_actions(
 // Notes what a piece by this rule does that begins at this place. A fault does nothing.
 fn note_rule(
     places: &mut Vec<Position>,
-    lexer: &ModeLexer,
+    lexer: &RuleLexer,
     rule: Option<usize>,
     place: Position,
 ) -> Result<(), AllocError>
@@ -133,7 +133,7 @@ pub(crate) fn stopped(place: Position, fault: &str) -> CutEnd
 
 impl<'rules> Cutter<'rules> {
     /// Nothing has come yet.
-    pub(crate) fn new(alloc: Global, lexer: &'rules ModeLexer) -> Cutter<'rules>
+    pub(crate) fn new(alloc: Global, lexer: &'rules RuleLexer) -> Cutter<'rules>
         ensures nothing { IsCutInto lexer.now [] [] result }
         ensures incoming { IsIncoming [] [] [] result.incoming }
         ensures whole { result.incoming.decoder ≡ nothing_decoded }

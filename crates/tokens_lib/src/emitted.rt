@@ -9,7 +9,7 @@ ghost use Rattle.tokens_lib.specs.Streams.{Takes};
 use crate::command::Language;
 use crate::files::say_about;
 use lalrpop_emit::{EmitError, LexerNumbers, c_source, rust_source};
-use lalrpop_modes::ModeLexer;
+use lalrpop_rules::RuleLexer;
 use lexdfa_lib::{RunError, Watched, write_whole};
 use std::alloc::Global;
 use std::io::Write;
@@ -65,7 +65,7 @@ fn file_of(
 }
 
 // The source file of the lexer.
-fn source_of(alloc: Global, lexer: &ModeLexer, language: Language<'_>) -> Result<String, EmitError>
+fn source_of(alloc: Global, lexer: &RuleLexer, language: Language<'_>) -> Result<String, EmitError>
     ensures source { IfOk result (λ source. (n : NumberedRules)
         × (AreNumbersOf lexer.now n × (string_bytes source ≡ source_file language.entry n))) }
     ensures refused { IfErr result (IsNoSource language.entry lexer.now) }
@@ -99,7 +99,7 @@ fn refuse<E: Write>(
 pub(crate) fn write_source<W: Write, E: Write>(
     alloc: Global,
     name: &str,
-    lexer: &ModeLexer,
+    lexer: &RuleLexer,
     language: Language<'_>,
     out: &mut Watched<W>,
     err: &mut Watched<E>,

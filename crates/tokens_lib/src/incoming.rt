@@ -7,7 +7,7 @@ ghost use Rattle.lalrpop_edits.specs.Decoded.{nothing_decoded};
 ghost use Rattle.tokens_lib.specs.Internal.Incoming.{IsIncoming, ReadsOn, GrowsBy, behind_mark, held};
 
 use lalrpop_edits::{Chunks, TextDecoder};
-use lalrpop_modes::ModeLexer;
+use lalrpop_rules::RuleLexer;
 use lexdfa_lib::{RunError, Watched};
 use std::alloc::{AllocError, Global};
 use std::io::Read;
@@ -48,7 +48,7 @@ fn behind_mark(has_begun: bool, text: &str) -> &str
 
 impl<'rules> Incoming<'rules> {
     /// Nothing has come yet.
-    pub(crate) fn new(alloc: Global, lexer: &'rules ModeLexer) -> Incoming<'rules>
+    pub(crate) fn new(alloc: Global, lexer: &'rules RuleLexer) -> Incoming<'rules>
         ensures chunks { result.chunks ≡ nothing_come lexer.now }
         ensures decoder { result.decoder ≡ nothing_decoded }
         ensures begun { result.has_begun ≡ false }

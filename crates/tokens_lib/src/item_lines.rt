@@ -7,7 +7,7 @@ use crate::cut_end::CutEnd;
 use crate::pieces::write_pieces;
 pub(crate) use crate::sheet::mode_name;
 use crate::sheet::{Form, Sheet};
-use lalrpop_modes::ModeLexer;
+use lalrpop_rules::RuleLexer;
 use lexdfa_lib::{RunError, Watched};
 use lines_lib::TextError;
 use reports_lib::Layout;
@@ -33,7 +33,7 @@ use std::io::{Read, Write};
 /// was written. Where a read fails, the text breaks off; that isn't an error.
 pub fn write_items<R: Read, W: Write>(
     alloc: Global,
-    lexer: &ModeLexer,
+    lexer: &RuleLexer,
     layout: &Layout<'_, '_>,
     reader: &mut Watched<R>,
     writer: &mut Watched<W>,

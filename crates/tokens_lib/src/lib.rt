@@ -31,7 +31,7 @@ pub use cut_end::{CutEnd, OpenMode};
 pub use files::{Files, NoBytes};
 pub use item_lines::write_items;
 pub use lalrpop_lexer::{Lexer, Token, TokenFault};
-pub use lalrpop_modes::{Action as ModeAction, ModeLexer, ModeRule, ModesError, mode_clashes};
+pub use lalrpop_rules::{Action as ModeAction, RuleLexer, ModeRule, RulesError, mode_clashes};
 pub use lalrpop_rule_file::{RuleFile, RuleFileError, Warning, read_rules};
 pub use lalrpop_rules::Rule;
 pub use lines_lib::{BuildError, TextError, lexer_of, read_text, write_clashes, write_tokens};

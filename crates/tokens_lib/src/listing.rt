@@ -1,6 +1,6 @@
 //! What is listed of a file of named rules: all clashes, or a review.
 ghost use Rattle.std.specs.Prelude.{◌≡◌, ◌≢◌, ◌<◌, ℕ, List, length, slice_get, Some, false, true, map, IfOk, OnOk, OnErr, IfErr};
-ghost use Rattle.lalrpop_lexer.specs.Lines.{lines};
+ghost use Rattle.bajofeki_rules.specs.Lines.{lines};
 ghost use Rattle.lalrpop_rule_file.specs.RuleFile.{AreFileParts, AreRules, ArePlaces, NamesMode, without_mark as without_mark_of};
 ghost use Rattle.lalrpop_rule_file.specs.declared.file_rule.FileRule.{FileRule as FileRuleValue};
 ghost use Rattle.reports_lib.specs.Answer.{Answer, Begun};
@@ -16,7 +16,7 @@ use crate::command::Verbosity;
 use crate::cut_files::worse;
 use crate::files::{Files, NO_TEXT, bytes_of};
 use crate::warnings::say_warnings;
-use lalrpop_modes::mode_clashes;
+use lalrpop_rules::mode_clashes;
 use lalrpop_rule_file::{RuleFile, read_rules, without_mark};
 use lexdfa_lib::{RunError, Watched};
 use reports_lib::{LineForm, ModeFile, write_rule_clashes};

@@ -9,7 +9,7 @@ use crate::cut_end::CutEnd;
 use crate::pieces::write_pieces;
 use crate::sheet::{Form, Sheet};
 use lalrpop_markup::Painter;
-use lalrpop_modes::ModeLexer;
+use lalrpop_rules::RuleLexer;
 use lexdfa_lib::{RunError, Watched};
 use lines_lib::TextError;
 use std::alloc::Global;
@@ -18,7 +18,7 @@ use std::io::{Read, Write};
 // What is written for a page.
 fn page_form<'rules>(
     alloc: Global,
-    lexer: &'rules ModeLexer,
+    lexer: &'rules RuleLexer,
     markup: Markup,
 ) -> Result<Form<'rules, 'rules, 'rules>, RunError>
     ensures page { IfOk result (λ form. IsPageForm form markup lexer.now.names) }
@@ -45,7 +45,7 @@ fn page_form<'rules>(
 /// was written. Where a read fails, the text breaks off; that isn't an error.
 pub fn write_page<R: Read, W: Write>(
     alloc: Global,
-    lexer: &ModeLexer,
+    lexer: &RuleLexer,
     markup: Markup,
     reader: &mut Watched<R>,
     writer: &mut Watched<W>,

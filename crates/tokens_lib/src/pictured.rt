@@ -13,7 +13,7 @@ use crate::command::WRONG_ARGUMENTS;
 use crate::files::say_about;
 use lalrpop_lexer::lexer::dfa::{Precedence, build_dfa};
 use lalrpop_lexer::lexer::re::Regex;
-use lalrpop_modes::ModeLexer;
+use lalrpop_rules::RuleLexer;
 use lalrpop_verdicts::{dot, minimized};
 use lexdfa_lib::{RunError, Watched, write_whole};
 use std::alloc::{AllocError, Global};
@@ -21,7 +21,7 @@ use std::io::Write;
 use std::slice;
 
 // The picture of the smallest automaton of a mode.
-fn picture(alloc: Global, lexer: &ModeLexer, mode: usize) -> Result<String, AllocError>
+fn picture(alloc: Global, lexer: &RuleLexer, mode: usize) -> Result<String, AllocError>
     requires there { mode < lexer.now.modes }
     ensures { IfOk result (λ text. (least : List Row) × (IsSmallestIn lexer.now mode least
         × (string_bytes text ≡ dot lexer.now.names least))) }
@@ -31,7 +31,7 @@ fn picture(alloc: Global, lexer: &ModeLexer, mode: usize) -> Result<String, Allo
 }
 
 // The pictures of all modes, one after the other.
-fn pictures(alloc: Global, lexer: &ModeLexer) -> Result<String, AllocError>
+fn pictures(alloc: Global, lexer: &RuleLexer) -> Result<String, AllocError>
     ensures { IfOk result (λ text.
         ArePictures lexer.now lexer.now.modes (string_bytes text)) }
 {
@@ -91,7 +91,7 @@ fn has_name(names: &[String], name: &str) -> bool
 }
 
 // The given name, if no rule has it.
-fn missing<'name>(lexer: &ModeLexer, given: Option<&'name str>) -> Option<&'name str>
+fn missing<'name>(lexer: &RuleLexer, given: Option<&'name str>) -> Option<&'name str>
     ensures missing { IfSome result (λ name.
         IsMissing lexer.now (option_map (λ n. n.now) given.entry) name.now) }
     ensures there { IfNone result (IfSome given.entry (λ name.
@@ -105,7 +105,7 @@ fn missing<'name>(lexer: &ModeLexer, given: Option<&'name str>) -> Option<&'name
 }
 
 // What is drawn: each mode; or, if a name is given, the rules that have it.
-fn drawing(alloc: Global, lexer: &ModeLexer, given: Option<&str>) -> Result<String, AllocError>
+fn drawing(alloc: Global, lexer: &RuleLexer, given: Option<&str>) -> Result<String, AllocError>
     requires there { IfSome given (λ name. has lexer.now.names name.now ≡ true) }
     ensures drawn { IfOk result (λ text.
         IsDrawn lexer.now (option_map (λ n. n.now) given.entry) (string_bytes text)) }
@@ -155,7 +155,7 @@ fn first<'name>(names: &[&'name str]) -> Option<&'name str>
 pub(crate) fn write_pictures<W: Write, E: Write>(
     alloc: Global,
     file: &str,
-    lexer: &ModeLexer,
+    lexer: &RuleLexer,
     names: &[&str],
     out: &mut Watched<W>,
     err: &mut Watched<E>,

@@ -7,7 +7,7 @@ ghost use Rattle.tokens_lib.specs.Internal.CutTexts.{goes_on, line_here, piece_s
 use lalrpop_lexer::Position;
 use lalrpop_lexer::lexer::dfa::NfaIndex;
 use lalrpop_markup::{Painter, push_html};
-use lalrpop_modes::ModeLexer;
+use lalrpop_rules::RuleLexer;
 use lalrpop_rules::Item;
 use reports_lib::{Layout, LineForm, Shown, push_json, push_plain};
 use std::alloc::{AllocError, Global};
@@ -26,7 +26,7 @@ pub(crate) enum Form<'rules, 'file, 'modes> {
 /// What is written for the pieces of a text, and what of it waits to be written.
 #[derive(Drop)]
 pub(crate) struct Sheet<'rules, 'file, 'modes> {
-    pub(crate) lexer: &'rules ModeLexer,
+    pub(crate) lexer: &'rules RuleLexer,
     form: Form<'rules, 'file, 'modes>,
     // The markup of one piece, while it is made.
     markup: String,
@@ -53,7 +53,7 @@ fn push_line(
 }
 
 // The name of a rule. The rule of a token always has one.
-fn name_of(lexer: &ModeLexer, index: NfaIndex) -> &str
+fn name_of(lexer: &RuleLexer, index: NfaIndex) -> &str
     ensures { result.now ≡ name_at lexer.now.names index }
 {
     match lexer.name(index) {
@@ -86,7 +86,7 @@ fn mode_named(modes: &[String], mode: usize) -> Option<&str>
 fn push_item(
     alloc: Global,
     lines: &mut Vec<u8>,
-    lexer: &ModeLexer,
+    lexer: &RuleLexer,
     layout: &Layout<'_, '_>,
     place: Position,
     mode: usize,
@@ -120,7 +120,7 @@ impl<'rules, 'file, 'modes> Sheet<'rules, 'file, 'modes> {
     /// Nothing is to be written yet.
     pub(crate) fn new(
         alloc: Global,
-        lexer: &'rules ModeLexer,
+        lexer: &'rules RuleLexer,
         form: Form<'rules, 'file, 'modes>,
     ) -> Sheet<'rules, 'file, 'modes>
         ensures lexer { result.lexer.now ≡ lexer.now }

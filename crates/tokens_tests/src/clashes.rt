@@ -6,7 +6,7 @@ use program_tests::failing::FailsAfter;
 use std::alloc::Global;
 use std::io;
 use std::io::Write;
-use tokens_lib::{ModeRule, ModesError, Rule, mode_clashes, write_rule_clashes};
+use tokens_lib::{ModeRule, RulesError, Rule, mode_clashes, write_rule_clashes};
 
 // The rule in the first mode, without actions.
 fn plain<'text>(rule: Rule<'text>) -> ModeRule<'text> {
@@ -84,7 +84,7 @@ fn rules_without_trees_have_no_clashes(rt: HostRuntime) {
     assert!(rt;
         matches!(
             mode_clashes(rt.alloc(), &open, 1),
-            Err(ModesError::NotParsed { rule: 1, .. })
+            Err(RulesError::NotParsed { rule: 1, .. })
         )
     );
     let lazy = [
@@ -94,7 +94,7 @@ fn rules_without_trees_have_no_clashes(rt: HostRuntime) {
     assert!(rt;
         matches!(
             mode_clashes(rt.alloc(), &lazy, 1),
-            Err(ModesError::NotCompiled { rule: 1, .. })
+            Err(RulesError::NotCompiled { rule: 1, .. })
         )
     );
 }

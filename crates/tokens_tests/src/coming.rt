@@ -11,7 +11,7 @@ use program_tests::failing::FailsAfter;
 use std::alloc::{AllocError, Global};
 use std::io;
 use std::process::Abort;
-use tokens_lib::{Markup, ModeLexer};
+use tokens_lib::{Markup, RuleLexer};
 
 // How many bytes a read gives.
 const SIZES: [usize; 5] = [1, 2, 3, 5, ALL];
@@ -58,7 +58,7 @@ const WORDS: [Job; 4] = [
 ];
 
 // However a text comes, with a byte order mark or without, what is written for it is the same.
-fn is_written_bit_by_bit(rt: &impl Abort, alloc: Global, lexer: &ModeLexer, job: &Job) -> bool {
+fn is_written_bit_by_bit(rt: &impl Abort, alloc: Global, lexer: &RuleLexer, job: &Job) -> bool {
     for mark in [&b""[..], MARK] {
         let bytes = joined(alloc, &[mark, job.text.as_bytes()]).expect(rt, "memory");
         for at_once in SIZES {
@@ -104,7 +104,7 @@ enum Rules {
     Comments,
 }
 
-fn lexer_by(rt: &impl Abort, alloc: Global, rules: Rules) -> ModeLexer {
+fn lexer_by(rt: &impl Abort, alloc: Global, rules: Rules) -> RuleLexer {
     match rules {
         Rules::Plain => lexer_of_rules(rt, alloc),
         Rules::Words => lexer_of_words(rt, alloc),
@@ -191,7 +191,7 @@ fn reads(bytes: usize, at_once: usize) -> usize {
 }
 
 // The first bytes come, then a read fails.
-fn breaks_off(alloc: Global, lexer: &ModeLexer, job: &Coming, size: usize) -> bool {
+fn breaks_off(alloc: Global, lexer: &RuleLexer, job: &Coming, size: usize) -> bool {
     let bytes = job.text.as_bytes().get(..size).unwrap_or(b"");
     for at_once in SIZES {
         let shape = Shape::Lines(job.lines);
@@ -234,7 +234,7 @@ fn whole_front(text: &str, size: usize) -> usize {
 fn meets_no_character(
     rt: &impl Abort,
     alloc: Global,
-    lexer: &ModeLexer,
+    lexer: &RuleLexer,
     job: &Coming,
     size: usize,
 ) -> bool {
@@ -269,7 +269,7 @@ fn a_byte_of_no_character_leaves_the_lines_in_front(rt: HostRuntime) {
 }
 
 // The text ends within a character.
-fn ends_within(alloc: Global, lexer: &ModeLexer, job: &Coming, size: usize) -> bool {
+fn ends_within(alloc: Global, lexer: &RuleLexer, job: &Coming, size: usize) -> bool {
     let bytes = job.text.as_bytes().get(..size).unwrap_or(b"");
     let at = whole_front(job.text, size);
     for at_once in SIZES {
@@ -404,7 +404,7 @@ const FAULTS: [Fault; 8] = [
 ];
 
 // The fault is told, and nothing is read once it is seen: neither what lies behind it, nor the end or a failure.
-fn stops(alloc: Global, lexer: &ModeLexer, job: &Fault, reader: Fed<'_>) -> bool {
+fn stops(alloc: Global, lexer: &RuleLexer, job: &Fault, reader: Fed<'_>) -> bool {
     let calls = reads(job.size, reader.at_once);
     let cut = cut(alloc, lexer, &Shape::Lines(PLAIN), reader);
     let place = Position {
@@ -453,7 +453,7 @@ fn the_end_shows_a_fault(rt: HostRuntime) {
 // A writer that fails at this byte of the lines is called before more is read than the line needs, which this many bytes settle.
 fn is_answered(
     alloc: Global,
-    lexer: &ModeLexer,
+    lexer: &RuleLexer,
     job: &Coming,
     room: usize,
     size: usize,
@@ -490,7 +490,7 @@ fn a_line_is_written_before_more_is_read(rt: HostRuntime) {
 
 // ---- a reader that has failed
 
-fn is_left_alone(alloc: Global, lexer: &ModeLexer, shape: &Shape) -> bool {
+fn is_left_alone(alloc: Global, lexer: &RuleLexer, shape: &Shape) -> bool {
     let mut reader = Watched::new(Fed::failing(b"", ALL));
     let mut writer = Watched::new(Vec::new(alloc));
     let mut buffer = [0u8; 4];

@@ -8,7 +8,7 @@ use std::io;
 use std::io::{Read, Write};
 use std::process::Abort;
 use tokens_lib::{
-    CutEnd, Layout, LineForm, Markup, ModeAction, ModeLexer, ModeRule, OpenMode, Rule, TextError,
+    CutEnd, Layout, LineForm, Markup, ModeAction, RuleLexer, ModeRule, OpenMode, Rule, TextError,
     write_items, write_page,
 };
 
@@ -71,26 +71,26 @@ fn plain<'text>(rule: Rule<'text>) -> ModeRule<'text> {
 }
 
 /// A keyword, names of ASCII letters, and spaces and line feeds, which are skipped.
-pub(crate) fn lexer_of_rules(rt: &impl Abort, alloc: Global) -> ModeLexer {
+pub(crate) fn lexer_of_rules(rt: &impl Abort, alloc: Global) -> RuleLexer {
     let rules = [
         plain(Rule::literal("IF", "if")),
         plain(Rule::pattern("NAME", "[a-z]+")),
         plain(Rule::pattern("SPACE", "[ \n]+").skipped()),
     ];
-    ModeLexer::from_rules(alloc, &rules, 1).expect(rt, "a lexer")
+    RuleLexer::from_rules(alloc, &rules, 1).expect(rt, "a lexer")
 }
 
 /// Words of characters of one, two, three and four bytes, and spaces, which are skipped.
-pub(crate) fn lexer_of_words(rt: &impl Abort, alloc: Global) -> ModeLexer {
+pub(crate) fn lexer_of_words(rt: &impl Abort, alloc: Global) -> RuleLexer {
     let rules = [
         plain(Rule::pattern("WORD", "[a-z\u{e9}\u{20ac}\u{1f600}]+")),
         plain(Rule::pattern("SPACE", " ").skipped()),
     ];
-    ModeLexer::from_rules(alloc, &rules, 1).expect(rt, "a lexer")
+    RuleLexer::from_rules(alloc, &rules, 1).expect(rt, "a lexer")
 }
 
 /// Names, and comments in comments.
-pub(crate) fn lexer_of_comments(rt: &impl Abort, alloc: Global) -> ModeLexer {
+pub(crate) fn lexer_of_comments(rt: &impl Abort, alloc: Global) -> RuleLexer {
     let rules = [
         plain(Rule::pattern("NAME", "[a-z]+")),
         ModeRule {
@@ -109,7 +109,7 @@ pub(crate) fn lexer_of_comments(rt: &impl Abort, alloc: Global) -> ModeLexer {
             actions: &[],
         },
     ];
-    ModeLexer::from_rules(alloc, &rules, 2).expect(rt, "a lexer")
+    RuleLexer::from_rules(alloc, &rules, 2).expect(rt, "a lexer")
 }
 
 /// How cutting a text ends.
@@ -211,7 +211,7 @@ pub(crate) const RECOVERING_JSON: Lines = Lines {
 /// The lines of what is read, by rules whose modes have no names.
 pub(crate) fn write_lines<R: Read, W: Write>(
     alloc: Global,
-    lexer: &ModeLexer,
+    lexer: &RuleLexer,
     lines: Lines,
     reader: &mut Watched<R>,
     writer: &mut Watched<W>,
@@ -230,7 +230,7 @@ pub(crate) fn write_lines<R: Read, W: Write>(
 /// The lines or the page of what is read.
 pub(crate) fn write_shape<R: Read, W: Write>(
     alloc: Global,
-    lexer: &ModeLexer,
+    lexer: &RuleLexer,
     shape: &Shape,
     reader: &mut Watched<R>,
     writer: &mut Watched<W>,
@@ -252,7 +252,7 @@ pub(crate) struct Answer {
 }
 
 /// Cuts what a reader gives.
-pub(crate) fn cut(alloc: Global, lexer: &ModeLexer, shape: &Shape, reader: Fed<'_>) -> Answer {
+pub(crate) fn cut(alloc: Global, lexer: &RuleLexer, shape: &Shape, reader: Fed<'_>) -> Answer {
     let mut reader = Watched::new(reader);
     let mut writer = Watched::new(Vec::new(alloc));
     let end = write_shape(alloc, lexer, shape, &mut reader, &mut writer);

@@ -10,9 +10,9 @@ use program_tests::failing::FailsAfter;
 use std::alloc::Global;
 use std::io;
 use std::process::Abort;
-use tokens_lib::{CutEnd, Layout, LineForm, Markup, ModeLexer, OpenMode, write_items};
+use tokens_lib::{CutEnd, Layout, LineForm, Markup, RuleLexer, OpenMode, write_items};
 
-fn is_written(alloc: Global, lexer: &ModeLexer, job: &Job) -> bool {
+fn is_written(alloc: Global, lexer: &RuleLexer, job: &Job) -> bool {
     let reader = Fed::ending(job.text.as_bytes(), ALL);
     let cut = cut(alloc, lexer, &job.shape, reader);
     is_end(&cut.end, job.end) && cut.written.as_slice() == job.written
@@ -28,7 +28,7 @@ fn lines_and_pages_are_written(rt: HostRuntime) {
 
 fn leaves_a_prefix(
     alloc: Global,
-    lexer: &ModeLexer,
+    lexer: &RuleLexer,
     job: &Job,
     room: usize,
     kind: Option<io::ErrorKind>,

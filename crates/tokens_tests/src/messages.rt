@@ -2,7 +2,7 @@
 
 use std::alloc::Global;
 use tokens_lib::{
-    BuildError, ModeFile, ModeLexer, bad_line_message, lexer_of, read_rules, rules_message,
+    BuildError, ModeFile, RuleLexer, bad_line_message, lexer_of, read_rules, rules_message,
     terminals_message, warnings_message,
 };
 
@@ -16,7 +16,7 @@ fn said_of_rules(alloc: Global, bytes: &[u8]) -> Option<String> {
     if file.modes.is_empty() {
         return None;
     }
-    match ModeLexer::from_rules(alloc, &file.rules, file.modes.len()) {
+    match RuleLexer::from_rules(alloc, &file.rules, file.modes.len()) {
         Ok(_) => None,
         Err(error) => rules_message(alloc, "f", bytes, &file, &error).ok(),
     }

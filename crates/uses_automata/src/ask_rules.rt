@@ -6,7 +6,7 @@ ghost use Rattle.lalrpop_review.specs.Apart.{IsTokenIn, TellsApart};
 ghost use Rattle.lalrpop_review.specs.Review.{AreThose};
 
 use lalrpop_hir::NfaIndex;
-use lalrpop_modes::ModeLexer;
+use lalrpop_rules::RuleLexer;
 use lalrpop_review::{Difference, difference_in, review};
 use std::alloc::{AllocError, Global};
 
@@ -16,7 +16,7 @@ use std::alloc::{AllocError, Global};
 /// # Errors
 ///
 /// `AllocError` if a request for memory was refused.
-pub fn empty_rules(alloc: Global, lexer: &ModeLexer) -> Result<Vec<NfaIndex>, AllocError>
+pub fn empty_rules(alloc: Global, lexer: &RuleLexer) -> Result<Vec<NfaIndex>, AllocError>
     ensures rules { IfOk result (λ found. AreThose (length lexer.now.trees)
         (TreeMatches lexer.now.trees []) found.items) }
 {
@@ -31,8 +31,8 @@ pub fn empty_rules(alloc: Global, lexer: &ModeLexer) -> Result<Vec<NfaIndex>, Al
 /// `AllocError` if a request for memory was refused.
 pub fn first_changed_token(
     alloc: Global,
-    old: &ModeLexer,
-    new: &ModeLexer,
+    old: &RuleLexer,
+    new: &RuleLexer,
 ) -> Result<Option<Difference>, AllocError>
     requires old_mode { 0 < old.now.modes }
     requires new_mode { 0 < new.now.modes }
@@ -51,8 +51,8 @@ pub fn first_changed_token(
 /// `AllocError` if a request for memory was refused.
 pub fn is_unchanged_in(
     alloc: Global,
-    old: &ModeLexer,
-    new: &ModeLexer,
+    old: &RuleLexer,
+    new: &RuleLexer,
     mode: usize,
 ) -> Result<bool, AllocError>
     requires old_mode { mode < old.now.modes }

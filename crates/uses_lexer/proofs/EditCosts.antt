@@ -3,8 +3,8 @@ use Rattle.std.proofs.Common.{◌≡◌, ℕ, ◌+◌, ◌-◌, ◌*◌, ◌<◌
 use Rattle.std.specs.Str.{IsCharBoundary}
 use Rattle.std.proofs.lemmas.Bool.{cases_order}
 use Rattle.std.proofs.Math.Nat.{mul-le-mul_left}
-use Rattle.lalrpop_modes.specs.Modes.{ModeRules, trees_in}
-use Rattle.lalrpop_modes.specs.ModeCut.{open_in_all}
+use Rattle.lalrpop_rules.specs.Modes.{ModeRules, trees_in}
+use Rattle.lalrpop_rules.specs.ModeCut.{open_in_all}
 use Rattle.lalrpop_edits.specs.Costs.{IsReadTo, IsPaidFor}
 use Rattle.lalrpop_edits.specs.Lexed.{Lexed, ReadsTo, replaced}
 use Rattle.lalrpop_edits.specs.declared.change.Change.{Change}

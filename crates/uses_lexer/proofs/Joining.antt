@@ -9,8 +9,8 @@ use Rattle.lalrpop_rules.specs.declared.item.Item.TheVariants.{Fault}
 use Rattle.lalrpop_edits.specs.Given.{item_by, item_of}
 use Rattle.lalrpop_edits.specs.declared.given_piece.GivenPiece.{GivenPiece}
 use Rattle.lalrpop_rules.proofs.UniquePieces.{same_slice}
-use Rattle.lalrpop_modes.specs.Stack.{Stack, start}
-use Rattle.lalrpop_modes.specs.Modes.{ModeRules, ArePiecesFrom}
+use Rattle.bajofeki_rules.specs.Stack.{Stack, start}
+use Rattle.lalrpop_rules.specs.Modes.{ModeRules, ArePiecesFrom}
 use Rattle.lalrpop_edits.specs.Chunked.{Chunked, Came, IsHeldBack, BeginsFault, nothing_come}
 use Rattle.lalrpop_edits.proofs.ChunkLaws.{came_nothing, came_more, came_rest, came_pieces, fault_follows}
 

@@ -4,7 +4,7 @@ use Rattle.std.specs.Prelude.{Option, Some, None, Result, Ok}
 use Rattle.std.specs.Iterator.{Yields}
 use Rattle.std.specs.declared.alloc.AllocError.{AllocError}
 use Rattle.lalrpop_rules.specs.declared.item.Item.{Item}
-use Rattle.lalrpop_modes.specs.ModeCut.{ModeCut, left_text, GivesModePiece, GivesPieceOrError}
+use Rattle.lalrpop_rules.specs.ModeCut.{ModeCut, left_text, GivesModePiece, GivesPieceOrError}
 use Rattle.uses_lexer.proofs.Counting.{item_more}
 use Rattle.uses_lexer.proofs.Tokens.{token_more}
 

@@ -1,9 +1,9 @@
 -- The names of the rules of a file, through the rules of its lexer.
 use Rattle.std.proofs.Common.{◌≡◌, ℕ, List, [], ◌∷◌, map, refl, ap, ◌∙◌}
-use Rattle.lalrpop_rules.specs.declared.rule.Rule.{Rule}
+use Rattle.bajofeki_rules.specs.declared.rule.Rule.{Rule}
 use Rattle.lalrpop_rules.specs.RuleSet.{names_of}
-use Rattle.lalrpop_modes.specs.ModeSet.{rules_of}
-use Rattle.lalrpop_modes.specs.declared.mode_rule.ModeRule.{ModeRule}
+use Rattle.lalrpop_rules.specs.ModeSet.{rules_of}
+use Rattle.bajofeki_rules.specs.declared.mode_rule.ModeRule.{ModeRule}
 use Rattle.lalrpop_rule_file.specs.declared.file_rule.FileRule.{FileRule}
 
 each_name : (ms : List ModeRule) → map (λ r. r.name.now) (map (λ m. m.rule) ms) ≡ map (λ m. m.rule.name.now) ms

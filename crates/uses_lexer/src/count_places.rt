@@ -1,7 +1,7 @@
 //! Places in a text, as line and column.
 ghost use Rattle.std.specs.Prelude.{◌≡◌, ◌≤◌, ◌+◌, ◌^◌, ◌++◌, ◌↔◌, ◌⊎◌, length, IfNone, IfSome, IsSome};
 ghost use Rattle.std.specs.Str.{IsCharBoundary, chars};
-ghost use Rattle.lalrpop_lexer.specs.Position.{place_behind, position_of};
+ghost use Rattle.bajofeki_rules.specs.Position.{place_behind, position_of};
 
 use lalrpop_lexer::{Position, Positions};
 

@@ -1,46 +1,47 @@
 //! A text is cut by rules with modes.
 ghost use Rattle.std.specs.Prelude.{◌≡◌, ◌≤◌, ◌<◌, ◌+◌, ◌*◌, ◌∷◌, [], ℕ, List, length, Option, None, true, false, IfOk, IfErr, IsSome, option_map, slice_get};
-ghost use Rattle.lalrpop_modes.specs.ModeCut.{ModeCut, uncut, open_in_all, GivesModePiece};
+ghost use Rattle.lalrpop_rules.specs.ModeCut.{ModeCut, uncut, open_in_all, GivesModePiece};
 ghost use Rattle.std.specs.Str.{chars};
-ghost use Rattle.lalrpop_modes.specs.ModeClashes.{IsModesFault};
-ghost use Rattle.lalrpop_modes.specs.ModeSet.{AreModeRules, IsModesError};
-ghost use Rattle.lalrpop_modes.specs.ModesErrors.{of_texts};
-ghost use Rattle.lalrpop_modes.specs.Modes.{ArePiecesFrom, ModeRules, NoModeClash, OneLeadsInto};
-ghost use Rattle.lalrpop_modes.specs.Stack.{Stack, actions_of, start};
+ghost use Rattle.lalrpop_rules.specs.ModeClashes.{IsModesFault};
+ghost use Rattle.lalrpop_rules.specs.ModeSet.{AreModeRules, IsRulesError};
+ghost use Rattle.lalrpop_rules.specs.RulesErrors.{of_texts};
+ghost use Rattle.lalrpop_rules.specs.Modes.{ArePiecesFrom, ModeRules, NoModeClash};
+ghost use Rattle.bajofeki_rules.specs.EnteredModes.{OneLeadsInto};
+ghost use Rattle.bajofeki_rules.specs.Stack.{Stack, actions_of, start};
 ghost use Rattle.lalrpop_rules.specs.Pieces.{AreApart, joined};
 ghost use Rattle.lalrpop_rules.specs.declared.item.Item.{Item as ItemValue};
 
 use lalrpop_lexer::lexer::dfa::NfaIndex;
-use lalrpop_modes::{Action, ModeItems, ModeLexer, ModeRule, ModesError, mode_clashes};
+use lalrpop_rules::{Action, RuleItems, RuleLexer, ModeRule, RulesError, mode_clashes};
 use lalrpop_rules::TextError;
 use std::alloc::{AllocError, Global};
 
-// Needs lalrpop_modes::ModeLexer::from_rules: rules, error.
-// Needs lalrpop_modes::ModeLexer::modes: count.
+// Needs lalrpop_rules::RuleLexer::from_rules: rules, error.
+// Needs lalrpop_rules::RuleLexer::modes: count.
 /// How many modes the lexer of these rules has: as many as were asked for.
 ///
 /// # Errors
 ///
 /// What is wrong with the rules.
-pub fn mode_count(alloc: Global, rules: &[ModeRule], modes: usize) -> Result<usize, ModesError>
+pub fn mode_count(alloc: Global, rules: &[ModeRule], modes: usize) -> Result<usize, RulesError>
     requires some { 0 < modes }
     ensures count { IfOk result (λ n. n ≡ modes) }
-    ensures error { IfErr result (IsModesError rules.now modes) }
+    ensures error { IfErr result (IsRulesError rules.now modes) }
 {
-    let lexer = ModeLexer::from_rules(alloc, rules, modes)?;
+    let lexer = RuleLexer::from_rules(alloc, rules, modes)?;
     Ok(lexer.modes())
 }
 
-// Needs lalrpop_modes::ModeLexer::items: start.
-// Needs lalrpop_modes::ModeItems::next_item: gives.
-// Needs lalrpop_modes::ModeItems::stack: stack.
+// Needs lalrpop_rules::RuleLexer::items: start.
+// Needs lalrpop_rules::RuleItems::next_item: gives.
+// Needs lalrpop_rules::RuleItems::stack: stack.
 /// The mode in which a text is read after its first piece.
 ///
 /// # Errors
 ///
 /// `AllocError` if a request for memory was refused.
 pub fn mode_behind_the_first<'text>(
-    lexer: &'text ModeLexer,
+    lexer: &'text RuleLexer,
     alloc: Global,
     text: &'text str,
 ) -> Result<usize, AllocError>
@@ -54,67 +55,67 @@ pub fn mode_behind_the_first<'text>(
     }
 }
 
-// Needs lalrpop_modes::ModeItems::next_item: refused.
+// Needs lalrpop_rules::RuleItems::next_item: refused.
 /// Whether the next piece was refused memory. Then the text is as it was, and the piece can be asked for again.
-pub fn was_refused(items: &mut ModeItems<'_>) -> bool
+pub fn was_refused(items: &mut RuleItems<'_>) -> bool
     ensures same { result ≡ true → items.new ≡ items.old }
 {
     items.next_item().is_err()
 }
 
-// Needs lalrpop_modes::ModeItems::rest: rest.
-// Needs lalrpop_modes::ModeLexer::items: start.
+// Needs lalrpop_rules::RuleItems::rest: rest.
+// Needs lalrpop_rules::RuleLexer::items: start.
 /// Before the first piece the rest is the whole text.
-pub fn rest_by_modes<'text>(lexer: &'text ModeLexer, alloc: Global, text: &'text str) -> &'text str
+pub fn rest_by_modes<'text>(lexer: &'text RuleLexer, alloc: Global, text: &'text str) -> &'text str
     ensures whole { result.now ≡ text.now }
 {
     lexer.items(alloc, text).rest()
 }
 
-// Needs lalrpop_modes::ModeLexer::modes: count, some, within.
+// Needs lalrpop_rules::RuleLexer::modes: count, some, within.
 /// The number of the last mode. No rule leads into a mode behind it.
-pub fn last_mode(lexer: &ModeLexer) -> usize
+pub fn last_mode(lexer: &RuleLexer) -> usize
     ensures last { result < lexer.now.modes }
     ensures within { (i m : ℕ) → OneLeadsInto (actions_of lexer.now.actions i) m → m ≤ result }
 {
     lexer.modes() - 1
 }
 
-// Needs lalrpop_modes::ModeLexer::names: names.
+// Needs lalrpop_rules::RuleLexer::names: names.
 /// How many names the rules have.
-pub fn named_rules(lexer: &ModeLexer) -> usize
+pub fn named_rules(lexer: &RuleLexer) -> usize
     ensures count { result ≡ length lexer.now.names }
 {
     lexer.names().len()
 }
 
-// Needs lalrpop_modes::ModesError::from: ghost from_gives.
+// Needs lalrpop_rules::RulesError::from: ghost from_gives.
 /// What is wrong with texts is wrong with their rules.
-pub fn mode_error_of_texts(error: TextError) -> ModesError
+pub fn mode_error_of_texts(error: TextError) -> RulesError
     ensures same { result ≡ of_texts error }
 {
-    ModesError::from(error)
+    RulesError::from(error)
 }
 
-// Needs lalrpop_modes::ModeLexer::actions: actions.
-// Needs lalrpop_modes::ModeLexer::name: name.
+// Needs lalrpop_rules::RuleLexer::actions: actions.
+// Needs lalrpop_rules::RuleLexer::name: name.
 /// The name and the actions of a rule.
-pub fn what_it_does(lexer: &ModeLexer, index: NfaIndex) -> (Option<&str>, &[Action])
+pub fn what_it_does(lexer: &RuleLexer, index: NfaIndex) -> (Option<&str>, &[Action])
     ensures name { option_map (λ s. s.now) result.0 ≡ slice_get lexer.now.names index }
     ensures actions { result.1.now ≡ actions_of lexer.now.actions index }
 {
     (lexer.name(index), lexer.actions(index))
 }
 
-// Needs lalrpop_modes::ModeLexer::items: items, whole, apart.
-// Needs lalrpop_modes::ModeItems::next_item: gives.
+// Needs lalrpop_rules::RuleLexer::items: items, whole, apart.
+// Needs lalrpop_rules::RuleItems::next_item: gives.
 /// Whether a text is one piece.
 ///
 /// # Errors
 ///
 /// `AllocError` if a request for memory was refused.
 pub fn is_one_piece<'text>(
-    lexer: &'text ModeLexer,
+    lexer: &'text RuleLexer,
     alloc: Global,
     text: &'text str,
 ) -> Result<bool, AllocError>
@@ -130,15 +131,15 @@ pub fn is_one_piece<'text>(
     }
 }
 
-// Needs lalrpop_modes::ModeLexer::items_linear: items, whole, apart.
-// Needs lalrpop_modes::ModeItems::next_item: gives.
+// Needs lalrpop_rules::RuleLexer::items_linear: items, whole, apart.
+// Needs lalrpop_rules::RuleItems::next_item: gives.
 /// Whether a text is one piece, told in linear time.
 ///
 /// # Errors
 ///
 /// `AllocError` if a request for memory was refused.
 pub fn is_one_piece_linear<'text>(
-    lexer: &'text ModeLexer,
+    lexer: &'text RuleLexer,
     alloc: Global,
     text: &'text str,
 ) -> Result<bool, AllocError>
@@ -156,15 +157,15 @@ pub fn is_one_piece_linear<'text>(
     }
 }
 
-// Needs lalrpop_modes::ModeLexer::items: items, whole, apart, next, count.
-// Needs lalrpop_modes::ModeItems::next: ghost next_gives, ghost remaining.
+// Needs lalrpop_rules::RuleLexer::items: items, whole, apart, next, count.
+// Needs lalrpop_rules::RuleItems::next: ghost next_gives, ghost remaining.
 /// How many pieces a text is.
 ///
 /// # Errors
 ///
 /// `AllocError` if a request for memory was refused.
 pub fn piece_count<'text>(
-    lexer: &'text ModeLexer,
+    lexer: &'text RuleLexer,
     alloc: Global,
     text: &'text str,
 ) -> Result<usize, AllocError>
@@ -182,15 +183,15 @@ pub fn piece_count<'text>(
     Ok(count)
 }
 
-// Needs lalrpop_modes::ModeLexer::items_linear: items, whole, apart, next, count.
-// Needs lalrpop_modes::ModeItems::next: ghost next_gives, ghost remaining.
+// Needs lalrpop_rules::RuleLexer::items_linear: items, whole, apart, next, count.
+// Needs lalrpop_rules::RuleItems::next: ghost next_gives, ghost remaining.
 /// How many pieces a text is, counted in linear time.
 ///
 /// # Errors
 ///
 /// `AllocError` if a request for memory was refused.
 pub fn piece_count_linear<'text>(
-    lexer: &'text ModeLexer,
+    lexer: &'text RuleLexer,
     alloc: Global,
     text: &'text str,
 ) -> Result<usize, AllocError>
@@ -208,9 +209,9 @@ pub fn piece_count_linear<'text>(
     Ok(count)
 }
 
-// Needs lalrpop_modes::ModeItems::next: ghost next_gives.
+// Needs lalrpop_rules::RuleItems::next: ghost next_gives.
 /// Whether something comes after an error: never.
-pub fn comes_behind_an_error(items: &mut ModeItems<'_>) -> bool
+pub fn comes_behind_an_error(items: &mut RuleItems<'_>) -> bool
     ensures never { result ≡ false }
 {
     match items.next() {
@@ -219,17 +220,17 @@ pub fn comes_behind_an_error(items: &mut ModeItems<'_>) -> bool
     }
 }
 
-// Needs lalrpop_modes::ModeLexer::items_linear: start, memo, cost.
+// Needs lalrpop_rules::RuleLexer::items_linear: start, memo, cost.
 /// The text before its first piece, with memos. All steps that are counted are within the bound for the whole text.
 ///
 /// # Errors
 ///
 /// `AllocError` if a request for memory was refused.
 pub fn begin_linear<'text>(
-    lexer: &'text ModeLexer,
+    lexer: &'text RuleLexer,
     alloc: Global,
     text: &'text str,
-) -> Result<ModeItems<'text>, AllocError>
+) -> Result<RuleItems<'text>, AllocError>
     ensures rules { IfOk result (λ s. s.rules ≡ lexer.now) }
     ensures memo { IfOk result (λ s. IsSome s.memo) }
     ensures cost { IfOk result (λ s. s.steps ≤ 65 * length (chars text.now)
@@ -239,29 +240,29 @@ pub fn begin_linear<'text>(
     lexer.items_linear(alloc, text)
 }
 
-// Needs lalrpop_modes::ModeLexer::from_rules: no_clash.
+// Needs lalrpop_rules::RuleLexer::from_rules: no_clash.
 /// The lexer of rules, none of which clashes with another in a mode.
 ///
 /// # Errors
 ///
 /// What is wrong with the rules.
-pub fn clear_lexer(alloc: Global, rules: &[ModeRule], modes: usize) -> Result<ModeLexer, ModesError>
+pub fn clear_lexer(alloc: Global, rules: &[ModeRule], modes: usize) -> Result<RuleLexer, RulesError>
     requires some { 0 < modes }
     ensures no_clash { IfOk result NoModeClash }
 {
-    ModeLexer::from_rules(alloc, rules, modes)
+    RuleLexer::from_rules(alloc, rules, modes)
 }
 
-// Needs lalrpop_modes::ModeLexer::items: exist.
+// Needs lalrpop_rules::RuleLexer::items: exist.
 /// Any text has pieces, whether they are asked for or not.
-pub fn has_pieces<'text>(lexer: &'text ModeLexer, alloc: Global, text: &'text str) -> bool
+pub fn has_pieces<'text>(lexer: &'text RuleLexer, alloc: Global, text: &'text str) -> bool
     ensures exist { (xs : List ItemValue) × ((end : Stack)
         × ArePiecesFrom lexer.now text.now 0 start xs end) }
 {
     lexer.items(alloc, text).rest().is_empty()
 }
 
-// Needs lalrpop_modes::mode_clashes: clashes, error.
+// Needs lalrpop_rules::mode_clashes: clashes, error.
 /// In how many modes clashes are looked for.
 ///
 /// # Errors
@@ -271,7 +272,7 @@ pub fn modes_with_lists(
     alloc: Global,
     rules: &[ModeRule],
     modes: usize,
-) -> Result<usize, ModesError>
+) -> Result<usize, RulesError>
     ensures count { IfOk result (λ n. (r : ModeRules) × (AreModeRules rules.now modes r × (n ≡ r.modes))) }
     ensures error { IfErr result (IsModesFault rules.now modes) }
 {
@@ -279,9 +280,9 @@ pub fn modes_with_lists(
     Ok(found.len())
 }
 
-// Needs lalrpop_modes::ModeLexer::items_linear: exist.
+// Needs lalrpop_rules::RuleLexer::items_linear: exist.
 /// Any text has pieces, whether there is memory for them or not.
-pub fn has_pieces_linear<'text>(lexer: &'text ModeLexer, alloc: Global, text: &'text str) -> bool
+pub fn has_pieces_linear<'text>(lexer: &'text RuleLexer, alloc: Global, text: &'text str) -> bool
     ensures exist { (xs : List ItemValue) × ((end : Stack)
         × ArePiecesFrom lexer.now text.now 0 start xs end) }
 {

@@ -1,7 +1,7 @@
 //! Cuts bytes by a lexer in numbers, as its source files in C and in Rust do.
 ghost use Rattle.std.specs.Prelude.{◌≡◌, ℕ, List, length, drop, map, string_bytes, true, IfOk};
 ghost use Rattle.std.specs.Str.{IsCharBoundary};
-ghost use Rattle.lalrpop_lexer.specs.Position.{position_of};
+ghost use Rattle.bajofeki_rules.specs.Position.{position_of};
 ghost use Rattle.lalrpop_emit.specs.ByteCut.{IsCutOf, place_of};
 ghost use Rattle.lalrpop_emit.specs.BytePieces.{AreBytePieces, numbered};
 ghost use Rattle.lalrpop_emit.specs.BytePositions.{byte_position_of};
@@ -10,22 +10,22 @@ ghost use Rattle.lalrpop_emit.specs.RustSource.{rust_file};
 ghost use Rattle.lalrpop_emit.specs.Names.{IsIdentifier, kinds_of};
 ghost use Rattle.lalrpop_emit.specs.NumberedRules.{AreNumbersOf, AreSameInFile, IsStorable, NumberedRules};
 ghost use Rattle.lalrpop_emit.specs.declared.numbered_piece.NumberedPiece.{NumberedPiece};
-ghost use Rattle.lalrpop_modes.specs.Modes.{ArePiecesFrom, ModeRules};
-ghost use Rattle.lalrpop_modes.specs.Stack.{Stack, start};
+ghost use Rattle.lalrpop_rules.specs.Modes.{ArePiecesFrom, ModeRules};
+ghost use Rattle.bajofeki_rules.specs.Stack.{Stack, start};
 ghost use Rattle.lalrpop_rules.specs.declared.item.Item.{Item};
 
 use lalrpop_emit::{
     ByteCutter, BytePieces, BytePosition, EmitError, LexerNumbers, TooDeep, byte_position,
     c_source, rust_source,
 };
-use lalrpop_modes::ModeLexer;
+use lalrpop_rules::RuleLexer;
 use std::alloc::{AllocError, Global};
 
 // Needs lalrpop_emit::LexerNumbers::new: numbers; lalrpop_emit::LexerNumbers::pieces: items, whole.
 /// The pieces of a text by the numbers of a lexer. If there are all, they are those of the text by the rules.
 pub fn pieces_by_numbers(
     alloc: Global,
-    rules: &ModeLexer,
+    rules: &RuleLexer,
     text: &str,
 ) -> Result<BytePieces, EmitError>
     ensures same { IfOk result (λ all. all.is_whole ≡ true → (items : List Item) (end : Stack)

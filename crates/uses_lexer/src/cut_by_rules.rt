@@ -5,12 +5,12 @@ ghost use Rattle.lalrpop_hir.specs.Tokens.{AreTokens};
 ghost use Rattle.lalrpop_rules.specs.Pieces.{ArePieces, AreApart, joined, up_to_fault};
 ghost use Rattle.lalrpop_rules.specs.declared.item.Item.{Item as ItemValue};
 
-use lalrpop_rules::RuleLexer;
+use lalrpop_rules::OldRuleLexer;
 use std::alloc::{AllocError, Global};
 
-// Needs lalrpop_rules::RuleLexer::items: items, whole, apart, tokens, count.
+// Needs lalrpop_rules::OldRuleLexer::items: items, whole, apart, tokens, count.
 /// How many pieces a text is.
-pub fn piece_count(lexer: &RuleLexer, text: &str) -> usize
+pub fn piece_count(lexer: &OldRuleLexer, text: &str) -> usize
     ensures all { (xs : List ItemValue)
         × (ArePieces lexer.now.trees lexer.now.precedences lexer.now.skips text.now 0 xs
         × (joined xs ≡ text.now) × AreApart xs
@@ -25,13 +25,13 @@ pub fn piece_count(lexer: &RuleLexer, text: &str) -> usize
     count
 }
 
-// Needs lalrpop_rules::RuleLexer::item_list: all.
+// Needs lalrpop_rules::OldRuleLexer::item_list: all.
 /// How many pieces a text is, by the list of them.
 ///
 /// # Errors
 ///
 /// `AllocError` if a request for memory was refused.
-pub fn listed_count(alloc: Global, lexer: &RuleLexer, text: &str) -> Result<usize, AllocError>
+pub fn listed_count(alloc: Global, lexer: &OldRuleLexer, text: &str) -> Result<usize, AllocError>
     ensures all { IfOk result (λ count. (xs : List ItemValue)
         × (ArePieces lexer.now.trees lexer.now.precedences lexer.now.skips text.now 0 xs
         × (count ≡ length xs))) }
@@ -40,18 +40,18 @@ pub fn listed_count(alloc: Global, lexer: &RuleLexer, text: &str) -> Result<usiz
     Ok(list.len())
 }
 
-// Needs lalrpop_rules::RuleLexer::items: start.
+// Needs lalrpop_rules::OldRuleLexer::items: start.
 /// Before the first piece the rest is the whole text.
-pub fn rest_at_first<'text>(lexer: &'text RuleLexer, text: &'text str) -> &'text str
+pub fn rest_at_first<'text>(lexer: &'text OldRuleLexer, text: &'text str) -> &'text str
     ensures whole { result.now ≡ text.now }
 {
     lexer.items(text).rest()
 }
 
-// Needs lalrpop_rules::RuleLexer::items: parts.
+// Needs lalrpop_rules::OldRuleLexer::items: parts.
 /// The first piece's slice and what follows it.
 pub fn cut_once<'text>(
-    lexer: &'text RuleLexer,
+    lexer: &'text OldRuleLexer,
     text: &'text str,
 ) -> Option<(&'text str, &'text str)>
     ensures parts { IfSome result (λ m. text.now ≡ m.0.now ++ m.1.now) }
@@ -65,7 +65,7 @@ pub fn cut_once<'text>(
 
 // Needs lalrpop_rules::Items::next: ghost next_gives.
 /// Whether something comes after the end of the pieces: never.
-pub fn comes_behind_the_end(lexer: &RuleLexer, text: &str) -> bool
+pub fn comes_behind_the_end(lexer: &OldRuleLexer, text: &str) -> bool
     ensures never { result ≡ false }
 {
     let mut pieces = lexer.items(text);

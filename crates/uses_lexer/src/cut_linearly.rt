@@ -8,16 +8,16 @@ ghost use Rattle.lalrpop_rules.specs.CutToEnd.{left_text};
 ghost use Rattle.lalrpop_rules.specs.Pieces.{ArePieces, AreApart, joined, up_to_fault};
 ghost use Rattle.lalrpop_rules.specs.declared.item.Item.{Item as ItemValue};
 
-use lalrpop_rules::{Items, RuleLexer};
+use lalrpop_rules::{Items, OldRuleLexer};
 use std::alloc::{AllocError, Global};
 
-// Needs lalrpop_rules::RuleLexer::items_linear: items, whole, apart, tokens, count.
+// Needs lalrpop_rules::OldRuleLexer::items_linear: items, whole, apart, tokens, count.
 /// How many pieces a text is.
 ///
 /// # Errors
 ///
 /// `AllocError` if a request for memory was refused.
-pub fn piece_count(alloc: Global, lexer: &RuleLexer, text: &str) -> Result<usize, AllocError>
+pub fn piece_count(alloc: Global, lexer: &OldRuleLexer, text: &str) -> Result<usize, AllocError>
     ensures all { IfOk result (λ count. (xs : List ItemValue)
         × (ArePieces lexer.now.trees lexer.now.precedences lexer.now.skips text.now 0 xs
         × (joined xs ≡ text.now) × AreApart xs
@@ -32,7 +32,7 @@ pub fn piece_count(alloc: Global, lexer: &RuleLexer, text: &str) -> Result<usize
     Ok(count)
 }
 
-// Needs lalrpop_rules::RuleLexer::items_linear: start, no_clash.
+// Needs lalrpop_rules::OldRuleLexer::items_linear: start, no_clash.
 // Needs lalrpop_rules::Items::rest: rest.
 /// Before the first piece the rest is the whole text. No word is ambiguous.
 ///
@@ -41,7 +41,7 @@ pub fn piece_count(alloc: Global, lexer: &RuleLexer, text: &str) -> Result<usize
 /// `AllocError` if a request for memory was refused.
 pub fn rest_at_first<'text>(
     alloc: Global,
-    lexer: &'text RuleLexer,
+    lexer: &'text OldRuleLexer,
     text: &'text str,
 ) -> Result<&'text str, AllocError>
     ensures whole { IfOk result (λ rest. rest.now ≡ text.now) }
@@ -51,7 +51,7 @@ pub fn rest_at_first<'text>(
     Ok(pieces.rest())
 }
 
-// Needs lalrpop_rules::RuleLexer::items_linear: parts.
+// Needs lalrpop_rules::OldRuleLexer::items_linear: parts.
 /// The first piece's slice and what follows it.
 ///
 /// # Errors
@@ -59,7 +59,7 @@ pub fn rest_at_first<'text>(
 /// `AllocError` if a request for memory was refused.
 pub fn cut_once<'text>(
     alloc: Global,
-    lexer: &'text RuleLexer,
+    lexer: &'text OldRuleLexer,
     text: &'text str,
 ) -> Result<Option<(&'text str, &'text str)>, AllocError>
     ensures parts { IfOk result (λ found. IfSome found (λ m. text.now ≡ m.0.now ++ m.1.now)) }
@@ -71,7 +71,7 @@ pub fn cut_once<'text>(
     }
 }
 
-// Needs lalrpop_rules::RuleLexer::items_linear: cost.
+// Needs lalrpop_rules::OldRuleLexer::items_linear: cost.
 // Needs lalrpop_rules::Items::next: ghost next_gives, ghost remaining.
 /// Cuts the whole text.
 ///
@@ -80,7 +80,7 @@ pub fn cut_once<'text>(
 /// `AllocError` if a request for memory was refused.
 pub fn cut_to_the_end<'text>(
     alloc: Global,
-    lexer: &'text RuleLexer,
+    lexer: &'text OldRuleLexer,
     text: &'text str,
 ) -> Result<Items<'text>, AllocError>
     ensures all { IfOk result (λ s. left_text s ≡ []) }

@@ -2,12 +2,12 @@
 ghost use Rattle.std.specs.Prelude.{◌≡◌, ◌≤◌, ◌<◌, ◌+◌, ◌++◌, ◌⊎◌, ℕ, List, length, take, drop, slice_get, Some, true, IfOk, OnOk, IfErr, IfSome, IfNone};
 ghost use Rattle.std.specs.Str.{IsCharBoundary};
 ghost use Rattle.lalrpop_edits.specs.Lexed.{ArePiecesOf, HasPieces, MeetAt, ReadsTo, replaced};
-ghost use Rattle.lalrpop_modes.specs.Modes.{trees_in};
+ghost use Rattle.lalrpop_rules.specs.Modes.{trees_in};
 ghost use Rattle.lalrpop_rules.specs.Pieces.{AreSame, slice_of, start_of};
 ghost use Rattle.lalrpop_rules.specs.declared.item.Item.{Item as ItemValue};
 
 use lalrpop_edits::{Change, EditError, LexedText};
-use lalrpop_modes::ModeLexer;
+use lalrpop_rules::RuleLexer;
 use lalrpop_rules::Item;
 use std::alloc::{AllocError, Global};
 use std::ops::Range;
@@ -21,7 +21,7 @@ use std::ops::Range;
 /// What is wrong with one of them, or with the text.
 pub fn edited_twice<'rules>(
     alloc: Global,
-    lexer: &'rules ModeLexer,
+    lexer: &'rules RuleLexer,
     text: &str,
     first: Range<usize>,
     one: &str,
@@ -70,7 +70,7 @@ pub fn is_refused(alloc: Global, lexed: &mut LexedText<'_>, range: Range<usize>,
 
 // Needs lalrpop_edits::LexedText::new: error.
 /// Whether a text can't be held, however much memory there is.
-pub fn is_too_large(alloc: Global, lexer: &ModeLexer, text: &str) -> bool
+pub fn is_too_large(alloc: Global, lexer: &RuleLexer, text: &str) -> bool
     ensures large { result ≡ true
         → (4294967295 ≤ length text.now) ⊎ (4294967295 ≤ length lexer.now.trees) }
 {

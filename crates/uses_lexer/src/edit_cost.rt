@@ -1,11 +1,11 @@
 //! What edits cost.
 ghost use Rattle.std.specs.Prelude.{ℕ, ◌+◌, ◌-◌, ◌*◌, ◌<◌, ◌≤◌, length, IfOk, OnOk};
-ghost use Rattle.lalrpop_modes.specs.Modes.{trees_in};
-ghost use Rattle.lalrpop_modes.specs.ModeCut.{open_in_all};
+ghost use Rattle.lalrpop_rules.specs.Modes.{trees_in};
+ghost use Rattle.lalrpop_rules.specs.ModeCut.{open_in_all};
 ghost use Rattle.lalrpop_edits.specs.Lexed.{ReadsTo};
 
 use lalrpop_edits::{EditError, LexedText};
-use lalrpop_modes::ModeLexer;
+use lalrpop_rules::RuleLexer;
 use lalrpop_nfa::Steps;
 use std::alloc::Global;
 use std::ops::Range;
@@ -38,7 +38,7 @@ pub fn edit_within(
 /// What is wrong with the text.
 pub fn cut_whole<'rules>(
     alloc: Global,
-    lexer: &'rules ModeLexer,
+    lexer: &'rules RuleLexer,
     text: &str,
     steps: &mut Steps,
 ) -> Result<LexedText<'rules>, EditError>

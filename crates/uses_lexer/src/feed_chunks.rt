@@ -4,15 +4,15 @@ ghost use Rattle.std.specs.Borrow.{Bor};
 ghost use Rattle.std.specs.Str.{chars};
 ghost use Rattle.lalrpop_hir.specs.Winners.{Matched};
 ghost use Rattle.lalrpop_edits.specs.Chunked.{Came, IsHeldBack, BeginsFault};
-ghost use Rattle.lalrpop_modes.specs.Modes.{ArePiecesFrom, ModeRules, trees_in};
+ghost use Rattle.lalrpop_rules.specs.Modes.{ArePiecesFrom, ModeRules, trees_in};
 ghost use Rattle.lalrpop_rules.specs.Found.{MatchesAt};
-ghost use Rattle.lalrpop_modes.specs.Stack.{Stack, start};
+ghost use Rattle.bajofeki_rules.specs.Stack.{Stack, start};
 ghost use Rattle.lalrpop_rules.specs.Pieces.{joined};
 ghost use Rattle.lalrpop_rules.specs.declared.item.Item.{Item as ItemValue};
 ghost use Rattle.lalrpop_rules.specs.declared.item.Item.TheVariants.{Fault};
 
 use lalrpop_edits::{Chunks, EditError, GivenPiece};
-use lalrpop_modes::ModeLexer;
+use lalrpop_rules::RuleLexer;
 use lalrpop_rules::Item;
 use std::alloc::Global;
 
@@ -83,7 +83,7 @@ pub fn match_to_come<'text>(chunks: &'text Chunks<'_>) -> Option<(usize, &'text 
 /// `OutOfMemory`, or `TooLarge` for a text of 2^64 bytes.
 pub fn put_together(
     alloc: Global,
-    lexer: &ModeLexer,
+    lexer: &RuleLexer,
     front: &str,
     back: &str,
 ) -> Result<String, EditError>
@@ -108,7 +108,7 @@ pub fn put_together(
 /// # Errors
 ///
 /// `OutOfMemory`, or `TooLarge` for a text of 2^64 bytes.
-pub fn first_pieces(alloc: Global, lexer: &ModeLexer, front: &str) -> Result<String, EditError>
+pub fn first_pieces(alloc: Global, lexer: &RuleLexer, front: &str) -> Result<String, EditError>
     ensures begins { IfOk result (λ first. (back : List ℕ) (ys : List ItemValue) (end : Stack)
         → ArePiecesFrom lexer.now (front.now ++ back) 0 start ys end
         → (n : ℕ) × (string_bytes first ≡ joined (take n ys))) }
@@ -128,7 +128,7 @@ pub fn first_pieces(alloc: Global, lexer: &ModeLexer, front: &str) -> Result<Str
 /// `OutOfMemory`, or `TooLarge` for a text of 2^64 bytes.
 pub fn place_of_fault(
     alloc: Global,
-    lexer: &ModeLexer,
+    lexer: &RuleLexer,
     front: &str,
 ) -> Result<Option<usize>, EditError>
     ensures fault { IfOk result (λ found. IfSome found (λ at. (back : List ℕ)

@@ -4,7 +4,7 @@ ghost use Rattle.lalrpop_rules.specs.Found.{MatchesAt, IsFound, NothingFound};
 ghost use Rattle.lalrpop_hir.specs.declared.token.Token.{Token as TokenValue};
 
 use lalrpop_lexer::Lexer;
-use lalrpop_rules::{RuleLexer, find};
+use lalrpop_rules::{OldRuleLexer, find};
 
 // Needs lalrpop_rules::find: found, none.
 /// Where the first match begins, and its length, both in bytes.
@@ -31,9 +31,9 @@ pub fn contains(lexer: &Lexer, text: &str) -> bool
     }
 }
 
-// Needs lalrpop_rules::RuleLexer::find: found, none, named.
+// Needs lalrpop_rules::OldRuleLexer::find: found, none, named.
 /// Where the first match of some rule begins, and the name of the rule.
-pub fn first_name<'rules>(lexer: &'rules RuleLexer, text: &str) -> Option<(usize, &'rules str)>
+pub fn first_name<'rules>(lexer: &'rules OldRuleLexer, text: &str) -> Option<(usize, &'rules str)>
     ensures found { IfSome result (λ m. (token : TokenValue)
         × (IsFound lexer.now.trees lexer.now.precedences text.now token
         × (m.0 ≡ token.start) × (slice_get lexer.now.names token.index ≡ Some m.1.now))) }

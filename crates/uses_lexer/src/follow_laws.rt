@@ -22,7 +22,7 @@ ghost use Rattle.lalrpop_rules.specs.declared.item.Item.{Item as ItemValue};
 use lalrpop_lexer::lexer::dfa::{Clash, DfaConstructionError, Precedence, clashes};
 use lalrpop_lexer::lexer::re::Regex;
 use lalrpop_lexer::{Lexer, LexerTokens, Token};
-use lalrpop_rules::{Items, RuleLexer};
+use lalrpop_rules::{Items, OldRuleLexer};
 use std::alloc::{AllocError, Global};
 
 /// How strong the pattern of the token at the front of the text is. The pattern of a token is in the list.
@@ -61,7 +61,7 @@ pub fn tokens_at_their_places<'text>(lexer: &'text Lexer, text: &'text str) -> L
 }
 
 /// The pieces of the text, each the one at its place.
-pub fn pieces_at_their_places<'text>(lexer: &'text RuleLexer, text: &'text str) -> Items<'text>
+pub fn pieces_at_their_places<'text>(lexer: &'text OldRuleLexer, text: &'text str) -> Items<'text>
     ensures each { (xs : List ItemValue) (i : ℕ) (x : ItemValue)
         → Drains GivesPiece result xs → slice_get xs i ≡ Some x
         → IsPiece lexer.now.trees lexer.now.precedences lexer.now.skips text.now
@@ -77,7 +77,7 @@ pub fn pieces_at_their_places<'text>(lexer: &'text RuleLexer, text: &'text str) 
 /// `AllocError` if a request for memory was refused.
 pub fn pieces_either_way<'text>(
     alloc: Global,
-    lexer: &'text RuleLexer,
+    lexer: &'text OldRuleLexer,
     text: &'text str,
 ) -> Result<(Items<'text>, Items<'text>), AllocError>
     ensures same { IfOk result (λ both. (xs ys : List ItemValue) → Drains GivesPiece both.0 xs
@@ -172,7 +172,7 @@ pub fn fronts_with_one_more<'text>(
 }
 
 /// The pieces of the text. There is one list of all of them, and the calls of `next` give it.
-pub fn the_pieces<'text>(lexer: &'text RuleLexer, text: &'text str) -> Items<'text>
+pub fn the_pieces<'text>(lexer: &'text OldRuleLexer, text: &'text str) -> Items<'text>
     requires { NoClash lexer.now.trees lexer.now.precedences }
     ensures one { (all : List ItemValue)
         × (ArePieces lexer.now.trees lexer.now.precedences lexer.now.skips text.now 0 all
@@ -183,7 +183,7 @@ pub fn the_pieces<'text>(lexer: &'text RuleLexer, text: &'text str) -> Items<'te
 
 /// What is found in the text, and its pieces. It is the first token of these.
 pub fn found_and_pieces<'text>(
-    lexer: &'text RuleLexer,
+    lexer: &'text OldRuleLexer,
     text: &'text str,
 ) -> (Option<Token<'text>>, Items<'text>)
     ensures first { (xs : List ItemValue) → Drains GivesPiece result.1 xs

@@ -1,11 +1,11 @@
 //! A stack of modes, which goes along with a text.
 ghost use Rattle.std.specs.Prelude.{◌≡◌, ◌↔◌, ◌+◌, IsTrue, length, IfOk};
-ghost use Rattle.lalrpop_modes.specs.Stack.{act_all, start};
+ghost use Rattle.bajofeki_rules.specs.Stack.{act_all, start};
 
-use lalrpop_modes::{Action, ModeStack};
+use lalrpop_rules::{Action, ModeStack};
 use std::alloc::{AllocError, Global};
 
-// Needs lalrpop_modes::ModeStack::new: start; lalrpop_modes::ModeStack::act_all: acted; lalrpop_modes::ModeStack::top: mode.
+// Needs lalrpop_rules::ModeStack::new: start; lalrpop_rules::ModeStack::act_all: acted; lalrpop_rules::ModeStack::top: mode.
 /// The mode in which a text is read after these actions.
 ///
 /// # Errors
@@ -19,7 +19,7 @@ pub fn mode_after(alloc: Global, actions: &[Action]) -> Result<usize, AllocError
     Ok(stack.top())
 }
 
-// Needs lalrpop_modes::ModeStack::act_all: acted, refused.
+// Needs lalrpop_rules::ModeStack::act_all: acted, refused.
 /// Puts a mode on the stack and takes it away. Whether memory was refused or not, the stack is as it was.
 pub fn push_and_pop(stack: &mut ModeStack, mode: usize) -> bool
     ensures same { stack.new ≡ stack.old }
@@ -27,7 +27,7 @@ pub fn push_and_pop(stack: &mut ModeStack, mode: usize) -> bool
     stack.act_all(&[Action::Push(mode), Action::Pop]).is_ok()
 }
 
-// Needs lalrpop_modes::ModeStack::act: acted, refused.
+// Needs lalrpop_rules::ModeStack::act: acted, refused.
 /// Puts a mode in the place of the one on top. Those below stay, whether memory was refused or not.
 pub fn leave_for(stack: &mut ModeStack, mode: usize) -> bool
     ensures below { stack.new.below ≡ stack.old.below }
@@ -35,8 +35,8 @@ pub fn leave_for(stack: &mut ModeStack, mode: usize) -> bool
     stack.act(&Action::Mode(mode)).is_ok()
 }
 
-// Needs lalrpop_modes::ModeStack::clone: ghost is_clone; lalrpop_modes::ModeStack::eq: same.
-// Needs lalrpop_modes::ModeStack::act_all: acted.
+// Needs lalrpop_rules::ModeStack::clone: ghost is_clone; lalrpop_rules::ModeStack::eq: same.
+// Needs lalrpop_rules::ModeStack::act_all: acted.
 /// Whether actions lead back to the stack of modes on which they begin.
 ///
 /// # Errors
@@ -50,7 +50,7 @@ pub fn lead_back(stack: &ModeStack, actions: &[Action]) -> Result<bool, AllocErr
     Ok(copy == *stack)
 }
 
-// Needs lalrpop_modes::ModeStack::depth: depth; lalrpop_modes::ModeStack::act: acted.
+// Needs lalrpop_rules::ModeStack::depth: depth; lalrpop_rules::ModeStack::act: acted.
 /// Puts a mode on the stack, and tells how many lie below it.
 ///
 /// # Errors

@@ -9,7 +9,7 @@ ghost use Rattle.lalrpop_hir.specs.declared.token.Token.{Token as TokenValue};
 ghost use Rattle.lalrpop_lexer.specs.Parts.{of_text};
 ghost use Rattle.lalrpop_lexer.specs.Pattern.{Pattern};
 ghost use Rattle.lalrpop_rules.specs.Found.{IsFound};
-ghost use Rattle.lalrpop_rules.specs.RuleText.{HasTree, IsFromToTree};
+ghost use Rattle.lalrpop_rules.specs.TextTrees.{HasTree, IsFromToTree};
 ghost use Rattle.lalrpop_rules.specs.Kinds.{merged};
 ghost use Rattle.lalrpop_rules.specs.RulesErrors.{of_texts, of_construction};
 ghost use Rattle.lalrpop_rules.specs.RuleSet.{AreMergedTrees, AreTrees, IsRulesError, IsTextError, names_of, precedences_of, skips_of};
@@ -18,7 +18,7 @@ use lalrpop_lexer::Token;
 use lalrpop_lexer::lexer::dfa::DfaConstructionError;
 use lalrpop_lexer::lexer::re::Regex;
 use lalrpop_rules::{
-    Rule, RuleLexer, RulesError, TextError, are_one_kind, find, merged_trees, trees_of,
+    Rule, OldRuleLexer, OldRulesError, TextError, are_one_kind, find, merged_trees, trees_of,
 };
 use std::alloc::{AllocError, Global};
 
@@ -66,13 +66,13 @@ pub fn skipped_first(rule: Rule) -> Rule
     rule.with_precedence(1000).skipped()
 }
 
-// Needs lalrpop_rules::RuleLexer::from_rules: names, trees, precedences, skips, no_fault, no_clash, error.
+// Needs lalrpop_rules::OldRuleLexer::from_rules: names, trees, precedences, skips, no_fault, no_clash, error.
 /// The lexer of these rules.
 ///
 /// # Errors
 ///
 /// As `from_rules`.
-pub fn lexer_of(alloc: Global, rules: &[Rule]) -> Result<RuleLexer, RulesError>
+pub fn lexer_of(alloc: Global, rules: &[Rule]) -> Result<OldRuleLexer, OldRulesError>
     ensures names { IfOk result (λ lexer. lexer.names ≡ names_of rules.now) }
     ensures rules { IfOk result (λ lexer. AreMergedTrees rules.now lexer.trees
         × (lexer.precedences ≡ precedences_of rules.now)
@@ -81,7 +81,7 @@ pub fn lexer_of(alloc: Global, rules: &[Rule]) -> Result<RuleLexer, RulesError>
         NoFault lexer.trees × NoClash lexer.trees lexer.precedences) }
     ensures error { IfErr result (λ e. IsRulesError rules.now e) }
 {
-    RuleLexer::from_rules(alloc, rules)
+    OldRuleLexer::from_rules(alloc, rules)
 }
 
 // Needs lalrpop_rules::are_one_kind: ensures.
@@ -123,17 +123,17 @@ pub fn all_trees(alloc: Global, rules: &[Rule]) -> Result<Vec<Regex>, TextError>
     trees_of(alloc, rules)
 }
 
-// Needs lalrpop_rules::RuleLexer::names: names.
+// Needs lalrpop_rules::OldRuleLexer::names: names.
 /// How many names the rules have.
-pub fn name_count(lexer: &RuleLexer) -> usize
+pub fn name_count(lexer: &OldRuleLexer) -> usize
     ensures count { result ≡ length lexer.now.names }
 {
     lexer.names().len()
 }
 
-// Needs lalrpop_rules::RuleLexer::name: name, token.
+// Needs lalrpop_rules::OldRuleLexer::name: name, token.
 /// The name of a token's rule.
-pub fn name_of<'rules>(lexer: &'rules RuleLexer, text: &str, token: Token) -> Option<&'rules str>
+pub fn name_of<'rules>(lexer: &'rules OldRuleLexer, text: &str, token: Token) -> Option<&'rules str>
     requires token { IsToken lexer.now.trees lexer.now.precedences text.now token.start token }
     ensures some { IsSome result }
     ensures name { IfSome result (λ name.
@@ -142,9 +142,9 @@ pub fn name_of<'rules>(lexer: &'rules RuleLexer, text: &str, token: Token) -> Op
     lexer.name(token.index)
 }
 
-// Needs lalrpop_rules::RuleLexer::lexer: rules.
+// Needs lalrpop_rules::OldRuleLexer::lexer: rules.
 /// Where the first match of some rule begins.
-pub fn first_place(lexer: &RuleLexer, text: &str) -> Option<usize>
+pub fn first_place(lexer: &OldRuleLexer, text: &str) -> Option<usize>
     ensures found { IfSome result (λ n. (token : TokenValue)
         × (IsFound lexer.now.trees lexer.now.precedences text.now token × (n ≡ token.start))) }
 {
@@ -154,36 +154,36 @@ pub fn first_place(lexer: &RuleLexer, text: &str) -> Option<usize>
     }
 }
 
-// Needs lalrpop_rules::RuleLexer::skips: skips.
+// Needs lalrpop_rules::OldRuleLexer::skips: skips.
 /// How many rules have a flag that says whether they are skipped.
-pub fn marked(lexer: &RuleLexer) -> usize
+pub fn marked(lexer: &OldRuleLexer) -> usize
     ensures count { result ≡ length lexer.now.skips }
 {
     lexer.skips().len()
 }
 
-// Needs lalrpop_rules::RulesError::from: ghost from_gives.
+// Needs lalrpop_rules::OldRulesError::from: ghost from_gives.
 /// Refused memory is reported as such.
-pub fn refused(error: AllocError) -> RulesError
-    ensures memory { result ≡ RulesError.OutOfMemory }
+pub fn refused(error: AllocError) -> OldRulesError
+    ensures memory { result ≡ OldRulesError.OutOfMemory }
 {
-    RulesError::from(error)
+    OldRulesError::from(error)
 }
 
-// Needs lalrpop_rules::RulesError::from: ghost from_gives.
+// Needs lalrpop_rules::OldRulesError::from: ghost from_gives.
 /// What is wrong with texts is wrong with their rules.
-pub fn error_of_texts(error: TextError) -> RulesError
+pub fn error_of_texts(error: TextError) -> OldRulesError
     ensures same { result ≡ of_texts error }
 {
-    RulesError::from(error)
+    OldRulesError::from(error)
 }
 
-// Needs lalrpop_rules::RulesError::from: ghost from_gives.
+// Needs lalrpop_rules::OldRulesError::from: ghost from_gives.
 /// The report of the construction, as an error of rules.
-pub fn error_of_report(error: DfaConstructionError) -> RulesError
+pub fn error_of_report(error: DfaConstructionError) -> OldRulesError
     ensures same { result ≡ of_construction error }
 {
-    RulesError::from(error)
+    OldRulesError::from(error)
 }
 
 // Needs lalrpop_rules::TextError::from: ghost from_gives.
@@ -194,14 +194,14 @@ pub fn text_refused(error: AllocError) -> TextError
     TextError::from(error)
 }
 
-// Needs lalrpop_rules::RulesError::from: ghost from_gives.
+// Needs lalrpop_rules::OldRulesError::from: ghost from_gives.
 /// Adds a flag.
 ///
 /// # Errors
 ///
 /// Out of memory.
-pub fn add_flag(flags: &mut Vec<bool>, flag: bool) -> Result<(), RulesError>
-    ensures memory { IfErr result (λ e. e ≡ RulesError.OutOfMemory) }
+pub fn add_flag(flags: &mut Vec<bool>, flag: bool) -> Result<(), OldRulesError>
+    ensures memory { IfErr result (λ e. e ≡ OldRulesError.OutOfMemory) }
 {
     flags.push(flag)?;
     Ok(())

@@ -1,12 +1,12 @@
 //! Rules are read from a file.
 ghost use Rattle.std.specs.Prelude.{◌≡◌, ◌⊎◌, ℕ, List, length, map, IfOk, IfErr, IfSome, MatchOption, Some, slice_get};
-ghost use Rattle.lalrpop_lexer.specs.Lines.{lines};
+ghost use Rattle.bajofeki_rules.specs.Lines.{lines};
 ghost use Rattle.lalrpop_rule_file.specs.RuleFile.{AreFileParts, AreModeRules, AreRules, ArePlaces, IsFirstBad, IsFirstBadPart, IsFirstNoMode, IsFirstRepeatedPart, IsLineFault, LinesSay, without_mark as without_mark_of};
 ghost use Rattle.lalrpop_rule_file.specs.declared.file_rule.FileRule.{FileRule as FileRuleValue};
 ghost use Rattle.lalrpop_rule_file.specs.FileModes.{Said, modes_of};
 
 use lalrpop_lexer::lexer::re::Part;
-use lalrpop_modes::{ModeLexer, ModeRule, ModesError};
+use lalrpop_rules::{RuleLexer, ModeRule, RulesError};
 use lalrpop_rule_file::{LineFault, RuleFile, RuleFileError, read_rules, without_mark};
 use std::alloc::{AllocError, Global};
 
@@ -110,7 +110,7 @@ pub fn first_fault(alloc: Global, bytes: &[u8]) -> Result<Option<(usize, LineFau
 /// # Errors
 ///
 /// Why the rules give no lexer, or out of memory; no rule names a mode that isn't there.
-pub fn lexer_of_file(alloc: Global, bytes: &[u8]) -> Result<Option<ModeLexer>, ModesError>
+pub fn lexer_of_file(alloc: Global, bytes: &[u8]) -> Result<Option<RuleLexer>, RulesError>
     ensures names { IfOk result (λ found. IfSome found (λ lexer.
         (modes : List (List ℕ)) × ((rs : List FileRuleValue)
         × (AreRules (lines (without_mark_of bytes.now)) modes rs
@@ -119,7 +119,7 @@ pub fn lexer_of_file(alloc: Global, bytes: &[u8]) -> Result<Option<ModeLexer>, M
     match read_rules(alloc, bytes) {
         Ok(file) => {
             let rules = file.mode_rules(alloc)?;
-            match ModeLexer::from_rules(alloc, &rules, file.modes.len()) {
+            match RuleLexer::from_rules(alloc, &rules, file.modes.len()) {
                 Ok(lexer) => Ok(Some(lexer)),
                 Err(error) => Err(error),
             }

@@ -1,7 +1,7 @@
 //! Terminals are read from lines, and a lexer is built from them.
 ghost use Rattle.std.specs.Prelude.{◌⊎◌, ℕ, List, IfOk, IfSome, MatchOption};
 ghost use Rattle.lalrpop_lexer.specs.Tree.{Tree};
-ghost use Rattle.lalrpop_lexer.specs.Lines.{lines};
+ghost use Rattle.bajofeki_rules.specs.Lines.{lines};
 ghost use Rattle.lalrpop_lexer.specs.Terminals.{AreTerminals, FirstSays};
 ghost use Rattle.lalrpop_lexer.specs.declared.terminal_line.TerminalLine.TheVariants.{Bad, NoTree};
 

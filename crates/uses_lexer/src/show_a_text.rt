@@ -5,7 +5,7 @@ ghost use Rattle.lalrpop_markup.specs.Markup.{marked, outside};
 ghost use Rattle.lalrpop_markup.specs.Terminal.{painted, unpainted};
 
 use lalrpop_markup::{Painter, ansi, html, push_html};
-use lalrpop_rules::{Item, RuleLexer};
+use lalrpop_rules::{Item, OldRuleLexer};
 use std::alloc::{AllocError, Global};
 
 // Needs lalrpop_markup::html: text, pieces.
@@ -14,7 +14,7 @@ use std::alloc::{AllocError, Global};
 /// # Errors
 ///
 /// `AllocError` if a request for memory was refused.
-pub fn page_of(alloc: Global, lexer: &RuleLexer, text: &str) -> Result<String, AllocError>
+pub fn page_of(alloc: Global, lexer: &OldRuleLexer, text: &str) -> Result<String, AllocError>
     ensures read { IfOk result (λ page. outside (string_bytes page) ≡ text.now) }
     ensures marked { IfOk result (λ page. (xs : List ItemValue)
         × (string_bytes page ≡ flat_map (marked lexer.now.names) xs)) }
@@ -28,7 +28,7 @@ pub fn page_of(alloc: Global, lexer: &RuleLexer, text: &str) -> Result<String, A
 /// # Errors
 ///
 /// `AllocError` if a request for memory was refused.
-pub fn in_colours(alloc: Global, lexer: &RuleLexer, text: &str) -> Result<String, AllocError>
+pub fn in_colours(alloc: Global, lexer: &OldRuleLexer, text: &str) -> Result<String, AllocError>
     ensures read { IfOk result (λ page. unpainted (string_bytes page) ≡ text.now) }
     ensures painted { IfOk result (λ page. (xs : List ItemValue)
         × (string_bytes page ≡ flat_map (painted lexer.now.names) xs)) }
@@ -42,7 +42,7 @@ pub fn in_colours(alloc: Global, lexer: &RuleLexer, text: &str) -> Result<String
 /// # Errors
 ///
 /// `AllocError` if a request for memory was refused.
-pub fn has_script(alloc: Global, lexer: &RuleLexer, text: &str) -> Result<bool, AllocError>
+pub fn has_script(alloc: Global, lexer: &OldRuleLexer, text: &str) -> Result<bool, AllocError>
     ensures never { IfOk result (λ has. has ≡ false) }
 {
     let page = html(alloc, lexer, text)?;
@@ -55,7 +55,7 @@ pub fn has_script(alloc: Global, lexer: &RuleLexer, text: &str) -> Result<bool, 
 /// # Errors
 ///
 /// `AllocError` if a request for memory was refused.
-pub fn ends_a_comment(alloc: Global, lexer: &RuleLexer, text: &str) -> Result<bool, AllocError>
+pub fn ends_a_comment(alloc: Global, lexer: &OldRuleLexer, text: &str) -> Result<bool, AllocError>
     ensures never { IfOk result (λ ends. ends ≡ false) }
 {
     let page = html(alloc, lexer, text)?;
@@ -68,7 +68,7 @@ pub fn ends_a_comment(alloc: Global, lexer: &RuleLexer, text: &str) -> Result<bo
 /// # Errors
 ///
 /// `AllocError` if a request for memory was refused.
-pub fn has_bare_ampersand(alloc: Global, lexer: &RuleLexer, text: &str) -> Result<bool, AllocError>
+pub fn has_bare_ampersand(alloc: Global, lexer: &OldRuleLexer, text: &str) -> Result<bool, AllocError>
     ensures never { IfOk result (λ has. has ≡ false) }
 {
     let page = html(alloc, lexer, text)?;
@@ -81,7 +81,7 @@ pub fn has_bare_ampersand(alloc: Global, lexer: &RuleLexer, text: &str) -> Resul
 /// # Errors
 ///
 /// `AllocError` if a request for memory was refused.
-pub fn clears_the_screen(alloc: Global, lexer: &RuleLexer, text: &str) -> Result<bool, AllocError>
+pub fn clears_the_screen(alloc: Global, lexer: &OldRuleLexer, text: &str) -> Result<bool, AllocError>
     ensures never { IfOk result (λ clears. clears ≡ false) }
 {
     let page = ansi(alloc, lexer, text)?;

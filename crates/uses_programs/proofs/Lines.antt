@@ -2,7 +2,7 @@
 use Rattle.std.proofs.Common.{◌≡◌, ℕ, ◌<◌, Bool, true, false, List, length, get_or, refl, subst, arith}
 use Rattle.std.specs.Str.{NoCharPasses}
 use Rattle.std.proofs.lemmas.Str.{NoCharPasses-byte}
-use Rattle.lalrpop_lexer.specs.Quoted.{is_unseen}
+use Rattle.bajofeki_rules.specs.Quoted.{is_unseen}
 
 -- where each character is seen, no line feed is found
 pub no_line_feed : (found : Bool) (text : List ℕ) → NoCharPasses is_unseen text → (found ≡ true → (k : ℕ) × (k < length text) × (get_or text k 0 ≡ 10)) → found ≡ false

@@ -3,7 +3,7 @@ ghost use Rattle.std.specs.Prelude.{◌≡◌, ◌≢◌, ℕ, List, [], length,
 ghost use Rattle.std.specs.Str.{IsValidUpTo};
 ghost use Rattle.lexdfa_lib.specs.Watch.{ReadsAll};
 ghost use Rattle.lines_lib.specs.TokenLines.{WritesTokens, WritesTokensPrefix, IsStopOf};
-ghost use Rattle.lalrpop_lexer.specs.Position.{position_of};
+ghost use Rattle.bajofeki_rules.specs.Position.{position_of};
 
 use lalrpop_lexer::{Lexer, Position};
 use lexdfa_lib::{Outcome, RunError, Watched};

@@ -2,10 +2,10 @@
 ghost use Rattle.std.specs.Prelude.{◌≡◌, ◌≤◌, ◌++◌, ℕ, List, [], Option, length, map, take, true, false, IfOk, IfSome};
 ghost use Rattle.std.specs.Io.KnownBytes.{Appends};
 ghost use Rattle.std.specs.Str.{IsUtf8};
-ghost use Rattle.lalrpop_lexer.specs.Position.{position_of};
-ghost use Rattle.lalrpop_modes.specs.ModeSet.{rules_of};
-ghost use Rattle.lalrpop_modes.specs.Modes.{ArePiecesFrom};
-ghost use Rattle.lalrpop_modes.specs.Stack.{Stack, start};
+ghost use Rattle.bajofeki_rules.specs.Position.{position_of};
+ghost use Rattle.lalrpop_rules.specs.ModeSet.{rules_of};
+ghost use Rattle.lalrpop_rules.specs.Modes.{ArePiecesFrom};
+ghost use Rattle.bajofeki_rules.specs.Stack.{Stack, start};
 ghost use Rattle.lalrpop_rule_file.specs.RuleFile.{without_mark};
 ghost use Rattle.lalrpop_rules.specs.RuleSet.{names_of};
 ghost use Rattle.lalrpop_rules.specs.declared.item.Item.{Item};
@@ -17,7 +17,7 @@ ghost use Rattle.tokens_lib.specs.Streams.{AtEnd, Reading, StreamGives};
 
 use lalrpop_lexer::Position;
 use lalrpop_lexer::lexer::dfa::Clash;
-use lalrpop_modes::{ModeLexer, ModeRule};
+use lalrpop_rules::{RuleLexer, ModeRule};
 use lexdfa_lib::{RunError, Watched};
 use std::alloc::Global;
 use std::io::{Read, Write};
@@ -27,7 +27,7 @@ use tokens_lib::{CutEnd, Layout, TextError, write_items, write_rule_clashes};
 // Needs tokens_lib::write_items: written, good, no_late_read, no_late_write.
 pub fn both_texts<R: Read, W: Write>(
     alloc: Global,
-    lexer: &ModeLexer,
+    lexer: &RuleLexer,
     layout: &Layout<'_, '_>,
     first: &mut Watched<R>,
     second: &mut Watched<R>,
@@ -54,7 +54,7 @@ pub fn both_texts<R: Read, W: Write>(
 // Needs tokens_lib::write_items: good, prefix, memory, write, read.
 pub fn fails_to_write<R: Read, W: Write>(
     alloc: Global,
-    lexer: &ModeLexer,
+    lexer: &RuleLexer,
     layout: &Layout<'_, '_>,
     reader: &mut Watched<R>,
     writer: &mut Watched<W>,
@@ -77,7 +77,7 @@ pub fn fails_to_write<R: Read, W: Write>(
 // Needs tokens_lib::write_items: written.
 pub fn unread<'bytes, W: Write>(
     alloc: Global,
-    lexer: &ModeLexer,
+    lexer: &RuleLexer,
     layout: &Layout<'_, '_>,
     bytes: &'bytes [u8],
     writer: &mut Watched<W>,
@@ -99,7 +99,7 @@ pub fn unread<'bytes, W: Write>(
 // Needs tokens_lib::write_items: written.
 pub fn is_cut_whole<W: Write>(
     alloc: Global,
-    lexer: &ModeLexer,
+    lexer: &RuleLexer,
     layout: &Layout<'_, '_>,
     text: &str,
     writer: &mut Watched<W>,
@@ -119,7 +119,7 @@ pub fn is_cut_whole<W: Write>(
 // Needs tokens_lib::write_items: written.
 pub fn place_of_first_fault<W: Write>(
     alloc: Global,
-    lexer: &ModeLexer,
+    lexer: &RuleLexer,
     layout: &Layout<'_, '_>,
     text: &str,
     writer: &mut Watched<W>,
@@ -141,7 +141,7 @@ pub fn place_of_first_fault<W: Write>(
 // Needs tokens_lib::write_items: written.
 pub fn place_of_open_mode<W: Write>(
     alloc: Global,
-    lexer: &ModeLexer,
+    lexer: &RuleLexer,
     layout: &Layout<'_, '_>,
     text: &str,
     writer: &mut Watched<W>,
@@ -164,7 +164,7 @@ pub fn place_of_open_mode<W: Write>(
 // Needs tokens_lib::write_items: written.
 pub fn end_of_text<W: Write>(
     alloc: Global,
-    lexer: &ModeLexer,
+    lexer: &RuleLexer,
     layout: &Layout<'_, '_>,
     bytes: &[u8],
     writer: &mut Watched<W>,

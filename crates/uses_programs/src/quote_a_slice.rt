@@ -1,6 +1,6 @@
 //! Slices and words in quotes, and what follows from the laws for callers, which the proofs here cite.
 ghost use Rattle.std.specs.Prelude.{◌≡◌, ◌↔◌, ◌∷◌, [], ◌++◌, IsTrue, decimal, false, true, IfOk, OnOk, IfSome, codes, string_bytes};
-ghost use Rattle.lalrpop_lexer.specs.Quoted.{is_unseen, quoted, told};
+ghost use Rattle.bajofeki_rules.specs.Quoted.{is_unseen, quoted, told};
 
 use lalrpop_lexer::{ShownWord, is_unseen, push_escaped_char, push_quoted, quoted};
 use lines_lib::push_numbers;

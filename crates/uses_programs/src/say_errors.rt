@@ -1,6 +1,6 @@
 //! What the program says of files that give no lexer, said by a program of one's own.
 ghost use Rattle.std.specs.Prelude.{◌≡◌, ℕ, List, [], codes, length, string_bytes, IfOk, IfSome};
-ghost use Rattle.lalrpop_lexer.specs.Lines.{lines};
+ghost use Rattle.bajofeki_rules.specs.Lines.{lines};
 ghost use Rattle.lexdfa_lib.specs.Answer.{IsReported};
 ghost use Rattle.tokens_lib.specs.Answer.{headed};
 ghost use Rattle.tokens_lib.specs.Reasons.{SaysBadLine, SaysTerminals, place_at, placed, refusal_text};
@@ -10,7 +10,7 @@ use lalrpop_lexer::lexer::nfa::NfaConstructionError;
 use lexdfa_lib::Outcome;
 use std::alloc::{AllocError, Global};
 use tokens_lib::{
-    ModeFile, ModesError, RuleFile, RuleFileError, bad_line_message, rules_message,
+    ModeFile, RulesError, RuleFile, RuleFileError, bad_line_message, rules_message,
     terminals_message, warnings_message,
 };
 
@@ -44,7 +44,7 @@ pub fn said_of_a_rule(
         "f",
         bytes,
         file,
-        &ModesError::NotCompiled { rule, error },
+        &RulesError::NotCompiled { rule, error },
     )
 }
 

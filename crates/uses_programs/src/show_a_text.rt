@@ -1,9 +1,9 @@
 //! The page of a text, as HTML or in colours for a terminal.
 ghost use Rattle.std.specs.Prelude.{◌≡◌, ℕ, List, Option, is_some, true, false, IfOk, IfSome};
 ghost use Rattle.std.specs.Io.KnownBytes.{Appends};
-ghost use Rattle.lalrpop_lexer.specs.Position.{position_of};
-ghost use Rattle.lalrpop_modes.specs.Modes.{ArePiecesFrom};
-ghost use Rattle.lalrpop_modes.specs.Stack.{Stack, start};
+ghost use Rattle.bajofeki_rules.specs.Position.{position_of};
+ghost use Rattle.lalrpop_rules.specs.Modes.{ArePiecesFrom};
+ghost use Rattle.bajofeki_rules.specs.Stack.{Stack, start};
 ghost use Rattle.lalrpop_rule_file.specs.RuleFile.{without_mark};
 ghost use Rattle.lalrpop_rules.specs.declared.item.Item.{Item};
 ghost use Rattle.tokens_lib.specs.CutEnds.{first_fault};
@@ -11,7 +11,7 @@ ghost use Rattle.tokens_lib.specs.PageWritten.{WritesPage, WritesPagePart, page_
 ghost use Rattle.tokens_lib.specs.Streams.{Reading, StreamGives};
 
 use lalrpop_lexer::Position;
-use lalrpop_modes::ModeLexer;
+use lalrpop_rules::RuleLexer;
 use lexdfa_lib::{RunError, Watched};
 use std::alloc::Global;
 use std::io::{Read, Write};
@@ -21,7 +21,7 @@ use tokens_lib::{CutEnd, Markup, write_page};
 // Needs tokens_lib::write_page: written, good, no_late_read, no_late_write.
 pub fn both_texts<R: Read, W: Write>(
     alloc: Global,
-    lexer: &ModeLexer,
+    lexer: &RuleLexer,
     markup: Markup,
     first: &mut Watched<R>,
     second: &mut Watched<R>,
@@ -47,7 +47,7 @@ pub fn both_texts<R: Read, W: Write>(
 // Needs tokens_lib::write_page: good, prefix, memory, write, read.
 pub fn fails_to_write<R: Read, W: Write>(
     alloc: Global,
-    lexer: &ModeLexer,
+    lexer: &RuleLexer,
     markup: Markup,
     reader: &mut Watched<R>,
     writer: &mut Watched<W>,
@@ -69,7 +69,7 @@ pub fn fails_to_write<R: Read, W: Write>(
 // Needs tokens_lib::write_page: written.
 pub fn has_fault<W: Write>(
     alloc: Global,
-    lexer: &ModeLexer,
+    lexer: &RuleLexer,
     markup: Markup,
     text: &str,
     writer: &mut Watched<W>,
@@ -95,7 +95,7 @@ pub fn has_fault<W: Write>(
 // Needs tokens_lib::write_page: written.
 pub fn stops<R: Read, W: Write>(
     alloc: Global,
-    lexer: &ModeLexer,
+    lexer: &RuleLexer,
     markup: Markup,
     reader: &mut Watched<R>,
     writer: &mut Watched<W>,
@@ -113,7 +113,7 @@ pub fn stops<R: Read, W: Write>(
 // Needs tokens_lib::write_page: written.
 pub fn place_of_open_mode<W: Write>(
     alloc: Global,
-    lexer: &ModeLexer,
+    lexer: &RuleLexer,
     markup: Markup,
     text: &str,
     writer: &mut Watched<W>,

@@ -4,7 +4,7 @@ ghost use Rattle.std.specs.Io.KnownBytes.{Appends};
 ghost use Rattle.lalrpop_lexer.specs.Tree.{Tree};
 ghost use Rattle.lalrpop_lexer.specs.Report.{IsReport};
 ghost use Rattle.lexdfa_lib.specs.Answer.{IsReported};
-ghost use Rattle.lalrpop_lexer.specs.Lines.{lines};
+ghost use Rattle.bajofeki_rules.specs.Lines.{lines};
 ghost use Rattle.lalrpop_lexer.specs.Terminals.{AreTerminals};
 ghost use Rattle.lexdfa_lib.specs.Watch.{AppendsPrefix, ReadsAll};
 

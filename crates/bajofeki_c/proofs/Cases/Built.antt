@@ -2,7 +2,7 @@
 use Rattle.std.proofs.Common.{◌≡◌, ◌≢◌, ℕ, List, [], ◌∷◌, map, string_bytes, refl, inl, inr}
 use Rattle.std.specs.Prelude.{Err, Vec}
 use Rattle.std.specs.Global.{Global}
-use Rattle.lalrpop_modes.specs.declared.error.ModesError.{ModesError}
+use Rattle.lalrpop_rules.specs.declared.error.RulesError.{RulesError}
 use Rattle.lalrpop_rule_file.specs.declared.error.RuleFileError.TheVariants as file_error
 use Rattle.lalrpop_rule_file.specs.declared.file.RuleFile.{RuleFile}
 use Rattle.lalrpop_rule_file.specs.declared.file_rule.FileRule.{FileRule}
@@ -30,7 +30,7 @@ none_is_freed_when_it_is_made bytes (inl m) = m.1.1
 none_is_freed_when_it_is_made bytes (inr m) = m
 
 -- whatever the error is
-each_error_has_the_places : (file : RuleFile) (e : ModesError) (named : Vec NamedRule Global) → IsBuiltFor file (Err (Rules e named))
+each_error_has_the_places : (file : RuleFile) (e : RulesError) (named : Vec NamedRule Global) → IsBuiltFor file (Err (Rules e named))
     → map (λ n. n.place) named.items ≡ map (λ r. r.place) file.rules.items
 each_error_has_the_places file e named built = built.1.places
 

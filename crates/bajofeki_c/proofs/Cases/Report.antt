@@ -2,8 +2,8 @@
 use Rattle.std.proofs.Common.{◌≡◌, ◌≢◌, ℕ, [], ◌∷◌, refl, ap, arith}
 use Rattle.std.specs.Prelude.{Ok, Err}
 use Rattle.lalrpop_emit.specs.declared.error.EmitError.TheVariants as emit
-use Rattle.lalrpop_lexer.specs.declared.position.Position.{Position}
-use Rattle.lalrpop_modes.specs.declared.error.ModesError.TheVariants as modes
+use Rattle.bajofeki_rules.specs.declared.position.Position.{Position}
+use Rattle.lalrpop_rules.specs.declared.error.RulesError.TheVariants as modes
 use Rattle.lalrpop_rule_file.specs.declared.error.LineFault.TheVariants.{NoEquals}
 use Rattle.lalrpop_rule_file.specs.declared.error.RuleFileError.TheVariants as file
 use Rattle.bajofeki_c.specs.Report.{no_place, place_at, report, report_of_numbers, report_of_rules, told_places}

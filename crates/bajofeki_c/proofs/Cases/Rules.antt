@@ -2,7 +2,7 @@
 use Rattle.std.proofs.Common.{◌≡◌, ℕ, [], ◌∷◌, true, false, length, string_bytes, slice_get, refl, arith}
 use Rattle.std.specs.Prelude.{Err, Vec}
 use Rattle.std.specs.Global.{Global}
-use Rattle.lalrpop_modes.specs.declared.error.ModesError.TheVariants.{BadEnd, Clash, OutOfMemory}
+use Rattle.lalrpop_rules.specs.declared.error.RulesError.TheVariants.{BadEnd, Clash, OutOfMemory}
 use Rattle.bajofeki_c.specs.Rules.{IsWritten, count_of, is_skipped, name_of, skips_rule, word_of}
 use Rattle.bajofeki_c.specs.declared.held.BuildError.TheVariants.{Rules, Freed}
 use Rattle.bajofeki_c.specs.declared.held.NamedRule.{NamedRule}

@@ -15,9 +15,9 @@ ghost use Rattle.lalrpop_build.specs.Internal.Scratch.{IsScratchOf, IsFilled};
 
 use super::best::{Tie, kind_of, strongest_of};
 use super::scratch::Scratch;
+use crate::alphabet::{Alphabet, Cell};
 use crate::closure::{Workspace, closure, goto};
 use crate::{Kind, NfaIndex, Precedence, Transition};
-use crate::alphabet::{Alphabet, Cell};
 use lalrpop_dfa::{Item, ItemSet};
 use lalrpop_nfa::{Nfa, START};
 use std::alloc::{AllocError, Global};

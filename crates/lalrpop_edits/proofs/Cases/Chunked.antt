@@ -9,7 +9,7 @@ use Rattle.lalrpop_rules.specs.Found.{MatchesAt}
 use Rattle.lalrpop_rules.specs.Pieces.{IsPiece, slice_of}
 use Rattle.lalrpop_rules.specs.declared.item.Item.{Item}
 use Rattle.lalrpop_rules.specs.declared.item.Item.TheVariants.{Fault}
-use Rattle.lalrpop_modes.specs.Modes.{ModeRules, trees_in}
+use Rattle.lalrpop_rules.specs.Modes.{ModeRules, trees_in}
 use Rattle.lalrpop_edits.specs.Internal.Reach.{IsSettledBy}
 use Rattle.lalrpop_edits.specs.Lexed.{placed}
 use Rattle.lalrpop_edits.specs.declared.error.EditError.{EditError}

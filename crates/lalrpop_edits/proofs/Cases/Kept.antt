@@ -7,9 +7,9 @@ use Rattle.lalrpop_hir.specs.Language.{Matches}
 use Rattle.lalrpop_hir.specs.Winners.{TreeMatches, Matched}
 use Rattle.lalrpop_hir.specs.Longest.{IsMatch}
 use Rattle.lalrpop_rules.specs.Found.{MatchesAt}
-use Rattle.lalrpop_modes.specs.declared.action.Action.TheVariants.{Push, Pop}
-use Rattle.lalrpop_modes.specs.Stack.{Stack, start}
-use Rattle.lalrpop_modes.specs.Modes.{ModeRules}
+use Rattle.bajofeki_rules.specs.declared.action.Action.TheVariants.{Push, Pop}
+use Rattle.bajofeki_rules.specs.Stack.{Stack, start}
+use Rattle.lalrpop_rules.specs.Modes.{ModeRules}
 use Rattle.lalrpop_edits.specs.Internal.Kept.{rule_of, reach_of, after_rule, after_kept, IsFront, IsKept, IsReadFor, KeptUpTo, ReadsOn, AreWithin}
 use Rattle.lalrpop_edits.specs.declared.kept.Kept.{Kept}
 use Rattle.lalrpop_edits.proofs.KeptLaws.{kept_some, kept_within}

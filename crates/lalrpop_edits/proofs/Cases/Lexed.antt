@@ -9,9 +9,9 @@ use Rattle.lalrpop_hir.specs.Winners.{Matched}
 use Rattle.lalrpop_rules.specs.declared.item.Item.{Item}
 use Rattle.lalrpop_rules.specs.declared.item.Item.TheVariants.{Token, Skipped, Fault}
 use Rattle.lalrpop_rules.proofs.UniquePieces.{no_piece_left}
-use Rattle.lalrpop_modes.specs.declared.action.Action.TheVariants.{Push}
-use Rattle.lalrpop_modes.specs.Stack.{Stack, start}
-use Rattle.lalrpop_modes.specs.Modes.{ModeRules, trees_in}
+use Rattle.bajofeki_rules.specs.declared.action.Action.TheVariants.{Push}
+use Rattle.bajofeki_rules.specs.Stack.{Stack, start}
+use Rattle.lalrpop_rules.specs.Modes.{ModeRules, trees_in}
 use Rattle.lalrpop_edits.specs.Lexed.{Lexed, ArePiecesOf, replaced, IsRange, IsEditError, placed, placed_from, IsChangeOf, MeetAt, IsEarliest, ReadsTo, Reaches, FirstReaches, IsPieceNumber, HasPieces, Handed, HandsOut}
 use Rattle.lalrpop_edits.specs.declared.change.Change.{Change}
 use Rattle.lalrpop_edits.specs.declared.error.EditError.TheVariants.{NoBoundary, TooLarge, OutOfMemory}

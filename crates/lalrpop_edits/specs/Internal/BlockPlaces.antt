@@ -1,8 +1,8 @@
 -- Lines and columns, block by block.
 use Rattle.std.specs.Prelude.{◌≡◌, ℕ, ◌+◌, ◌≤◌, List, [], ◌∷◌, length, take, drop, slice_get, Some}
 use Rattle.std.specs.Str.{IsCharBoundary, IsUtf8}
-use Rattle.lalrpop_lexer.specs.Position.{IsBefore, position_of}
-use Rattle.lalrpop_lexer.specs.declared.position.Position.{Position}
+use Rattle.bajofeki_rules.specs.Position.{IsBefore, position_of}
+use Rattle.bajofeki_rules.specs.declared.position.Position.{Position}
 use Rattle.lalrpop_edits.specs.Internal.Handing.{size_in}
 use Rattle.lalrpop_edits.specs.declared.block.Block.{Block}
 use Rattle.lalrpop_edits.specs.declared.lines.Mark.{Mark}

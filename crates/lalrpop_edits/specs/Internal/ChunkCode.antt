@@ -1,9 +1,9 @@
 -- What has come of a text, as a tuple, which proofs use to tell one from another.
 use Rattle.std.specs.Prelude.{ℕ, Bool, List, refl}
 use Rattle.std.specs.Coded.{Coded, code_by, coded×, coded_list, coded_ℕ, coded_bool}
-use Rattle.lalrpop_modes.specs.Internal.Code.{modes_code, stack_code}
-use Rattle.lalrpop_modes.specs.Modes.{ModeRules}
-use Rattle.lalrpop_modes.specs.Stack.{Stack}
+use Rattle.lalrpop_rules.specs.Internal.ModeCode.{modes_code, stack_code}
+use Rattle.lalrpop_rules.specs.Modes.{ModeRules}
+use Rattle.bajofeki_rules.specs.Stack.{Stack}
 use Rattle.lalrpop_edits.specs.Chunked.{Chunked}
 
 abbrev pub chunked_code : Coded Chunked

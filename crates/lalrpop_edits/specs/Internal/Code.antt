@@ -1,8 +1,8 @@
 -- A text that is edited and its pieces, as tuples, which proofs use to tell one from another.
 use Rattle.std.specs.Prelude.{ℕ, List, refl}
 use Rattle.std.specs.Coded.{Coded, code_by, coded×, coded_list, coded_ℕ}
-use Rattle.lalrpop_modes.specs.Modes.{ModeRules}
-use Rattle.lalrpop_modes.specs.Internal.Code.{modes_code}
+use Rattle.lalrpop_rules.specs.Modes.{ModeRules}
+use Rattle.lalrpop_rules.specs.Internal.ModeCode.{modes_code}
 use Rattle.lalrpop_edits.specs.Lexed.{Lexed, Handed}
 
 abbrev pub lexed_code : Coded Lexed

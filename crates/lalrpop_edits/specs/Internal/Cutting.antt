@@ -1,6 +1,6 @@
 -- What goes wrong while a text is cut, and old pieces in a new text.
 use Rattle.std.specs.Prelude.{◌≡◌, ℕ, ◌+◌, ◌-◌, ◌≤◌, ◌⊎◌, List, length}
-use Rattle.lalrpop_modes.specs.Modes.{ModeRules}
+use Rattle.lalrpop_rules.specs.Modes.{ModeRules}
 use Rattle.lalrpop_edits.specs.Lexed.{replaced}
 use Rattle.lalrpop_edits.specs.declared.error.EditError.{EditError}
 use Rattle.lalrpop_edits.specs.declared.error.EditError.TheVariants.{NoBoundary, TooLarge, OutOfMemory}

@@ -1,8 +1,8 @@
 -- Pieces that are handed out, block by block.
 use Rattle.std.specs.Prelude.{◌≡◌, ℕ, ◌+◌, ◌≤◌, ◌<◌, ◌^◌, List, [], ◌∷◌, length, take, Some, slice_get}
 use Rattle.std.specs.Str.{IsUtf8}
-use Rattle.lalrpop_modes.specs.Stack.{Stack, start}
-use Rattle.lalrpop_modes.specs.Modes.{ModeRules}
+use Rattle.bajofeki_rules.specs.Stack.{Stack, start}
+use Rattle.lalrpop_rules.specs.Modes.{ModeRules}
 use Rattle.lalrpop_edits.specs.declared.kept.Kept.{Kept}
 use Rattle.lalrpop_edits.specs.declared.block.Block.{Block}
 use Rattle.lalrpop_edits.specs.Internal.Blocks.{AreBlocks, pieces_in, sizes}

@@ -6,9 +6,9 @@ use Rattle.lalrpop_hir.specs.Tree.{Tree}
 use Rattle.lalrpop_hir.specs.Winners.{IsOnlyStrongest, Matched}
 use Rattle.lalrpop_hir.specs.Longest.{IsLongest}
 use Rattle.lalrpop_rules.specs.Pieces.{IsFault}
-use Rattle.lalrpop_modes.specs.declared.action.Action.{Action}
-use Rattle.lalrpop_modes.specs.Stack.{Stack, act_all, actions_of}
-use Rattle.lalrpop_modes.specs.Modes.{ModeRules, trees_in}
+use Rattle.bajofeki_rules.specs.declared.action.Action.{Action}
+use Rattle.bajofeki_rules.specs.Stack.{Stack, act_all, actions_of}
+use Rattle.lalrpop_rules.specs.Modes.{ModeRules, trees_in}
 use Rattle.lalrpop_edits.specs.Internal.Reach.{AreAlike}
 use Rattle.lalrpop_edits.specs.declared.kept.Kept.{Kept}
 

@@ -1,7 +1,7 @@
 -- No less is cut anew than has to be.
 use Rattle.std.specs.Prelude.{◌≡◌, ℕ, ◌+◌, ◌<◌, ◌≤◌, List, take, slice_get, Some}
-use Rattle.lalrpop_modes.specs.Stack.{start}
-use Rattle.lalrpop_modes.specs.Modes.{ModeRules}
+use Rattle.bajofeki_rules.specs.Stack.{start}
+use Rattle.lalrpop_rules.specs.Modes.{ModeRules}
 use Rattle.lalrpop_edits.specs.Internal.Kept.{AreWithin, reach_of}
 use Rattle.lalrpop_edits.specs.declared.kept.Kept.{Kept}
 use Rattle.lalrpop_edits.specs.declared.change.Change.{Change}

@@ -6,7 +6,7 @@ use Rattle.std.specs.Str.{chars, encode_utf8_all, IsCharBoundary}
 use Rattle.lalrpop_hir.specs.Tree.{Tree}
 use Rattle.lalrpop_hir.specs.Longest.{IsLongest}
 use Rattle.lalrpop_dfa.specs.declared.Kind.TheVariants.{Neither}
-use Rattle.lalrpop_modes.specs.Modes.{ModeRules, trees_in}
+use Rattle.lalrpop_rules.specs.Modes.{ModeRules, trees_in}
 use Rattle.lalrpop_edits.specs.Lexed.{ReadsTo}
 use Rattle.lalrpop_edits.specs.Internal.Noted.{IsKnown}
 use Rattle.lalrpop_edits.specs.Internal.Walking.{IsMet, behind, next_of, says}

@@ -3,9 +3,9 @@ use Rattle.std.proofs.Common.{◌≡◌, ℕ, zero, suc, ◌<◌, List, [], ◌�
 use Rattle.std.specs.Prelude.{Option, Some, None}
 use Rattle.lalrpop_hir.specs.Tree.{Tree}
 use Rattle.lalrpop_rules.specs.Found.{MatchesAt}
-use Rattle.lalrpop_modes.specs.declared.action.Action.TheVariants.{Push, Pop}
-use Rattle.lalrpop_modes.specs.Stack.{Stack, start, actions_of}
-use Rattle.lalrpop_modes.specs.Modes.{ModeRules, trees_in}
+use Rattle.bajofeki_rules.specs.declared.action.Action.TheVariants.{Push, Pop}
+use Rattle.bajofeki_rules.specs.Stack.{Stack, start, actions_of}
+use Rattle.lalrpop_rules.specs.Modes.{ModeRules, trees_in}
 use Rattle.lalrpop_dense.specs.DenseTable.{TableNumbers}
 use Rattle.lalrpop_emit.specs.ByteCut.{ByteCut, GivesBytePiece, IsCutOf, IsTooDeep, place_of, stack_in}
 use Rattle.lalrpop_emit.specs.BytePieces.{Fits, IsBytePiece, rule_actions}

@@ -3,9 +3,9 @@ use Rattle.std.proofs.Common.{◌≡◌, ℕ, zero, suc, Bool, true, false, List
 use Rattle.std.specs.Prelude.{Option, Some, None}
 use Rattle.lalrpop_hir.specs.Tree.{Tree}
 use Rattle.lalrpop_rules.specs.Found.{MatchesAt}
-use Rattle.lalrpop_modes.specs.declared.action.Action.TheVariants.{Push, Pop}
-use Rattle.lalrpop_modes.specs.Stack.{Stack, start, actions_of}
-use Rattle.lalrpop_modes.specs.Modes.{ModeRules, trees_in}
+use Rattle.bajofeki_rules.specs.declared.action.Action.TheVariants.{Push, Pop}
+use Rattle.bajofeki_rules.specs.Stack.{Stack, start, actions_of}
+use Rattle.lalrpop_rules.specs.Modes.{ModeRules, trees_in}
 use Rattle.lalrpop_emit.specs.BytePieces.{IsByteToken, IsByteFault, IsBytePiece, rule_actions, after_piece, Fits, AreBytePieces, AreBytePiecesTo}
 use Rattle.lalrpop_emit.specs.declared.numbered_piece.NumberedPiece.{NumberedPiece}
 

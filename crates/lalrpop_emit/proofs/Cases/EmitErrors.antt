@@ -1,6 +1,6 @@
 -- Cases of specs/EmitErrors.antt.
 use Rattle.std.proofs.Common.{ℕ, List, [], ◌∷◌, codes, refl, arith, ap, length, lit<}
-use Rattle.lalrpop_modes.specs.Modes.{ModeRules}
+use Rattle.lalrpop_rules.specs.Modes.{ModeRules}
 use Rattle.lalrpop_emit.specs.EmitErrors.{IsFirstBadName, IsNumbersError, IsSourceError}
 use Rattle.lalrpop_emit.specs.declared.error.EmitError.TheVariants.{NoRules, BadName, SkipCount, NoName, TooManyRules, TooManyModes, TooManyActions, BadVariant, BadPrefix, NoTable}
 

@@ -1,8 +1,8 @@
 -- Cases of specs/NumberedRules.antt.
 use Rattle.std.proofs.Common.{◌≡◌, [], ◌∷◌, codes, true, false, refl, arith, lit<}
 use Rattle.lalrpop_dense.specs.DenseTable.{TableNumbers}
-use Rattle.lalrpop_modes.specs.Modes.{ModeRules}
-use Rattle.lalrpop_modes.specs.declared.action.Action.TheVariants.{Mode, Push, Pop}
+use Rattle.lalrpop_rules.specs.Modes.{ModeRules}
+use Rattle.bajofeki_rules.specs.declared.action.Action.TheVariants.{Mode, Push, Pop}
 use Rattle.lalrpop_emit.specs.NumberedRules.{NumberedRules, AreAheadOf, AreNumbersOf, AreSameInFile, IsStorable, IsStorableTable, action_number, action_numbers, first_places, actions_of_rules}
 
 number_of_pop : action_number Pop ≡ 1

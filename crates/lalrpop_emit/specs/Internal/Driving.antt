@@ -1,7 +1,7 @@
 -- Where a text is cut, and what comes next there.
 use Rattle.std.specs.Prelude.{◌≡◌, ℕ, ◌+◌, ◌<◌, ◌≤◌, List, true, false, length, take, reverse}
-use Rattle.lalrpop_modes.specs.Stack.{Stack}
-use Rattle.lalrpop_modes.specs.Modes.{ModeRules, EachMode}
+use Rattle.bajofeki_rules.specs.Stack.{Stack}
+use Rattle.lalrpop_rules.specs.Modes.{ModeRules, EachMode}
 use Rattle.lalrpop_emit.specs.BytePieces.{Fits, IsModePiece, StopsAt, piece_actions, after_piece}
 use Rattle.lalrpop_emit.specs.declared.driver.State.{State}
 use Rattle.lalrpop_emit.specs.declared.driver.Step.{Step}

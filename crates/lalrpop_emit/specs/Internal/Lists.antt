@@ -4,9 +4,10 @@ use Rattle.std.specs.List.{All}
 use Rattle.lalrpop_dfa.specs.Dfa.{Row}
 use Rattle.lalrpop_dfa.specs.declared.Kind.TheVariants.{Accepts}
 use Rattle.lalrpop_dense.specs.DenseTable.{TableNumbers}
-use Rattle.lalrpop_modes.specs.Modes.{ModeRules, OneLeadsInto}
-use Rattle.lalrpop_modes.specs.declared.action.Action.{Action}
-use Rattle.lalrpop_modes.specs.declared.action.Action.TheVariants.{Mode, Push, Pop}
+use Rattle.lalrpop_rules.specs.Modes.{ModeRules}
+use Rattle.bajofeki_rules.specs.EnteredModes.{OneLeadsInto}
+use Rattle.bajofeki_rules.specs.declared.action.Action.{Action}
+use Rattle.bajofeki_rules.specs.declared.action.Action.TheVariants.{Mode, Push, Pop}
 use Rattle.lalrpop_emit.specs.NumberedRules.{IsTableOfMode, IsStorableTable}
 use Rattle.lalrpop_emit.specs.Ahead.{AheadNumbers, Standing, StandsFor, by_column, is_end, is_lost, no_rule, rule_at, rule_number}
 use Rattle.lalrpop_emit.specs.Internal.Walking.{AreRulesBelow, CanRunAhead}

@@ -2,8 +2,8 @@
 use Rattle.std.specs.Prelude.{◌≡◌, ℕ, ◌+◌, ◌<◌, ◌≤◌, ◌^◌, List, ◌∷◌, ◌++◌, length, map, drop, slice_get, slice_index, Some}
 use Rattle.std.specs.List.{All}
 use Rattle.lalrpop_dense.specs.DenseTable.{TableNumbers, AreClasses, row_after}
-use Rattle.lalrpop_modes.specs.Modes.{OneLeadsInto}
-use Rattle.lalrpop_modes.specs.declared.action.Action.{Action}
+use Rattle.bajofeki_rules.specs.EnteredModes.{OneLeadsInto}
+use Rattle.bajofeki_rules.specs.declared.action.Action.{Action}
 use Rattle.lalrpop_emit.specs.Ahead.{AheadNumbers, IsAheadOf}
 use Rattle.lalrpop_emit.specs.NumberedRules.{NumberedRules, action_number}
 

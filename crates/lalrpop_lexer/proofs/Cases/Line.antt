@@ -10,7 +10,8 @@ use Rattle.lalrpop_re.specs.GroupName.{names}
 use Rattle.lalrpop_re.specs.Pattern.{Pattern, no_piece, last_branch, of_branches}
 use Rattle.lalrpop_re.specs.Internal.Reading as reading
 use Rattle.lalrpop_re.proofs.PatternLaws.{missing}
-use Rattle.lalrpop_lexer.specs.Line.{IsPrecedence, letter, IsLine, LineSays}
+use Rattle.lalrpop_lexer.specs.Line.{letter, IsLine, LineSays}
+use Rattle.bajofeki_rules.specs.Precedence.{IsPrecedence}
 use Rattle.lalrpop_lexer.specs.Spelled.{Spells}
 use Rattle.lalrpop_lexer.specs.declared.form.Form.{Form}
 use Rattle.lalrpop_lexer.specs.declared.form.Form.TheVariants as forms

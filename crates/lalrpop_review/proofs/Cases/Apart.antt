@@ -5,9 +5,9 @@ use Rattle.std.proofs.lemmas.Option.{same_Some}
 use Rattle.lalrpop_hir.specs.Tree.{Tree, literal}
 use Rattle.lalrpop_hir.specs.Language.{Matches}
 use Rattle.lalrpop_hir.specs.Winners.{TreeMatches}
-use Rattle.lalrpop_modes.specs.Modes.{ModeRules, trees_in}
-use Rattle.lalrpop_modes.specs.declared.action.Action.{Action}
-use Rattle.lalrpop_modes.specs.declared.action.Action.TheVariants.{Push, Pop}
+use Rattle.lalrpop_rules.specs.Modes.{ModeRules, trees_in}
+use Rattle.bajofeki_rules.specs.declared.action.Action.{Action}
+use Rattle.bajofeki_rules.specs.declared.action.Action.TheVariants.{Push, Pop}
 use Rattle.lalrpop_verdicts.specs.Answers.{IsTextWord}
 use Rattle.lalrpop_review.specs.Apart.{Told, told, IsTokenIn, TellsApart}
 

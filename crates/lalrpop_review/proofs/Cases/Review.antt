@@ -9,7 +9,7 @@ use Rattle.lalrpop_hir.specs.Word.{Shortlex}
 use Rattle.lalrpop_hir.proofs.Contained.{contains_first, contains_none, contains_only}
 use Rattle.lalrpop_hir.proofs.Words.{Shortlex-irreflexive}
 use Rattle.lalrpop_dfa.specs.Witness.{IsLeast, OpenMatch}
-use Rattle.lalrpop_modes.specs.Modes.{ModeRules, trees_in}
+use Rattle.lalrpop_rules.specs.Modes.{ModeRules, trees_in}
 use Rattle.lalrpop_verdicts.specs.Answers.{IsTextWord}
 use Rattle.lalrpop_verdicts.specs.WonWord.{WonWord}
 use Rattle.lalrpop_verdicts.specs.Verdicts.{AreWinners, IsWonBy, words_of}

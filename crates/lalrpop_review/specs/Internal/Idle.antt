@@ -3,7 +3,7 @@ use Rattle.std.specs.Prelude.{◌≡◌, ℕ, ◌+◌, ◌<◌, List, slice_get,
 use Rattle.std.specs.Global.{Global}
 use Rattle.lalrpop_hir.specs.Language.{Words}
 use Rattle.lalrpop_hir.specs.Tree.{Tree}
-use Rattle.lalrpop_modes.specs.Modes.{ModeRules, trees_in}
+use Rattle.lalrpop_rules.specs.Modes.{ModeRules, trees_in}
 use Rattle.lalrpop_verdicts.specs.WonWord.{WonWord}
 use Rattle.lalrpop_verdicts.specs.Verdicts.{AreWinners, IsVerdict, IsWonBy, words_of}
 use Rattle.lalrpop_verdicts.specs.declared.verdict.Verdict.{Verdict}

@@ -1,6 +1,7 @@
 -- How many rules of a mode there are of a kind.
 use Rattle.std.specs.Prelude.{◌≡◌, ℕ, ◌<◌, ◌≤◌, Some, slice_get}
-use Rattle.lalrpop_modes.specs.Modes.{ModeRules, Belongs}
+use Rattle.lalrpop_rules.specs.Modes.{ModeRules}
+use Rattle.bajofeki_rules.specs.EnteredModes.{Belongs}
 
 -- the rule belongs to the mode, and is of this kind
 abbrev pub IsMember : ModeRules → ℕ → ℕ → ℕ → Type 0

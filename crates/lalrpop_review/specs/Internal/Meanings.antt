@@ -1,6 +1,6 @@
 -- What the tokens of all rules of two lexers are, and which of them are the same.
 use Rattle.std.specs.Prelude.{◌≡◌, ◌≢◌, ℕ, ◌<◌, ◌≤◌, List, length, slice_get, Some}
-use Rattle.lalrpop_modes.specs.Modes.{ModeRules}
+use Rattle.lalrpop_rules.specs.Modes.{ModeRules}
 use Rattle.lalrpop_review.specs.Apart.{Told, told}
 use Rattle.lalrpop_review.specs.declared.apart.Meaning.{Meaning}
 

@@ -1,6 +1,6 @@
 -- Cases of specs/FileModes.antt.
 use Rattle.std.proofs.Common.{◌≡◌, ℕ, List, [], ◌∷◌, get_or, codes, refl, ap, arith, Option, Some, None}
-use Rattle.lalrpop_modes.specs.declared.action.Action.TheVariants as action
+use Rattle.bajofeki_rules.specs.declared.action.Action.TheVariants as action
 use Rattle.lalrpop_rule_file.specs.RuleLine.{Mode, Push, Enters, Pops, WrittenRule, These, Every}
 use Rattle.lalrpop_rule_file.specs.FileModes.{Nothing, Heading, Rule, AllLeadWithin, AreActions, AreModes, AreNumbers, IsAction, IsNumber, LeadsWithin, firsts, initial, modes_of, named_below, named_by, or_initial, without}
 

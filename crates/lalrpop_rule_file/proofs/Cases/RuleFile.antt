@@ -3,12 +3,12 @@ use Rattle.std.proofs.Common.{◌≡◌, ℕ, inl, inr, List, [], ◌∷◌, get
 use Rattle.std.proofs.lemmas.Bool.{false≢true}
 use Rattle.std.specs.Str.{IsUtf8, chars}
 use lib.Utf8.{encode}
-use Rattle.lalrpop_lexer.specs.declared.position.Position.{Position}
-use Rattle.lalrpop_modes.specs.declared.action.Action.{Action}
-use Rattle.lalrpop_modes.specs.declared.action.Action.TheVariants as action
-use Rattle.lalrpop_modes.specs.Modes.{OneLeadsInto}
+use Rattle.bajofeki_rules.specs.declared.position.Position.{Position}
+use Rattle.bajofeki_rules.specs.declared.action.Action.{Action}
+use Rattle.bajofeki_rules.specs.declared.action.Action.TheVariants as action
+use Rattle.bajofeki_rules.specs.EnteredModes.{OneLeadsInto}
 use Rattle.lalrpop_re.specs.NamedPart.{NamedPart}
-use Rattle.lalrpop_rules.specs.declared.rule_text.RuleText.TheVariants as texts
+use Rattle.bajofeki_rules.specs.declared.rule_text.RuleText.TheVariants as texts
 use Rattle.lalrpop_rule_file.specs.Words.{IsSpan, is_blank, is_of_name}
 use Rattle.lalrpop_rule_file.specs.LineText.{Literal, Escaped, Pattern, Quoted, AnyCase, FromTo}
 use Rattle.lalrpop_rule_file.specs.RuleLine.{Entry, Mode, Push, word_of, WrittenRule, bare, These, Start, a_bracket, a_blank, a_mode, a_name, an_end, an_entry, lexeme_then, nothing}

@@ -2,7 +2,7 @@
 use Rattle.std.proofs.Common.{true, ◌≡◌, ℕ, List, [], ◌∷◌, length, get_or, drop, ◌∙◌, codes, refl, ap, sym, Option, Some, None, arith}
 use Rattle.std.specs.Char.{is_ascii_digit}
 use Rattle.std.proofs.lemmas.Bool.{false≢true}
-use Rattle.lalrpop_lexer.specs.Line.{IsPrecedence}
+use Rattle.bajofeki_rules.specs.Precedence.{IsPrecedence}
 use Rattle.lalrpop_rule_file.specs.Words.{IsSpan, begins, is_of_name}
 use Rattle.lalrpop_rule_file.specs.LineText.{Literal, Escaped, Pattern, Quoted, AnyCase, FromTo}
 use Rattle.lalrpop_rule_file.specs.RuleLine.{Mode, Push, word_of, Enters, Pops, Head, WrittenRule, acting, bare, marked, part_of, rule_of, These, Every, Part, Start, Listing, Named, Entering, Equals, InAnyCase, From, Defines, Defined, Open, Closed, Lexeme, a_blank, a_bracket, a_mode, a_star, an_end, a_star_end, a_name, a_skip, a_pop, an_entry, its_mode, an_equals, a_part, its_equals, its_pattern, an_open_pattern, a_precedence, a_text, an_open_text, an_any_case, its_literal, an_open_literal, a_from, from_to, nothing, lexeme_then, IsPartLine, IsRule, IsSection}

@@ -2,8 +2,8 @@
 use Rattle.std.proofs.Common.{◌≡◌, ℕ, zero, suc, inl, inr, List, [], ◌∷◌, refl, sym, ap, ◌∙◌, arith, Bor}
 use Rattle.std.specs.Prelude.{codes}
 use Rattle.std.specs.Str.Iter.{HasSubslice}
-use Rattle.lalrpop_rules.specs.declared.rule_text.RuleText.TheVariants as texts
-use Rattle.lalrpop_modes.specs.Modes.{first_mode}
+use Rattle.bajofeki_rules.specs.declared.rule_text.RuleText.TheVariants as texts
+use Rattle.bajofeki_rules.specs.EnteredModes.{first_mode}
 use Rattle.lalrpop_rule_file.specs.declared.file.RuleFile.{RuleFile}
 use Rattle.lalrpop_rule_file.specs.declared.file_rule.FileRule.{FileRule}
 use Rattle.lalrpop_rule_file.specs.declared.part_line.PartLine.{PartLine}

@@ -2,7 +2,7 @@
 -- `'LITERAL'`, `"LITERAL"` or `/PATTERN/`, read from left to right.
 use Rattle.std.specs.Prelude.{◌≡◌, ℕ, Bool, true, false, Option, Some, None, List, [], ◌∷◌, ◌++◌, codes}
 use Rattle.std.specs.Char.{is_ascii_digit}
-use Rattle.lalrpop_lexer.specs.Line.{IsPrecedence}
+use Rattle.bajofeki_rules.specs.Precedence.{IsPrecedence}
 use Rattle.lalrpop_rule_file.specs.Words.{IsSpan, Lacks, begins, begins_name, is_blank, is_of_name}
 use Rattle.lalrpop_rule_file.specs.LineText.{Form, Literal, Escaped, Pattern, Quoted, delimiter}
 use Rattle.lalrpop_rule_file.specs.RuleLine.{Head, WrittenRule}

@@ -4,8 +4,8 @@ use Rattle.std.specs.Prelude.{Some, None}
 use Rattle.std.specs.Borrow.{Bor}
 use Rattle.lalrpop_hir.specs.Tree.{Tree, alternation, none, also}
 use Rattle.lalrpop_rules.specs.Kinds.{AreKinds, AreOneKind, IsFirstSame, all_at_work, gathered, is_kind, merged, merged_behind, one_tree, trees_of_kind}
-use Rattle.lalrpop_rules.specs.declared.rule.Rule.{Rule}
-use Rattle.lalrpop_rules.specs.declared.rule_text.RuleText.TheVariants.{Pattern}
+use Rattle.bajofeki_rules.specs.declared.rule.Rule.{Rule}
+use Rattle.bajofeki_rules.specs.declared.rule_text.RuleText.TheVariants.{Pattern}
 
 abbrev number : Bor (List ℕ) → Bor (List ℕ) → ℕ → Rule
 number name text precedence = record { name = name; text = Pattern text; precedence = record { 0 = precedence }; is_skipped = false }

@@ -6,11 +6,10 @@ use Rattle.std.specs.Borrow.{Bor}
 use Rattle.lalrpop_hir.specs.Tree.{Tree}
 use Rattle.lalrpop_re.specs.declared.from_to_error.FromToError.{FromToError}
 use Rattle.lalrpop_re.specs.declared.from_to_error.FromToError.TheVariants.{EmptyEnd}
-use Rattle.lalrpop_rules.specs.RuleSet.{AreTrees, IsNotParsed, HasBadEnd, IsTextError, IsRulesError, names_of, precedences_of, skips_of}
-use Rattle.lalrpop_rules.specs.declared.error.RulesError.TheVariants.{OutOfMemory}
-use Rattle.lalrpop_rules.specs.declared.rule.Rule.{Rule}
-use Rattle.lalrpop_rules.specs.declared.rule_text.RuleText.{RuleText}
-use Rattle.lalrpop_rules.specs.declared.rule_text.RuleText.TheVariants.{Literal, Pattern, FromTo}
+use Rattle.lalrpop_rules.specs.RuleSet.{AreTrees, IsNotParsed, HasBadEnd, IsTextError, names_of, precedences_of, skips_of}
+use Rattle.bajofeki_rules.specs.declared.rule.Rule.{Rule}
+use Rattle.bajofeki_rules.specs.declared.rule_text.RuleText.{RuleText}
+use Rattle.bajofeki_rules.specs.declared.rule_text.RuleText.TheVariants.{Literal, Pattern, FromTo}
 use Rattle.lalrpop_rules.specs.declared.text_error.TextError.TheVariants as texts
 
 -- a keyword, and spaces, which are skipped
@@ -59,6 +58,3 @@ comment_without_an_end name from to e =
 
 memory_of_texts_is_right : (rs : List Rule) → IsTextError rs texts.OutOfMemory
 memory_of_texts_is_right rs = tt
-
-refused_memory_is_right : (rs : List Rule) → IsRulesError rs OutOfMemory
-refused_memory_is_right rs = tt

@@ -3,7 +3,6 @@ use Rattle.std.specs.Prelude.{ℕ, Bool, List, Option, refl}
 use Rattle.std.specs.Coded.{Coded, code_by, coded×, coded_list, coded_option, coded_ℕ, coded_bool}
 use Rattle.lalrpop_lexer.specs.Internal.Code.{rules_code}
 use Rattle.lalrpop_lexer.specs.Rules.{Rules}
-use Rattle.lalrpop_rules.specs.RuleSet.{RuleSet, recognized}
 use Rattle.lalrpop_rules.specs.CutToEnd.{CutToEnd, Memo}
 
 abbrev pub memo_code : Coded Memo
@@ -15,10 +14,3 @@ cut_code =
     (coded× rules_code (coded× (coded_list coded_bool) (coded× (coded_list coded_ℕ) (coded× coded_ℕ (coded× (coded_option memo_code) coded_ℕ)))))
     (λ w. (w.rules, (w.skips, (w.text, (w.at, (w.memo, w.steps))))))
     (λ p. record { rules = p.0; skips = p.1.0; text = p.1.1.0; at = p.1.1.1.0; memo = p.1.1.1.1.0; steps = p.1.1.1.1.1 }) (λ _. refl)
-
-abbrev pub rule_set_code : Coded RuleSet
-rule_set_code =
-    code_by (List (List ℕ) × (List Bool × Rules)) (coded× (coded_list (coded_list coded_ℕ)) (coded× (coded_list coded_bool) rules_code))
-    (λ r. (r.names, (r.skips, recognized r)))
-    (λ p. record { names = p.0; trees = p.1.1.trees; precedences = p.1.1.precedences; skips = p.1.0; automaton = p.1.1.automaton })
-    (λ _. refl)

@@ -7,9 +7,10 @@ use Rattle.lalrpop_re.specs.declared.from_to_error.FromToError.{FromToError}
 use Rattle.lalrpop_re.specs.declared.from_to_error.FromToError.TheVariants as ends
 use Rattle.lalrpop_re.specs.declared.error.RegexError.{RegexError}
 use Rattle.lalrpop_re.specs.declared.error.RegexError.TheVariants as read
-use Rattle.lalrpop_rules.specs.RuleText.{HasTree, IsBadEnd, IsEscapedTree, IsParsed}
-use Rattle.lalrpop_rules.specs.declared.rule_text.RuleText.{RuleText}
-use Rattle.lalrpop_rules.specs.declared.rule_text.RuleText.TheVariants.{FromTo}
+use Rattle.lalrpop_rules.specs.TextTrees.{HasTree, IsBadEnd, IsEscapedTree}
+use Rattle.bajofeki_rules.specs.RuleText.{IsParsed}
+use Rattle.bajofeki_rules.specs.declared.rule_text.RuleText.{RuleText}
+use Rattle.bajofeki_rules.specs.declared.rule_text.RuleText.TheVariants.{FromTo}
 use Rattle.lalrpop_rules.specs.declared.text_error.TextError.{TextError}
 use Rattle.lalrpop_rules.specs.declared.text_error.TextError.TheVariants.{NotParsed, BadEnd, NotCompiled, OutOfMemory}
 

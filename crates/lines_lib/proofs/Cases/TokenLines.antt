@@ -13,7 +13,7 @@ use Rattle.lalrpop_lexer.specs.SameTokens.{AreSameTokens}
 use Rattle.lalrpop_lexer.proofs.UniqueTokens.{tokens-unique}
 use Rattle.lexdfa_lib.specs.Watch.{AppendsPrefix}
 use Rattle.lexdfa_lib.specs.declared.outcome.Outcome.TheVariants.{All, Stopped}
-use Rattle.lalrpop_lexer.specs.Quoted.{quoted}
+use Rattle.bajofeki_rules.specs.Quoted.{quoted}
 use Rattle.lines_lib.specs.TokenLines.{place_text, token_line, outcome_behind, last_line, text_lines, WritesTokensPrefix, IsStopOf}
 
 -- ---- places

@@ -1,8 +1,8 @@
 -- Cases of specs/Compared.antt.
 use Rattle.std.proofs.Common.{◌≡◌, ◌≢◌, ℕ, inl, true, false, List, [], ◌∷◌, get_or, length, refl, ap, arith}
 use Rattle.std.specs.Prelude.{Option, Some, None, codes}
-use Rattle.lalrpop_modes.specs.Modes.{ModeRules}
-use Rattle.lalrpop_modes.specs.declared.action.Action.TheVariants.{Mode, Push, Pop}
+use Rattle.lalrpop_rules.specs.Modes.{ModeRules}
+use Rattle.bajofeki_rules.specs.declared.action.Action.TheVariants.{Mode, Push, Pop}
 use Rattle.lalrpop_verdicts.specs.Differences.{Answers}
 use Rattle.reports_lib.specs.Answer.{Answer}
 use Rattle.reports_lib.specs.Compared.{IsDifference, AreDifferences, token_text, difference_line, difference_lines, modes_line, DifferenceAnswer, text_status}

@@ -1,8 +1,8 @@
 -- Cases of specs/FileRules.antt.
 use Rattle.std.proofs.Common.{◌≡◌, [], ◌∷◌, ap}
-use Rattle.lalrpop_modes.specs.declared.mode_rule.ModeRule.{ModeRule}
+use Rattle.bajofeki_rules.specs.declared.mode_rule.ModeRule.{ModeRule}
 use Rattle.lalrpop_rule_file.specs.declared.file_rule.FileRule.{FileRule}
-use Rattle.lalrpop_rules.specs.declared.rule.Rule.{Rule}
+use Rattle.bajofeki_rules.specs.declared.rule.Rule.{Rule}
 use Rattle.reports_lib.specs.FileRules.{AreFileRules}
 
 -- a rule of a file, as a lexer takes it

@@ -6,9 +6,9 @@ use Rattle.unicode.specs.Binary.{is_default_ignorable_code_point}
 use Rattle.unicode.specs.Rows.{in_ranges}
 use Rattle.ucd_derived.specs.DefaultIgnorableCodePointRanges.{default_ignorable_code_point_ranges}
 use Rattle.json.specs.Print.{print_from, escape_byte}
-use Rattle.lalrpop_lexer.specs.declared.position.Position.{Position}
-use Rattle.lalrpop_modes.specs.Modes.{ModeRules}
-use Rattle.lalrpop_modes.specs.Stack.{Stack}
+use Rattle.bajofeki_rules.specs.declared.position.Position.{Position}
+use Rattle.lalrpop_rules.specs.Modes.{ModeRules}
+use Rattle.bajofeki_rules.specs.Stack.{Stack}
 use Rattle.reports_lib.specs.ItemLines.{plain_line, json_line, name_at, fault_line, mode_named, piece_lines}
 use Rattle.reports_lib.specs.declared.layout.LineForm.{LineForm}
 

@@ -4,13 +4,13 @@ use Rattle.std.specs.Fmt.{digits}
 use Rattle.std.specs.Str.{chars}
 use Rattle.lalrpop_hir.specs.declared.error.NfaConstructionError.TheVariants.{LookAround, NonGreedy}
 use Rattle.lalrpop_re.specs.declared.error.SyntaxKind.TheVariants.{UnclosedGroup, UnopenedGroup}
-use Rattle.lalrpop_lexer.specs.declared.position.Position.{Position}
-use Rattle.lalrpop_lexer.specs.Quoted.{quoted_word}
-use Rattle.lalrpop_rules.specs.declared.rule_text.RuleText.TheVariants.{Pattern}
+use Rattle.bajofeki_rules.specs.declared.position.Position.{Position}
+use Rattle.bajofeki_rules.specs.Quoted.{quoted_word}
+use Rattle.bajofeki_rules.specs.declared.rule_text.RuleText.TheVariants.{Pattern}
 use Rattle.lalrpop_rule_file.specs.RuleFault.{reason_of}
 use Rattle.lalrpop_re.specs.declared.from_to_error.FromToError.TheVariants.{EmptyEnd, LongEnd}
-use Rattle.lalrpop_modes.specs.declared.error.ModesError.TheVariants.{NotParsed, BadEnd, NotCompiled, OutOfMemory}
-use Rattle.lalrpop_rules.specs.declared.rule.Rule.{Rule}
+use Rattle.lalrpop_rules.specs.declared.error.RulesError.TheVariants.{NotParsed, BadEnd, NotCompiled, OutOfMemory}
+use Rattle.bajofeki_rules.specs.declared.rule.Rule.{Rule}
 use Rattle.lalrpop_rule_file.specs.declared.error.LineFault.TheVariants.{NoEquals}
 use Rattle.lalrpop_rule_file.specs.declared.error.RuleFileError.TheVariants.{BadLine, NoSuchMode}
 use Rattle.lexdfa_lib.specs.declared.outcome.Outcome.TheVariants.{NoMatch, Refused, Ambiguous, Line}

@@ -1,7 +1,7 @@
 -- Cases of specs/Warned.antt.
 use Rattle.std.proofs.Common.{◌≡◌, ◌≢◌, ℕ, List, [], ◌∷◌, codes, get_or, refl, ap, arith, Bor}
 use Rattle.std.specs.Fmt.{digits}
-use Rattle.lalrpop_lexer.specs.declared.position.Position.{Position}
+use Rattle.bajofeki_rules.specs.declared.position.Position.{Position}
 use Rattle.lalrpop_rule_file.specs.declared.file.RuleFile.{RuleFile}
 use Rattle.lalrpop_rule_file.specs.declared.file_rule.FileRule.{FileRule}
 use Rattle.lalrpop_rule_file.specs.declared.part_line.PartLine.{PartLine}

@@ -1,6 +1,6 @@
 -- The names of rules.
 use Rattle.std.specs.Prelude.{ℕ, List, [], option_map, slice_get, unwrap_or}
-use Rattle.lalrpop_rules.specs.declared.rule.Rule.{Rule}
+use Rattle.bajofeki_rules.specs.declared.rule.Rule.{Rule}
 
 -- the name of the rule that has this index, if there is one
 abbrev pub name_found : List Rule → ℕ → List ℕ

@@ -1,8 +1,8 @@
 -- Cases of specs/Checked.antt.
 use Rattle.std.proofs.Common.{◌≡◌, ℕ, true, false, List, [], ◌∷◌, codes, refl, ap}
 use Rattle.lalrpop_hir.specs.Clashes.{Entry}
-use Rattle.lalrpop_lexer.specs.declared.position.Position.{Position}
-use Rattle.lalrpop_modes.specs.declared.mode_rule.ModeRule.{ModeRule}
+use Rattle.bajofeki_rules.specs.declared.position.Position.{Position}
+use Rattle.bajofeki_rules.specs.declared.mode_rule.ModeRule.{ModeRule}
 use Rattle.lalrpop_review.specs.declared.whole.Review.{Review}
 use Rattle.reports_lib.specs.Answer.{Answer, silence}
 use Rattle.reports_lib.specs.ReviewLines.{has_findings}

@@ -6,9 +6,9 @@ use Rattle.std.specs.Io.KnownBytes.{Appends}
 use Rattle.lalrpop_hir.specs.declared.token.Token.{Token as Cut}
 use Rattle.lalrpop_edits.specs.Chunked.{Chunked, nothing_come, nothing}
 use Rattle.lalrpop_edits.proofs.ChunkLaws.{came_to}
-use Rattle.lalrpop_lexer.specs.declared.position.Position.{Position}
-use Rattle.lalrpop_modes.specs.Modes.{ModeRules}
-use Rattle.lalrpop_modes.specs.Stack.{start}
+use Rattle.bajofeki_rules.specs.declared.position.Position.{Position}
+use Rattle.lalrpop_rules.specs.Modes.{ModeRules}
+use Rattle.bajofeki_rules.specs.Stack.{start}
 use Rattle.lalrpop_rules.proofs.UniquePieces.{no_piece_left}
 use Rattle.lalrpop_rules.specs.declared.item.Item.{Item}
 use Rattle.lalrpop_rules.specs.declared.item.Item.TheVariants.{Token, Skipped, Fault}

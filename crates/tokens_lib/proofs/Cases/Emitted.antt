@@ -5,7 +5,7 @@ use Rattle.lalrpop_emit.specs.CSource.{c_file}
 use Rattle.lalrpop_emit.specs.NumberedRules.{NumberedRules}
 use Rattle.lalrpop_emit.specs.RustSource.{rust_file}
 use Rattle.lalrpop_emit.specs.declared.error.EmitError.TheVariants as error
-use Rattle.lalrpop_modes.specs.Modes.{ModeRules}
+use Rattle.lalrpop_rules.specs.Modes.{ModeRules}
 use Rattle.reports_lib.specs.Answer.{Answer, refusal}
 use Rattle.tokens_lib.specs.Emitted.{IsNoSource, SourceAnswer, prefix_of, source_file}
 use Rattle.tokens_lib.specs.declared.command.Language.{Language}

@@ -5,7 +5,7 @@ use Rattle.std.specs.Borrow.{Bor}
 use Rattle.std.specs.Io.KnownBytes.{Appends}
 use Rattle.std.proofs.lemmas.Str.{IsUtf8-nil}
 use Rattle.lalrpop_rules.specs.declared.item.Item.{Item}
-use Rattle.lalrpop_modes.specs.Modes.{ModeRules}
+use Rattle.lalrpop_rules.specs.Modes.{ModeRules}
 use Rattle.lalrpop_edits.specs.Chunked.{nothing_come}
 use Rattle.reports_lib.specs.ItemLines.{item_lines}
 use Rattle.reports_lib.specs.declared.layout.LineForm.TheVariants.{Plain}

@@ -3,8 +3,8 @@ use Rattle.std.proofs.Common.{◌≡◌, ◌≤◌, ℕ, List, [], ◌∷◌, �
 use Rattle.std.specs.Prelude.{max}
 use Rattle.lalrpop_hir.specs.Clashes.{Entry}
 use Rattle.lalrpop_hir.specs.declared.error.NfaConstructionError.TheVariants.{LookAround}
-use Rattle.lalrpop_modes.specs.declared.error.ModesError.TheVariants.{NotCompiled, OutOfMemory}
-use Rattle.lalrpop_modes.specs.declared.mode_rule.ModeRule.{ModeRule}
+use Rattle.lalrpop_rules.specs.declared.error.RulesError.TheVariants.{NotCompiled, OutOfMemory}
+use Rattle.bajofeki_rules.specs.declared.mode_rule.ModeRule.{ModeRule}
 use Rattle.reports_lib.specs.Answer.{Answer, refusal, remark}
 use Rattle.tokens_lib.specs.NamedRules.{rules_status, ErrorAnswer, clashes_status, WarnedAnswer}
 use Rattle.tokens_lib.specs.declared.command.Verbosity.{Verbosity}

@@ -1,10 +1,10 @@
 -- Cases of specs/OpenModes.antt.
 use Rattle.std.proofs.Common.{◌≡◌, ℕ, suc, List, [], ◌∷◌, None, Some, length, refl, ap, arith}
-use Rattle.lalrpop_lexer.specs.Position.{position_of}
-use Rattle.lalrpop_modes.specs.Modes.{after, after_all}
-use Rattle.lalrpop_modes.specs.Stack.{Stack, act, act_all, actions_of}
-use Rattle.lalrpop_modes.specs.declared.action.Action.{Action}
-use Rattle.lalrpop_modes.specs.declared.action.Action.TheVariants.{Mode, Push, Pop}
+use Rattle.bajofeki_rules.specs.Position.{position_of}
+use Rattle.lalrpop_rules.specs.Modes.{after, after_all}
+use Rattle.bajofeki_rules.specs.Stack.{Stack, act, act_all, actions_of}
+use Rattle.bajofeki_rules.specs.declared.action.Action.{Action}
+use Rattle.bajofeki_rules.specs.declared.action.Action.TheVariants.{Mode, Push, Pop}
 use Rattle.lalrpop_rules.specs.declared.item.Item.{Item}
 use Rattle.lalrpop_rules.specs.declared.item.Item.TheVariants.{Token, Skipped, Fault}
 use Rattle.tokens_lib.specs.OpenModes.{pushed, pushed_all, open_after, open_behind, open_mode}

@@ -6,8 +6,8 @@ use Rattle.std.specs.Io.KnownBytes.{Appends}
 use Rattle.std.specs.Str.{chars}
 use Rattle.std.proofs.lemmas.Str.{IsUtf8-nil}
 use Rattle.lalrpop_edits.specs.Chunked.{nothing_come}
-use Rattle.lalrpop_modes.specs.Modes.{ModeRules, ArePiecesFrom}
-use Rattle.lalrpop_modes.specs.Stack.{Stack, start as first_stack}
+use Rattle.lalrpop_rules.specs.Modes.{ModeRules, ArePiecesFrom}
+use Rattle.bajofeki_rules.specs.Stack.{Stack, start as first_stack}
 use Rattle.lalrpop_rules.proofs.UniquePieces.{no_piece_left}
 use Rattle.lalrpop_rules.specs.declared.item.Item.{Item}
 use Rattle.lalrpop_rules.specs.declared.item.Item.TheVariants.{Fault}

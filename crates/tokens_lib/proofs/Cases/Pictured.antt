@@ -4,7 +4,7 @@ use Rattle.std.specs.Prelude.{Some, None}
 use Rattle.std.specs.List.{AllZip}
 use Rattle.lalrpop_hir.specs.Tree.{Tree}
 use Rattle.lalrpop_dfa.specs.Dfa.{Row}
-use Rattle.lalrpop_modes.specs.Modes.{ModeRules}
+use Rattle.lalrpop_rules.specs.Modes.{ModeRules}
 use Rattle.lalrpop_verdicts.specs.Smallest.{IsSmallest}
 use Rattle.reports_lib.specs.Answer.{Answer, refusal}
 use Rattle.tokens_lib.specs.Command.{has}

@@ -1,7 +1,7 @@
 -- Cases of specs/Program.antt.
 use Rattle.std.proofs.Common.{◌≡◌, ◌≢◌, ℕ, false, inl, List, [], ◌∷◌, Some, None, codes, get_or, map, refl, ap, arith, Vec, Bor, Global}
 use Rattle.std.specs.Prelude.{Err}
-use Rattle.lalrpop_modes.specs.Modes.{ModeRules}
+use Rattle.lalrpop_rules.specs.Modes.{ModeRules}
 use Rattle.lexdfa_lib.specs.declared.ending.Failure.TheVariants.{Usage, Run as Failing}
 use Rattle.lexdfa_lib.specs.declared.error.RunError.TheVariants.{Read, Write}
 use Rattle.lexdfa_lib.specs.declared.outcome.Outcome.TheVariants.{Ambiguous, Line}

@@ -5,7 +5,7 @@ use Rattle.std.specs.Str.{chars}
 use Rattle.unicode.specs.Binary.{is_default_ignorable_code_point}
 use Rattle.unicode.specs.Rows.{in_ranges}
 use Rattle.ucd_derived.specs.DefaultIgnorableCodePointRanges.{default_ignorable_code_point_ranges}
-use Rattle.lalrpop_lexer.specs.Quoted.{told}
+use Rattle.bajofeki_rules.specs.Quoted.{told}
 use Rattle.lexdfa_lib.specs.declared.outcome.Outcome.TheVariants.{All, Stopped as StoppedTokens}
 use Rattle.lines_lib.specs.declared.text.TextError.TheVariants.{NotText, Read}
 use Rattle.reports_lib.specs.Answer.{Answer, refusal}

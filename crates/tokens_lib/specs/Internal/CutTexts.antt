@@ -3,13 +3,13 @@ use Rattle.std.specs.Prelude.{◌≡◌, ℕ, ◌+◌, ◌-◌, ◌==◌, ◌≤
 use Rattle.std.specs.Io.KnownBytes.{Appends, Consumes}
 use Rattle.std.specs.Str.{chars, IsUtf8}
 use Rattle.lalrpop_edits.specs.Chunked.{Chunked, GivesFinal, Came, IsHeldBack, BeginsFault, MayMatch}
-use Rattle.lalrpop_lexer.specs.Position.{place_after, position_of}
-use Rattle.lalrpop_lexer.specs.declared.position.Position.{Position}
+use Rattle.bajofeki_rules.specs.Position.{place_after, position_of}
+use Rattle.bajofeki_rules.specs.declared.position.Position.{Position}
 use Rattle.lalrpop_markup.specs.Markup.{marked}
 use Rattle.lalrpop_markup.specs.Terminal.{painted}
-use Rattle.lalrpop_modes.specs.Modes.{ModeRules, AllOf, after}
-use Rattle.lalrpop_modes.specs.Stack.{Stack, start, actions_of}
-use Rattle.lalrpop_modes.specs.declared.action.Action.{Action}
+use Rattle.lalrpop_rules.specs.Modes.{ModeRules, AllOf, after}
+use Rattle.bajofeki_rules.specs.Stack.{Stack, start, actions_of}
+use Rattle.bajofeki_rules.specs.declared.action.Action.{Action}
 use Rattle.lalrpop_rules.specs.Pieces.{joined, slice_of, start_of}
 use Rattle.lalrpop_rules.specs.declared.item.Item.{Item}
 use Rattle.lalrpop_rules.specs.declared.item.Item.TheVariants.{Token, Skipped, Fault}

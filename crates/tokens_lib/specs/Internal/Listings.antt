@@ -1,6 +1,6 @@
 -- What is listed of a file of named rules.
 use Rattle.std.specs.Prelude.{ℕ, Bool, List, if◌then◌else◌}
-use Rattle.lalrpop_modes.specs.declared.mode_rule.ModeRule.{ModeRule}
+use Rattle.bajofeki_rules.specs.declared.mode_rule.ModeRule.{ModeRule}
 use Rattle.reports_lib.specs.Answer.{Answer, refusal}
 use Rattle.tokens_lib.specs.Checked.{CheckAnswer}
 use Rattle.tokens_lib.specs.NamedRules.{ClashesAnswer}

@@ -1,6 +1,6 @@
 -- What is done with each text.
 use Rattle.std.specs.Prelude.{ℕ, ◌⊎◌, List, [], map, string_bytes, Option, Some, None}
-use Rattle.lalrpop_lexer.specs.Quoted.{told}
+use Rattle.bajofeki_rules.specs.Quoted.{told}
 use Rattle.reports_lib.specs.Answer.{Answer}
 use Rattle.tokens_lib.specs.Streams.{Reading}
 use Rattle.tokens_lib.specs.TextAnswer.{TokensAnswer, PiecesAnswer, PiecesPart, PageAnswer, PagePart}

@@ -2,7 +2,7 @@ use Rattle.std.proofs.Common.{◌≡◌, List, flat_map, map, string_bytes}
 use Rattle.std.specs.Prelude.{Ok}
 use Rattle.std.specs.Iterator.{Yields}
 use Rattle.lalrpop_rules.specs.declared.item.Item.{Item}
-use Rattle.lalrpop_modes.specs.ModeCut.{GivesPieceOrError}
+use Rattle.lalrpop_rules.specs.ModeCut.{GivesPieceOrError}
 use Rattle.bajofeki_c.specs.Page.{piece_in}
 use Rattle.bajofeki_c.proofs.page.page_of.Given as goal
 

@@ -1,8 +1,8 @@
 use Rattle.std.proofs.Common.{◌≡◌, ℕ, ◌-◌, ◌<◌, ◌≤◌, ◌⊎◌, ◌++◌, List, length, take, drop, inl, inr, arith, refl, sym, ap, subst, ◌∙◌}
 use Rattle.lalrpop_edits.specs.declared.kept.Kept.{Kept}
 use Rattle.lalrpop_edits.specs.declared.block.Block.{Block}
-use Rattle.lalrpop_modes.specs.Stack.{Stack, start}
-use Rattle.lalrpop_modes.specs.Modes.{EachMode}
+use Rattle.bajofeki_rules.specs.Stack.{Stack, start}
+use Rattle.lalrpop_rules.specs.Modes.{EachMode}
 use Rattle.std.specs.Str.{IsCharBoundary}
 use Rattle.lalrpop_edits.specs.Internal.Kept.{KeptUpTo}
 use Rattle.lalrpop_edits.specs.declared.place.Place.{Place}

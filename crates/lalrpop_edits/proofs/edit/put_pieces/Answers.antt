@@ -3,7 +3,7 @@ use Rattle.lalrpop_edits.specs.declared.block.Block.{Block}
 use Rattle.lalrpop_edits.specs.declared.kept.Kept.{Kept}
 use Rattle.std.specs.Str.{IsCharBoundary}
 use Rattle.std.proofs.lemmas.Result.{on_ok_weaker}
-use Rattle.lalrpop_modes.specs.Stack.{Stack, start}
+use Rattle.bajofeki_rules.specs.Stack.{Stack, start}
 use Rattle.lalrpop_edits.specs.Internal.Blocks.{pieces_in, pieces_at, sizes, after_pieces, AreMarked}
 use Rattle.lalrpop_edits.specs.Internal.BlockPlaces.{AreCounted}
 use Rattle.lalrpop_edits.proofs.LineLaws.{joined_all, joined_counted, some_boundaries}

@@ -2,8 +2,8 @@ use Rattle.std.proofs.Common.{◌≡◌, ℕ, ◌<◌, ◌^◌, List, length, ap
 use Rattle.std.specs.Prelude.{string_bytes}
 use Rattle.std.specs.List.{slice_range, replace_range}
 use Rattle.std.proofs.lemmas.Str.{IsUtf8-string_bytes}
-use Rattle.lalrpop_modes.specs.Stack.{Stack, start}
-use Rattle.lalrpop_modes.specs.Modes.{ModeRules}
+use Rattle.bajofeki_rules.specs.Stack.{Stack, start}
+use Rattle.lalrpop_rules.specs.Modes.{ModeRules}
 use Rattle.lalrpop_edits.specs.Lexed.{IsRange, IsChange, IsEarliest}
 use Rattle.lalrpop_edits.specs.Costs.{IsPaidFor}
 use Rattle.lalrpop_edits.specs.declared.block.Block.{Block}

@@ -1,5 +1,5 @@
 use Rattle.std.proofs.Common.{inl, inr, arith, sym, ap, ◌∙◌}
-use Rattle.lalrpop_lexer.specs.Position.{place_after}
+use Rattle.bajofeki_rules.specs.Position.{place_after}
 use Rattle.lalrpop_edits.proofs.LineLaws.{stretch_place, stretch_room}
 use Rattle.lalrpop_edits.proofs.lines.behind_stretch.Goals as goal
 

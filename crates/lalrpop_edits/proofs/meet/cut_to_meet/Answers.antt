@@ -1,7 +1,7 @@
 use Rattle.std.proofs.Common.{rules, ◌≡◌, ℕ, ◌+◌, ◌≤◌, ◌++◌, [], ◌∷◌, List, length, take, arith, refl, sym, ap, subst, ◌∙◌}
 use Rattle.lalrpop_edits.specs.declared.kept.Kept.{Kept}
 use Rattle.std.proofs.lemmas.List.{take_all, drop_all}
-use Rattle.lalrpop_modes.specs.Stack.{Stack}
+use Rattle.bajofeki_rules.specs.Stack.{Stack}
 use Rattle.lalrpop_edits.specs.Internal.Kept.{KeptUpTo}
 use Rattle.lalrpop_edits.specs.Internal.Blocks.{pieces_in, sizes}
 use Rattle.lalrpop_edits.proofs.KeptLaws.{kept_more}

@@ -1,6 +1,6 @@
 use Rattle.std.proofs.Common.{◌≡◌, ℕ, ◌≤◌, ◌-◌, ◌+◌, ◌<◌, List, true, length, drop}
 use Rattle.std.specs.Str.{IsCharBoundary}
-use Rattle.lalrpop_modes.specs.Modes.{EachMode}
+use Rattle.lalrpop_rules.specs.Modes.{EachMode}
 use Rattle.lalrpop_edits.specs.Internal.Kept.{KeptUpTo}
 use Rattle.lalrpop_edits.specs.Internal.Blocks.{pieces_in}
 use Rattle.lalrpop_edits.specs.Internal.Noted.{IsCutter}

@@ -2,7 +2,7 @@ use Rattle.std.proofs.Common.{◌≡◌, ℕ, ◌+◌, ◌^◌, ◌<◌, get_or,
 use Rattle.lalrpop_edits.specs.declared.kept.Kept.{Kept}
 use Rattle.std.proofs.lemmas.Option.{slice_get_within}
 use Rattle.lalrpop_edits.specs.Internal.Kept.{after_kept}
-use Rattle.lalrpop_modes.specs.Stack.{start}
+use Rattle.bajofeki_rules.specs.Stack.{start}
 use Rattle.lalrpop_edits.specs.Internal.Blocks.{pieces_in, sizes, after_pieces}
 use Rattle.lalrpop_edits.proofs.BlockLaws.{sizes_more, after_more, sizes_front}
 use Rattle.lalrpop_edits.proofs.Starting.{got}

@@ -1,7 +1,7 @@
 use Rattle.std.proofs.Common.{rules, ◌≡◌, ℕ, ◌+◌, ◌^◌, ◌<◌, ◌≤◌, List, length, get_or, drop, sym, ap, subst, ◌∙◌, arith, length-drop}
 use Rattle.std.specs.Prelude.{slice_get, Some}
 use Rattle.std.proofs.lemmas.Option.{slice_get-get_or}
-use Rattle.lalrpop_modes.specs.Modes.{trees_in}
+use Rattle.lalrpop_rules.specs.Modes.{trees_in}
 use Rattle.lalrpop_edits.specs.declared.cutter.Cutter.{Cutter}
 use Rattle.lalrpop_edits.specs.declared.walker.Walker.{Walker}
 use Rattle.lalrpop_edits.proofs.Fronts.{IsFrontBy}

@@ -1,4 +1,4 @@
-use Rattle.lalrpop_modes.proofs.ModeRuns.{act-within}
+use Rattle.lalrpop_rules.proofs.ModeRuns.{act-within}
 use Rattle.lalrpop_edits.proofs.place.pass.Goals.{then-piece+in_ok-act_all, else-piece}
 use Rattle.lalrpop_edits.proofs.place.pass.Goals as goal
 

@@ -1,6 +1,6 @@
 use Rattle.std.proofs.Common.{◌≡◌, ◌<◌, ◌≤◌, ◌+◌, ◌^◌, ◌∙◌, ap, arith, length, string_bytes}
 use Rattle.std.proofs.lemmas.List.{length-map}
-use Rattle.lalrpop_modes.specs.Stack.{actions_of}
+use Rattle.bajofeki_rules.specs.Stack.{actions_of}
 use Rattle.lalrpop_emit.specs.NumberedRules.{action_numbers}
 use Rattle.lalrpop_emit.proofs.ActionNumbers.{below_on, few_of_first, first_rules, numbers_on, places_on, small_on}
 use Rattle.lalrpop_emit.proofs.action_lists.action_lists.Goals as goal

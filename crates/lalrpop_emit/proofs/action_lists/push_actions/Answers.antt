@@ -1,5 +1,5 @@
 use Rattle.std.proofs.Common.{◌<◌, ◌^◌, arith}
-use Rattle.lalrpop_modes.specs.declared.action.Action.TheVariants.{Mode}
+use Rattle.bajofeki_rules.specs.declared.action.Action.TheVariants.{Mode}
 use Rattle.lalrpop_emit.proofs.ActionNumbers.{actions_on, small_mode, small_on}
 use Rattle.lalrpop_emit.proofs.action_lists.push_actions.Goals as goal
 

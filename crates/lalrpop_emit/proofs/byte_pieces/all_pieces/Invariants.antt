@@ -1,6 +1,6 @@
 use Rattle.std.proofs.Common.{◌-◌, length}
-use Rattle.lalrpop_modes.specs.Modes.{ModeRules}
-use Rattle.lalrpop_modes.specs.Stack.{start}
+use Rattle.lalrpop_rules.specs.Modes.{ModeRules}
+use Rattle.bajofeki_rules.specs.Stack.{start}
 use Rattle.lalrpop_emit.specs.ByteCut.{IsCutOf, place_of, stack_in}
 use Rattle.lalrpop_emit.specs.BytePieces.{AreBytePiecesTo}
 use Rattle.lalrpop_emit.specs.NumberedRules.{AreNumbersOf}

@@ -1,6 +1,6 @@
 use Rattle.std.proofs.Common.{◌≡◌, ◌+◌, ◌-◌, ◌/◌, ◌<◌, length, set, get_or, refl, sym, ap, subst, ◌∙◌, arith}
 use Rattle.std.proofs.lemmas.List.{get_or_default}
-use Rattle.lalrpop_modes.specs.Stack.{act as act_of}
+use Rattle.bajofeki_rules.specs.Stack.{act as act_of}
 use Rattle.lalrpop_emit.specs.NumberedRules.{NumberedRules}
 use Rattle.lalrpop_emit.specs.Internal.Driving.{stack_of}
 use Rattle.lalrpop_emit.specs.declared.driver.State.{State}

@@ -1,5 +1,5 @@
 use Rattle.std.proofs.Common.{◌≡◌, ◌-◌, ◌≤◌, List, length}
-use Rattle.lalrpop_modes.specs.declared.action.Action.{Action}
+use Rattle.bajofeki_rules.specs.declared.action.Action.{Action}
 use Rattle.lalrpop_emit.specs.BytePieces.{Fits}
 use Rattle.lalrpop_emit.specs.Internal.Driving.{stack_of}
 use Rattle.lalrpop_emit.specs.Internal.Walking.{AreActionsAt}

@@ -1,7 +1,7 @@
 use Rattle.std.proofs.Common.{length, ap, arith, subst, sym, ◌∙◌, ◌==◌}
 use Rattle.std.proofs.Math.Bool.{not, not-not}
 use Rattle.std.proofs.lemmas.Bool.{eqb-true}
-use Rattle.lalrpop_modes.specs.Stack.{actions_of}
+use Rattle.bajofeki_rules.specs.Stack.{actions_of}
 use Rattle.lalrpop_emit.specs.NumberedRules.{NumberedRules}
 use Rattle.lalrpop_emit.specs.Internal.Walking.{IsDrivable}
 use Rattle.lalrpop_emit.proofs.Actions.{none_of_them, read_within}

@@ -1,5 +1,5 @@
 use Rattle.std.proofs.Common.{◌-◌, ◌≤◌, List, length}
-use Rattle.lalrpop_modes.specs.declared.action.Action.{Action}
+use Rattle.bajofeki_rules.specs.declared.action.Action.{Action}
 use Rattle.lalrpop_emit.specs.Internal.Walking.{AreActionsAt}
 use Rattle.lalrpop_emit.proofs.Actions.{RoomLeft}
 use Rattle.lalrpop_emit.proofs.driver.has_room.Given as goal

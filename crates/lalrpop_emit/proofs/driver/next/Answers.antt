@@ -1,8 +1,8 @@
 use Rattle.std.proofs.Common.{◌≡◌, ◌-◌, List, [], arith, length, refl, subst, sym, ◌∙◌}
 use Rattle.std.specs.Prelude.{slice_get, IfSome, Some}
 use Rattle.lalrpop_dense.specs.DenseTable.{TableNumbers}
-use Rattle.lalrpop_modes.specs.declared.action.Action.{Action}
-use Rattle.lalrpop_modes.specs.Stack.{act_all, actions_of}
+use Rattle.bajofeki_rules.specs.declared.action.Action.{Action}
+use Rattle.bajofeki_rules.specs.Stack.{act_all, actions_of}
 use Rattle.lalrpop_emit.specs.BytePieces.{Fits}
 use Rattle.lalrpop_emit.specs.Internal.Driving.{stack_of}
 use Rattle.lalrpop_emit.specs.Internal.Lists.{ahead_numbers}

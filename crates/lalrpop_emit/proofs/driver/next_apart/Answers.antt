@@ -3,8 +3,8 @@ use Rattle.std.specs.Prelude.{Option, Some, None}
 use Rattle.std.proofs.lemmas.Bool.{false≢true}
 use Rattle.std.proofs.lemmas.Option.{slice_get-get_or}
 use Rattle.lalrpop_dfa.proofs.Recognized.{on_words}
-use Rattle.lalrpop_modes.specs.Modes.{trees_in}
-use Rattle.lalrpop_modes.specs.Stack.{actions_of}
+use Rattle.lalrpop_rules.specs.Modes.{trees_in}
+use Rattle.bajofeki_rules.specs.Stack.{actions_of}
 use Rattle.lalrpop_emit.specs.NumberedRules.{NumberedRules}
 use Rattle.lalrpop_emit.specs.Internal.Driving.{stack_of}
 use Rattle.lalrpop_emit.specs.Internal.Running.{IsRunOf}

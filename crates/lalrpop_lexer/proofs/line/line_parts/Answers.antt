@@ -1,5 +1,6 @@
 use Rattle.std.proofs.Common.{sym, subst, Some, None}
-use Rattle.lalrpop_lexer.specs.Line.{IsPrecedence, IsLine}
+use Rattle.lalrpop_lexer.specs.Line.{IsLine}
+use Rattle.bajofeki_rules.specs.Precedence.{IsPrecedence}
 use Rattle.lalrpop_lexer.proofs.LineParts.{line-split, shown-text}
 use Rattle.lalrpop_lexer.proofs.line.line_parts.Goals as goal
 

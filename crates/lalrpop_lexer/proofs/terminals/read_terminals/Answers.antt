@@ -1,6 +1,6 @@
 use Rattle.std.proofs.Common.{[], ◌∷◌, ◌++◌, sym, append_assoc}
 use Rattle.std.proofs.lemmas.List.{map-append}
-use Rattle.lalrpop_lexer.specs.Lines.{lines}
+use Rattle.bajofeki_rules.specs.Lines.{lines}
 use Rattle.lalrpop_lexer.specs.declared.terminal_line.TerminalLine.TheVariants.{Bad, NoTree}
 use Rattle.lalrpop_lexer.proofs.TerminalLemmas.{AreTerminals-push, FirstSays-after}
 use Rattle.lalrpop_lexer.proofs.terminals.read_terminals.Goals as goal

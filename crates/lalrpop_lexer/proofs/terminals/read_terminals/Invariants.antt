@@ -1,5 +1,5 @@
 use Rattle.std.proofs.Common.{◌≡◌, ℕ, List, ◌++◌, length, map}
-use Rattle.lalrpop_lexer.specs.Lines.{lines}
+use Rattle.bajofeki_rules.specs.Lines.{lines}
 use Rattle.lalrpop_lexer.specs.Terminals.{AreTerminals}
 use Rattle.lalrpop_lexer.proofs.terminals.read_terminals.Given as goal
 

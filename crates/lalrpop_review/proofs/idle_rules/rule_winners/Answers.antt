@@ -1,6 +1,6 @@
 use Rattle.std.proofs.Common.{subst}
 use Rattle.std.specs.Prelude.{IfSome}
-use Rattle.lalrpop_modes.specs.Modes.{trees_in}
+use Rattle.lalrpop_rules.specs.Modes.{trees_in}
 use Rattle.lalrpop_review.specs.Internal.Idle.{IsOwnVerdict}
 use Rattle.lalrpop_review.proofs.IdleLaws.{told_own}
 use Rattle.lalrpop_review.proofs.idle_rules.rule_winners.Goals as goal

@@ -1,7 +1,7 @@
 use Rattle.std.proofs.Common.{◌≡◌, ◌+◌, ◌-◌, length, take, drop, sym, arith, rules, length-drop}
 use Rattle.std.proofs.lemmas.List.{take_all}
 use Rattle.std.proofs.lemmas.Bool.{eqb-false}
-use Rattle.lalrpop_lexer.proofs.LineLemmas.{lines-position, lines-position_none}
+use Rattle.bajofeki_rules.proofs.LineLemmas.{lines-position, lines-position_none}
 use Rattle.lalrpop_rule_file.proofs.content.split_line.Goals as goal
 
 pub returns-in-Some-clause-lines : goal.returns-in-Some-clause-lines

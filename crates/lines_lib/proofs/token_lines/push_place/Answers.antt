@@ -1,5 +1,5 @@
 use Rattle.std.proofs.Common.{ℕ, List, [], ◌∷◌, ◌++◌, decimal, ap, ◌∙◌}
-use Rattle.lalrpop_lexer.specs.declared.position.Position.{Position}
+use Rattle.bajofeki_rules.specs.declared.position.Position.{Position}
 use Rattle.lines_lib.specs.TokenLines.{place_in}
 use Rattle.lines_lib.proofs.Appended.{four_pushed, around_numbers}
 use Rattle.lines_lib.proofs.token_lines.push_place.Goals as goal

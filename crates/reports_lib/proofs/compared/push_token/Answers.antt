@@ -1,7 +1,7 @@
 use Rattle.std.proofs.Common.{◌≡◌, ◌++◌, ℕ, List, flat_map, map, string_bytes, sym, ap, ◌∙◌}
 use Rattle.std.specs.Prelude.{Option}
 use Rattle.std.proofs.lemmas.List.{take_all}
-use Rattle.lalrpop_modes.specs.declared.action.Action.{Action}
+use Rattle.bajofeki_rules.specs.declared.action.Action.{Action}
 use Rattle.lalrpop_review.specs.Apart.{told}
 use Rattle.reports_lib.specs.Compared.{action_text, token_text}
 use Rattle.reports_lib.proofs.ComparedLaws.{token_pushed}

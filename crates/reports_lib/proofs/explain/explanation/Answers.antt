@@ -1,5 +1,5 @@
 use Rattle.std.proofs.Common.{arith}
-use Rattle.lalrpop_lexer.specs.Lines.{lines}
+use Rattle.bajofeki_rules.specs.Lines.{lines}
 use Rattle.lalrpop_lexer.specs.declared.terminal_line.TerminalLine.TheVariants.{Bad, NoTree}
 use Rattle.reports_lib.proofs.TerminalLines.{first_line, first_within, tree_within}
 use Rattle.reports_lib.proofs.explain.explanation.Goals as goal

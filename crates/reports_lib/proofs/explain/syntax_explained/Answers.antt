@@ -1,6 +1,6 @@
 use Rattle.std.proofs.Common.{◌≡◌, ℕ, List, Some, sym, subst, ◌∙◌}
 use Rattle.lalrpop_lexer.specs.Line.{LineSays}
-use Rattle.lalrpop_lexer.specs.Lines.{lines}
+use Rattle.bajofeki_rules.specs.Lines.{lines}
 use Rattle.lalrpop_lexer.specs.declared.terminal_line.TerminalLine.TheVariants.{NoTree}
 use Rattle.reports_lib.proofs.TerminalLines.{first_line}
 use Rattle.reports_lib.proofs.explain.syntax_explained.Goals as goal

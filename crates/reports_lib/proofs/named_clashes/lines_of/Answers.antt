@@ -1,5 +1,5 @@
 use Rattle.std.proofs.Common.{◌++◌, ◌∙◌, flat_map, map, string_bytes, ap}
-use Rattle.lalrpop_modes.specs.ModeSet.{rules_of}
+use Rattle.lalrpop_rules.specs.ModeSet.{rules_of}
 use Rattle.lalrpop_rules.specs.RuleSet.{names_of}
 use Rattle.reports_lib.specs.ItemLines.{mode_named}
 use Rattle.reports_lib.specs.RuleClashes.{named_line}

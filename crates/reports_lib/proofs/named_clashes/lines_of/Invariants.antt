@@ -1,5 +1,5 @@
 use Rattle.std.proofs.Common.{◌≡◌, map, string_bytes, take}
-use Rattle.lalrpop_modes.specs.ModeSet.{rules_of}
+use Rattle.lalrpop_rules.specs.ModeSet.{rules_of}
 use Rattle.lalrpop_rules.specs.RuleSet.{names_of}
 use Rattle.reports_lib.specs.RuleClashes.{clash_lines}
 use Rattle.reports_lib.proofs.named_clashes.lines_of.Given as goal

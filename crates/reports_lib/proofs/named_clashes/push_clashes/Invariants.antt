@@ -1,5 +1,5 @@
 use Rattle.std.proofs.Common.{◌≡◌, ◌++◌, string_bytes, flat_map, take, option_map}
-use Rattle.lalrpop_modes.specs.ModeSet.{rules_of}
+use Rattle.lalrpop_rules.specs.ModeSet.{rules_of}
 use Rattle.lalrpop_rules.specs.RuleSet.{names_of}
 use Rattle.reports_lib.specs.RuleClashes.{named_line}
 use Rattle.reports_lib.proofs.named_clashes.push_clashes.Given as goal

@@ -1,5 +1,5 @@
 use Rattle.std.proofs.Common.{ap}
-use Rattle.lalrpop_lexer.specs.declared.position.Position.{Position}
+use Rattle.bajofeki_rules.specs.declared.position.Position.{Position}
 use Rattle.reports_lib.proofs.ReviewMembers.{three_steps}
 use Rattle.reports_lib.proofs.review_json.write_place.Goals as goal
 

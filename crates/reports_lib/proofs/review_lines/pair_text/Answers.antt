@@ -1,6 +1,6 @@
 use Rattle.std.proofs.Common.{ap}
 use Rattle.std.proofs.lemmas.Result.{IfOk-weaker}
-use Rattle.lalrpop_lexer.specs.declared.position.Position.{Position}
+use Rattle.bajofeki_rules.specs.declared.position.Position.{Position}
 use Rattle.reports_lib.proofs.review_lines.pair_text.Goals as goal
 
 pub returns : goal.returns

@@ -1,5 +1,5 @@
 use Rattle.std.proofs.Common.{inl, inr, refl}
-use Rattle.lalrpop_lexer.specs.Lines.{lines}
+use Rattle.bajofeki_rules.specs.Lines.{lines}
 use Rattle.lalrpop_rule_file.specs.RuleFile.{without_mark}
 use Rattle.reports_lib.specs.Answer.{headed, refusal}
 use Rattle.tokens_lib.specs.NamedRules.{LinesAnswer, RulesRefused, RulesOf}

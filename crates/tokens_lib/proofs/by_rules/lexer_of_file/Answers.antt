@@ -1,6 +1,6 @@
 use Rattle.std.proofs.Common.{ℕ, length, map, refl, sym, subst, ◌∙◌, arith}
 use Rattle.std.proofs.lemmas.List.{length-map}
-use Rattle.lalrpop_modes.specs.ModeSet.{AreModeRules, IsModesError}
+use Rattle.lalrpop_rules.specs.ModeSet.{AreModeRules, IsRulesError}
 use Rattle.reports_lib.specs.Answer.{headed, refusal}
 use Rattle.tokens_lib.specs.NamedRules.{IsSetOf, rules_status}
 use Rattle.tokens_lib.specs.Internal.Faults.{NameOnly}
@@ -12,15 +12,15 @@ from_rules-requires g c = record { some = omega (arith, c.len.ensures, c.args.fi
 
 pub report_rules-requires : goal.report_rules-requires
 report_rules-requires g c =
-    let error_is : IsModesError c.args.file.now.rules.items (length (map (λ m. m.now) c.args.file.now.modes.items)) c.in-Err.error =
-    subst (λ (n : ℕ). IsModesError c.args.file.now.rules.items n c.in-Err.error) (c.len.ensures ∙ c.args.file.now.modes.ok.0 ∙ sym (length-map c.args.file.now.modes.items (λ m. m.now)))
+    let error_is : IsRulesError c.args.file.now.rules.items (length (map (λ m. m.now) c.args.file.now.modes.items)) c.in-Err.error =
+    subst (λ (n : ℕ). IsRulesError c.args.file.now.rules.items n c.in-Err.error) (c.len.ensures ∙ c.args.file.now.modes.ok.0 ∙ sym (length-map c.args.file.now.modes.items (λ m. m.now)))
     (rw c.deref.ensures.value at c.in-Err.ensures.error) in
     record { error = error_said c.args.file.now.rules.items _ c.in-Err.error (subst (NameOnly c.args.file.now.rules.items) (sym (length-map c.args.file.now.modes.items (λ m. m.now))) c.requires.within) error_is }
 
 pub returns-in_ok-report_rules-in-Err-clause-refused : goal.returns-in_ok-report_rules-in-Err-clause-refused
 returns-in_ok-report_rules-in-Err-clause-refused g c =
-    let error_is : IsModesError c.args.file.now.rules.items (length (map (λ m. m.now) c.args.file.now.modes.items)) c.in-Err.error =
-    subst (λ (n : ℕ). IsModesError c.args.file.now.rules.items n c.in-Err.error) (c.len.ensures ∙ c.args.file.now.modes.ok.0 ∙ sym (length-map c.args.file.now.modes.items (λ m. m.now)))
+    let error_is : IsRulesError c.args.file.now.rules.items (length (map (λ m. m.now) c.args.file.now.modes.items)) c.in-Err.error =
+    subst (λ (n : ℕ). IsRulesError c.args.file.now.rules.items n c.in-Err.error) (c.len.ensures ∙ c.args.file.now.modes.ok.0 ∙ sym (length-map c.args.file.now.modes.items (λ m. m.now)))
     (rw c.deref.ensures.value at c.in-Err.ensures.error) in
     let said = c.in_ok-report_rules-in-Err.ensures.said in (
       refusal (rules_status c.in-Err.error) (headed c.args.name.now said.0),

@@ -1,6 +1,6 @@
 use Rattle.std.proofs.Common.{ℕ, List, length, map, sym, ap, subst}
 use Rattle.std.specs.Prelude.{Result, Ok, Err, IfOk, IfErr}
-use Rattle.lalrpop_lexer.specs.Lines.{lines}
+use Rattle.bajofeki_rules.specs.Lines.{lines}
 use Rattle.lalrpop_rule_file.specs.RuleFile.{without_mark}
 use Rattle.tokens_lib.specs.NamedRules.{RulesRefused, SayRules, IsSetOf}
 use Rattle.tokens_lib.proofs.Refusals.{names_only}

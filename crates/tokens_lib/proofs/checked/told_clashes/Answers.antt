@@ -1,8 +1,8 @@
 use Rattle.std.proofs.Common.{ℕ, length, map, sym, subst, ◌∙◌}
 use Rattle.std.proofs.lemmas.List.{length-map}
-use Rattle.lalrpop_modes.specs.ModeClashes.{AreModeClashes}
-use Rattle.lalrpop_modes.specs.ModeSet.{AreModeRules}
-use Rattle.lalrpop_modes.specs.Modes.{ModeRules}
+use Rattle.lalrpop_rules.specs.ModeClashes.{AreModeClashes}
+use Rattle.lalrpop_rules.specs.ModeSet.{AreModeRules}
+use Rattle.lalrpop_rules.specs.Modes.{ModeRules}
 use Rattle.tokens_lib.proofs.checked.told_clashes.Goals as goal
 
 pub returns-in-Ok-clause-told : goal.returns-in-Ok-clause-told

@@ -1,12 +1,12 @@
 use Rattle.std.proofs.Common.{ℕ, length, map, sym, subst, inr, ◌∙◌}
 use Rattle.std.proofs.lemmas.List.{length-map}
-use Rattle.lalrpop_modes.specs.ModeSet.{AreModeRules, IsModesError}
+use Rattle.lalrpop_rules.specs.ModeSet.{AreModeRules, IsRulesError}
 use Rattle.tokens_lib.specs.NamedRules.{IsSetOf}
 use Rattle.tokens_lib.proofs.checked.told_of.Goals as goal
 
 pub told_instead-requires : goal.told_instead-requires
 told_instead-requires c = record {
-  error = subst (λ (n : ℕ). IsModesError c.args.file.now.rules.items n c.in-Err.error)
+  error = subst (λ (n : ℕ). IsRulesError c.args.file.now.rules.items n c.in-Err.error)
       (c.len.ensures ∙ c.args.file.now.modes.ok.0 ∙ sym (length-map c.args.file.now.modes.items (λ m. m.now)))
       (rw c.deref.ensures.value at c.in-Err.ensures.error);
 }

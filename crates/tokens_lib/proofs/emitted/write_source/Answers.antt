@@ -4,7 +4,7 @@ use Rattle.std.specs.Prelude.{◌≢◌, Option, Result, Ok, Err, IfOk, OnOk, On
 use Rattle.lalrpop_emit.specs.NumberedRules.{NumberedRules, AreNumbersOf}
 use Rattle.lalrpop_emit.specs.declared.error.EmitError.{EmitError}
 use Rattle.lalrpop_emit.specs.declared.error.EmitError.TheVariants as emit
-use Rattle.lalrpop_modes.specs.Modes.{ModeRules}
+use Rattle.lalrpop_rules.specs.Modes.{ModeRules}
 use Rattle.lexdfa_lib.specs.Watch.{Watch, AppendsPrefix}
 use Rattle.lexdfa_lib.specs.declared.error.RunError.{RunError}
 use Rattle.reports_lib.specs.Answer.{Answer, Begun, refusal, about}

@@ -1,6 +1,6 @@
 use Rattle.std.proofs.Common.{ℕ, List, length, map, ap, subst}
 use Rattle.std.proofs.lemmas.Result.{IfOk-weaker, on_err_weaker}
-use Rattle.lalrpop_lexer.specs.Lines.{lines}
+use Rattle.bajofeki_rules.specs.Lines.{lines}
 use Rattle.lalrpop_rule_file.specs.RuleFile.{without_mark}
 use Rattle.tokens_lib.specs.NamedRules.{SayRules}
 use Rattle.tokens_lib.specs.Internal.Listings.{ListingAnswer}

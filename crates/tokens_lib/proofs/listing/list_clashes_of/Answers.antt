@@ -1,9 +1,9 @@
 use Rattle.std.proofs.Common.{ℕ, [], inl, inr, length, map, refl, sym, subst, ◌∙◌}
 use Rattle.std.proofs.lemmas.List.{length-map}
 use Rattle.std.proofs.lemmas.Result.{IfOk-weaker}
-use Rattle.lalrpop_modes.specs.ModeClashes.{AreModeClashes, IsModesFault}
-use Rattle.lalrpop_modes.specs.ModeSet.{AreModeRules, rules_of}
-use Rattle.lalrpop_modes.specs.Modes.{ModeRules}
+use Rattle.lalrpop_rules.specs.ModeClashes.{AreModeClashes, IsModesFault}
+use Rattle.lalrpop_rules.specs.ModeSet.{AreModeRules, rules_of}
+use Rattle.lalrpop_rules.specs.Modes.{ModeRules}
 use Rattle.lalrpop_rules.specs.RuleSet.{names_of}
 use Rattle.reports_lib.specs.Answer.{headed, refusal}
 use Rattle.reports_lib.specs.RuleClashes.{clash_lines}

@@ -2,7 +2,7 @@ use Rattle.std.proofs.Common.{ℕ, inl, inr, refl, ap, ◌∙◌}
 use Rattle.std.specs.Prelude.{max}
 use Rattle.lines_lib.proofs.Sending.{at_any_error}
 use Rattle.std.proofs.lemmas.Result.{IfOk-weaker}
-use Rattle.lalrpop_lexer.specs.Lines.{lines}
+use Rattle.bajofeki_rules.specs.Lines.{lines}
 use Rattle.lalrpop_rule_file.specs.RuleFile.{without_mark}
 use Rattle.reports_lib.specs.Answer.{headed, refusal}
 use Rattle.tokens_lib.specs.NamedRules.{LinesAnswer}

@@ -1,7 +1,7 @@
 use Rattle.std.proofs.Common.{◌≡◌, ℕ, List, inl, inr, [], Bor, map, string_bytes, refl, sym, subst, ◌∙◌}
 use Rattle.std.specs.Io.KnownBytes.{Appends}
 use Rattle.std.specs.Prelude.{Option, Result, Ok, Err, IfOk, OnOk, OnErr, option_map, slice_get}
-use Rattle.lalrpop_modes.specs.Modes.{ModeRules}
+use Rattle.lalrpop_rules.specs.Modes.{ModeRules}
 use Rattle.lexdfa_lib.specs.Watch.{Watch, AppendsPrefix}
 use Rattle.lexdfa_lib.specs.declared.error.RunError.{RunError}
 use Rattle.reports_lib.specs.Answer.{Answer, Begun, refusal, about}

@@ -1,7 +1,7 @@
 use Rattle.std.proofs.Common.{refl, sym, ap, subst, ◌∙◌, []}
 use Rattle.std.specs.Prelude.{Option}
 use Rattle.lines_lib.proofs.Sending.{at_any_error}
-use Rattle.lalrpop_modes.specs.Modes.{ModeRules}
+use Rattle.lalrpop_rules.specs.Modes.{ModeRules}
 use Rattle.tokens_lib.specs.Internal.CutTexts.{Comes, GivesAll}
 use Rattle.tokens_lib.specs.declared.cut_end.CutEnd.{CutEnd}
 use Rattle.tokens_lib.proofs.ComingLaws.{at_a_fault, consumes_none, ends_at_last, gives_so, goes_further, has_read, in_part, lost, part_so, still_good}

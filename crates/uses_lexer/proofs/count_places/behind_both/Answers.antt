@@ -2,10 +2,10 @@ use Rattle.std.proofs.Common.{◌≡◌, ◌++◌, ◌⊎◌, ℕ, List, inl, in
 use Rattle.std.specs.Prelude.{Option, Some, None, IfNone}
 use Rattle.std.specs.Str.{chars}
 use Rattle.std.proofs.lemmas.Option.{IfSome_then}
-use Rattle.lalrpop_lexer.specs.Position.{place_after, place_behind}
-use Rattle.lalrpop_lexer.specs.declared.position.Position.{Position}
-use Rattle.lalrpop_lexer.proofs.Places.{column_within, few_chars, line_within}
-use Rattle.lalrpop_lexer.proofs.PlaceLaws.{place_behind_slice}
+use Rattle.bajofeki_rules.specs.Position.{place_after, place_behind}
+use Rattle.bajofeki_rules.specs.declared.position.Position.{Position}
+use Rattle.bajofeki_rules.proofs.Places.{column_within, few_chars, line_within}
+use Rattle.bajofeki_rules.proofs.PlaceLaws.{place_behind_slice}
 use Rattle.lalrpop_edits.proofs.LineLaws.{moved_begin}
 use Rattle.uses_lexer.proofs.count_places.behind_both.Goals as goal
 

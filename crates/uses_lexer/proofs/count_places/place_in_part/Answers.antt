@@ -2,9 +2,9 @@ use Rattle.std.proofs.Common.{◌≡◌, ◌+◌, ◌⊎◌, ℕ, List, inl, inr
 use Rattle.std.specs.Prelude.{Option, Some, None, IfNone}
 use Rattle.std.proofs.lemmas.Option.{IfSome_then}
 use Rattle.std.proofs.lemmas.Str.{IsUtf8-take}
-use Rattle.lalrpop_lexer.specs.Position.{moved, position_of}
-use Rattle.lalrpop_lexer.specs.declared.position.Position.{Position}
-use Rattle.lalrpop_lexer.proofs.PlaceLaws.{position_moved}
+use Rattle.bajofeki_rules.specs.Position.{moved, position_of}
+use Rattle.bajofeki_rules.specs.declared.position.Position.{Position}
+use Rattle.bajofeki_rules.proofs.PlaceLaws.{position_moved}
 use Rattle.lalrpop_edits.proofs.LineLaws.{place_within}
 use Rattle.uses_lexer.proofs.count_places.place_in_part.Goals as goal
 

@@ -2,7 +2,7 @@ use Rattle.std.proofs.Common.{◌≡◌, List, length, map}
 use Rattle.std.specs.Prelude.{Ok}
 use Rattle.std.specs.Iterator.{Yields}
 use Rattle.lalrpop_rules.specs.declared.item.Item.{Item}
-use Rattle.lalrpop_modes.specs.ModeCut.{GivesPieceOrError}
+use Rattle.lalrpop_rules.specs.ModeCut.{GivesPieceOrError}
 use Rattle.uses_lexer.proofs.cut_by_modes.piece_count_linear.Given as goal
 
 -- all items so far are pieces, and this is their number

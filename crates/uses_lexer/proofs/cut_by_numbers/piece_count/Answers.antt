@@ -1,6 +1,6 @@
 use Rattle.std.proofs.Common.{◌++◌, [], ◌∷◌, refl, sym, arith, length-append}
 use Rattle.lalrpop_emit.proofs.ByteCutLaws.{given_all, given_more, given_too_deep}
-use Rattle.lalrpop_modes.specs.Stack.{start}
+use Rattle.bajofeki_rules.specs.Stack.{start}
 use Rattle.uses_lexer.proofs.cut_by_numbers.piece_count.Goals as goal
 
 pub pieces-init : goal.pieces-init

@@ -3,8 +3,8 @@ use Rattle.lalrpop_emit.specs.ByteCut.{IsCutOf, place_of, stack_in}
 use Rattle.lalrpop_emit.specs.BytePieces.{AreBytePiecesTo}
 use Rattle.lalrpop_emit.specs.NumberedRules.{AreNumbersOf}
 use Rattle.lalrpop_emit.specs.declared.numbered_piece.NumberedPiece.{NumberedPiece}
-use Rattle.lalrpop_modes.specs.Modes.{ModeRules}
-use Rattle.lalrpop_modes.specs.Stack.{start}
+use Rattle.lalrpop_rules.specs.Modes.{ModeRules}
+use Rattle.bajofeki_rules.specs.Stack.{start}
 use Rattle.uses_lexer.proofs.cut_by_numbers.piece_count.Given as goal
 
 -- so many pieces lead to the place of the cut; each has a byte at least

@@ -1,8 +1,8 @@
 use Rattle.std.proofs.Common.{ℕ, List, length, map, sym, ap, subst, ◌∙◌, arith}
 use Rattle.std.proofs.lemmas.List.{take_all}
 use Rattle.lalrpop_emit.specs.BytePieces.{numbered}
-use Rattle.lalrpop_modes.specs.Modes.{ArePiecesFrom}
-use Rattle.lalrpop_modes.specs.Stack.{start}
+use Rattle.lalrpop_rules.specs.Modes.{ArePiecesFrom}
+use Rattle.bajofeki_rules.specs.Stack.{start}
 use Rattle.uses_lexer.proofs.cut_by_numbers.pieces_by_numbers.Goals as goal
 
 pub returns : goal.returns

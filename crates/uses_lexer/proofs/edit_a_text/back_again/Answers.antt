@@ -1,7 +1,7 @@
 use Rattle.std.proofs.Common.{refl, subst, ◌∙◌}
 use Rattle.std.specs.Str.{IsUtf8}
 use Rattle.std.proofs.lemmas.Option.{IfSome_then}
-use Rattle.lalrpop_lexer.proofs.PlaceLaws.{one_offset}
+use Rattle.bajofeki_rules.proofs.PlaceLaws.{one_offset}
 use Rattle.uses_lexer.proofs.edit_a_text.back_again.Goals as goal
 
 pub returns-clause-same : goal.returns-clause-same

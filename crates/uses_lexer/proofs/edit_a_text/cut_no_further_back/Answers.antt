@@ -1,5 +1,5 @@
-use Rattle.lalrpop_modes.specs.Stack.{start}
-use Rattle.lalrpop_modes.specs.Modes.{after_all, trees_in}
+use Rattle.bajofeki_rules.specs.Stack.{start}
+use Rattle.lalrpop_rules.specs.Modes.{after_all, trees_in}
 use Rattle.std.specs.Prelude.{take}
 use Rattle.uses_lexer.proofs.Edits.{reads_on}
 use Rattle.uses_lexer.proofs.edit_a_text.cut_no_further_back.Goals as goal

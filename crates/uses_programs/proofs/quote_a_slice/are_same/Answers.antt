@@ -1,7 +1,7 @@
 use Rattle.std.proofs.Common.{sym, ap, ◌∙◌, string_bytes}
 use Rattle.std.proofs.lemmas.Slice.Eq.{bytes_eq-Decides}
-use Rattle.lalrpop_lexer.specs.Quoted.{quoted}
-use Rattle.lalrpop_lexer.proofs.Quotes.{quoted-unique}
+use Rattle.bajofeki_rules.specs.Quoted.{quoted}
+use Rattle.bajofeki_rules.proofs.Quotes.{quoted-unique}
 use Rattle.uses_programs.proofs.quote_a_slice.are_same.Goals as goal
 
 pub returns : goal.returns

@@ -1,8 +1,8 @@
 use Rattle.std.proofs.Common.{sym, subst, ◌∙◌, arith}
 use Rattle.std.specs.Str.{NoCharPasses}
 use Rattle.std.proofs.lemmas.Str.Pattern.{contains_char}
-use Rattle.lalrpop_lexer.specs.Quoted.{is_unseen}
-use Rattle.lalrpop_lexer.proofs.Quotes.{quoted_word_is_seen}
+use Rattle.bajofeki_rules.specs.Quoted.{is_unseen}
+use Rattle.bajofeki_rules.proofs.Quotes.{quoted_word_is_seen}
 use Rattle.uses_programs.proofs.Lines.{no_line_feed}
 use Rattle.uses_programs.proofs.Words.{is_word}
 use Rattle.uses_programs.proofs.quote_a_slice.word_has_two_lines.Goals as goal

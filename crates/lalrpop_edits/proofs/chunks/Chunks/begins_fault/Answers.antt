@@ -1,5 +1,5 @@
 use Rattle.std.proofs.Common.{ap, ◌∙◌}
-use Rattle.lalrpop_modes.specs.Modes.{trees_in}
+use Rattle.lalrpop_rules.specs.Modes.{trees_in}
 use Rattle.lalrpop_edits.specs.Chunked.{Chunked}
 use Rattle.lalrpop_edits.proofs.Chunking.{fault_here, not_empty}
 use Rattle.lalrpop_edits.proofs.chunks.Chunks.begins_fault.Goals as goal

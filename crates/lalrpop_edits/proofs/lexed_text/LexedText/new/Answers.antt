@@ -1,5 +1,5 @@
 use Rattle.std.proofs.Common.{refl}
-use Rattle.lalrpop_modes.specs.Stack.{start}
+use Rattle.bajofeki_rules.specs.Stack.{start}
 use Rattle.lalrpop_edits.proofs.lexed_text.LexedText.new.Goals as goal
 
 pub invariant_of-lexed : goal.invariant_of-lexed

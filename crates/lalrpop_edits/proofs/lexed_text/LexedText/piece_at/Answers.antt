@@ -5,7 +5,7 @@ use Rattle.std.proofs.lemmas.Str.{IsUtf8-string_bytes}
 use Rattle.lalrpop_rules.specs.Pieces.{IsSame}
 use Rattle.lalrpop_edits.specs.declared.kept.Kept.{Kept}
 use Rattle.lalrpop_edits.specs.declared.block.Block.{Block}
-use Rattle.lalrpop_modes.specs.Stack.{start}
+use Rattle.bajofeki_rules.specs.Stack.{start}
 use Rattle.lalrpop_edits.specs.Internal.Blocks.{sizes}
 use Rattle.lalrpop_edits.specs.Internal.Handing.{IsBlockAt, IsPieceAt, size_in}
 use Rattle.lalrpop_edits.specs.Internal.Items.{item_at}

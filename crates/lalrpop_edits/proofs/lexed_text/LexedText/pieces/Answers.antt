@@ -1,6 +1,6 @@
 use Rattle.std.proofs.Common.{refl}
 use Rattle.std.specs.Prelude.{length, string_bytes}
-use Rattle.lalrpop_modes.specs.Stack.{start}
+use Rattle.bajofeki_rules.specs.Stack.{start}
 use Rattle.lalrpop_edits.specs.Internal.Blocks.{pieces_in}
 use Rattle.lalrpop_edits.specs.Internal.Items.{items_from}
 use Rattle.lalrpop_edits.proofs.BlockLaws.{blocks_kept}

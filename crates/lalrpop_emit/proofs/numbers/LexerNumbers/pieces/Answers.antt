@@ -1,5 +1,5 @@
 use Rattle.std.proofs.lemmas.Result.{IfOk-weaker}
-use Rattle.lalrpop_modes.specs.Stack.{start}
+use Rattle.bajofeki_rules.specs.Stack.{start}
 use Rattle.lalrpop_emit.proofs.BytePieceLaws.{AreNumbered, byte_pieces-unique, pieces_numbered}
 use Rattle.lalrpop_emit.proofs.numbers.LexerNumbers.pieces.Goals as goal
 

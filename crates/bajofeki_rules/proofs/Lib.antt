@@ -1,0 +1,15 @@
+mod Cases
+-- places
+pub mod Places
+pub mod InLine
+pub mod StartLaws
+pub mod PlaceLaws
+-- lines
+pub mod LineLemmas
+-- the characters of a quoted form
+mod Unseen
+pub mod Quotes
+pub mod QuotedRuns
+pub mod ByteRuns
+-- modes that can be entered
+pub mod MarkedModes

@@ -1,5 +1,0 @@
-use Rattle.lalrpop_lexer.proofs.Places.{IsWalk}
-use Rattle.lalrpop_lexer.proofs.position.walk.Given as goal
-
-abbrev pub invariant-loop-c : goal.invariant-loop-c
-invariant-loop-c l = IsWalk l.text l.from l.to l.yielded l.c-iterator.rest.now l.place

@@ -1,6 +1,0 @@
-use Rattle.std.proofs.Common.{ℕ, ◌<◌, get_or}
-use Rattle.lalrpop_modes.specs.Internal.Marks.{Marked}
-use Rattle.lalrpop_modes.proofs.entered.is_one_marked.Given as goal
-
-abbrev pub invariant-loop-mode : goal.invariant-loop-mode
-invariant-loop-mode l = (k : ℕ) → k < l.mode-index → Marked l.marks (get_or l.modes k 0) → ⊥

@@ -1,5 +1,0 @@
-use Rattle.lalrpop_modes.proofs.MarkedModes.{one_marked}
-use Rattle.lalrpop_modes.proofs.entered.mark.Goals as goal
-
-pub returns : goal.returns
-returns c = one_marked c.args.marks.now c.args.mode c.if-mode-marks.false c.if-marks-mode.false

@@ -1,7 +1,0 @@
-use Rattle.std.proofs.Common.{◌≡◌, take}
-use Rattle.lalrpop_rules.specs.RuleSet.{skips_of}
-use Rattle.lalrpop_modes.specs.ModeSet.{rules_of}
-use Rattle.lalrpop_modes.proofs.known_rule.skip_list.Given as goal
-
-abbrev pub invariant-loop-rule : goal.invariant-loop-rule
-invariant-loop-rule l = l.all.items ≡ skips_of (rules_of (take l.rule-index l.rules))

@@ -1,4 +1,0 @@
-use Rattle.lalrpop_modes.proofs.masked.mode_lexer.Goals as goal
-
-pub returns-clause-no_clash : goal.returns-clause-no_clash
-returns-clause-no_clash c = rw (← c.in_ok-trees.ensures.trees, ← c.in_ok-precedences.ensures.items) c.new.ensures.no_clash

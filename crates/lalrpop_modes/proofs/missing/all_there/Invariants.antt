@@ -1,5 +1,0 @@
-use Rattle.lalrpop_modes.specs.ModeSet.{NameWithin}
-use Rattle.lalrpop_modes.proofs.missing.all_there.Given as goal
-
-abbrev pub invariant-loop-rule : goal.invariant-loop-rule
-invariant-loop-rule l = NameWithin l.rules l.modes l.rule

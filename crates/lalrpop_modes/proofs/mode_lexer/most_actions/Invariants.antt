@@ -1,6 +1,0 @@
-use Rattle.std.proofs.Common.{map, take}
-use Rattle.lalrpop_modes.specs.Internal.Cutting.{HasAtMost}
-use Rattle.lalrpop_modes.proofs.mode_lexer.most_actions.Given as goal
-
-abbrev pub invariant-loop-rule : goal.invariant-loop-rule
-invariant-loop-rule l = HasAtMost l.most (map (λ k. k.actions.items) (take l.rule-index l.known))

@@ -1,6 +1,0 @@
-use Rattle.std.proofs.Common.{◌≡◌, take}
-use Rattle.lalrpop_modes.specs.ModeSet.{rules_of}
-use Rattle.lalrpop_modes.proofs.trees.rule_list.Given as goal
-
-abbrev pub invariant-loop-rule : goal.invariant-loop-rule
-invariant-loop-rule l = l.all.items ≡ rules_of (take l.rule-index l.rules)

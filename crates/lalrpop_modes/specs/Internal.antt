@@ -1,4 +1,0 @@
-pub mod Code
-pub mod Lexers
-pub mod Cutting
-pub mod Marks

@@ -1,6 +1,0 @@
-use Rattle.std.proofs.Common.{◌≡◌, map, take}
-use Rattle.lalrpop_rules.specs.RuleSet.{precedences_of}
-use Rattle.lalrpop_rules.proofs.reading.precedence_list.Given as goal
-
-abbrev pub invariant-loop-rule : goal.invariant-loop-rule
-invariant-loop-rule l = map (λ p. p.0) l.all.items ≡ precedences_of (take l.rule-index l.rules)
