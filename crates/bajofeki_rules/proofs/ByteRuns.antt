@@ -9,13 +9,16 @@ use Rattle.std.proofs.lemmas.List.Elements.{All-from_get_or}
 use Rattle.std.proofs.lemmas.Str.{chars-IsAscii, encode_ascii}
 use Rattle.std.proofs.lemmas.Str.Ascii.{IsAscii-from_all}
 use lib.Lanes.{chunk, zip2, mask_l, top}
-use Rattle.lalrpop_dense.proofs.Lanes.{bits_of}
 use Rattle.bajofeki_rules.specs.Quoted.{told, quoted}
 use Rattle.bajofeki_rules.specs.Internal.ByteRuns.{IsPlain, IsInLine, first_set}
 use Rattle.bajofeki_rules.proofs.Quotes.{told_plain}
 use Rattle.bajofeki_rules.proofs.Unseen.{seen_in_ascii}
 
 -- ---- lanes
+
+-- all bits of a lane, or none
+abbrev bits_of : (ℕ → Bool) → ℕ → ℕ
+bits_of p x = cond (p x) 255 0
 
 either_bit : (a b : Bool) → bit_or (cond a 255 0) (cond b 255 0) ≡ cond (a || b) 255 0
 either_bit true true = refl

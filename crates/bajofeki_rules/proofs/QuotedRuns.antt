@@ -6,7 +6,7 @@ use Rattle.std.proofs.lemmas.Grind.{flat_map-append}
 use Rattle.std.proofs.lemmas.List.{append-nil, drop-append-le}
 use Rattle.std.proofs.Math.ListN.{drop_of_length-le}
 use Rattle.std.proofs.Math.Seq.{take-append-add, take-append_seam}
-use Rattle.lalrpop_nfa.proofs.Cuts.{IsCut, word_after}
+use Rattle.lalrpop_hir.proofs.Cuts.{IsCut, word_after}
 use Rattle.bajofeki_rules.specs.Quoted.{told}
 
 -- the slice up to this byte in quotes, but for the last quote

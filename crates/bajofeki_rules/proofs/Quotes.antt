@@ -11,7 +11,7 @@ use Rattle.std.proofs.lemmas.Fmt.{digits_is_IsNumeral}
 use Rattle.std.proofs.lemmas.List.{append-nil}
 use Rattle.std.proofs.lemmas.Str.{char_from_byte, encode_ascii, encode_same, encodes-chars, NoCharPasses-nil, NoCharPasses-append}
 use Rattle.lalrpop_hir.specs.Word.{IsWord}
-use Rattle.lalrpop_dfa.proofs.TextWords.{text_word}
+use Rattle.lalrpop_hir.proofs.TextWords.{text_word}
 use Rattle.bajofeki_rules.specs.Quoted.{is_unseen, is_character, told, quoted, value_told, quoted_word}
 use Rattle.bajofeki_rules.proofs.Unseen.{seen_in_ascii}
 

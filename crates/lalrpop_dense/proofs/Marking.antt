@@ -8,7 +8,7 @@ use Rattle.std.proofs.lemmas.Option.{slice_get-get_or, get_or_from_slice_get, sl
 use Rattle.std.proofs.lemmas.Bool.{cases_lt}
 use Rattle.std.proofs.lemmas.Str.{chars-nil, encode_ascii, IsCharBoundary-from_take, IsUtf8-drop, IsUtf8-take}
 use Rattle.lalrpop_hir.specs.Longest.{IsLongest}
-use Rattle.lalrpop_nfa.proofs.Cuts.{IsCut, cut_start, cut_within, cut_more}
+use Rattle.lalrpop_hir.proofs.Cuts.{IsCut, cut_start, cut_within, cut_more}
 use Rattle.lalrpop_dfa.specs.Dfa.{Row, after, IsWellFormed}
 use Rattle.lalrpop_dense.specs.Internal.Table.{HasClasses, IsTableOf, class_of, numbers_of, page_of, row_of}
 use Rattle.lalrpop_dense.specs.Internal.SelfLoops.{IsIn, AreIn}

@@ -6,14 +6,14 @@ use Rattle.std.proofs.lemmas.List.{get_or_read}
 use Rattle.std.proofs.lemmas.Option.{slice_get_cases}
 use Rattle.std.proofs.lemmas.Str.{chars-nil, len_utf8_bounds, length-encode, IsCharBoundary-from_take}
 use Rattle.lalrpop_hir.specs.Tree.{Tree}
-use Rattle.lalrpop_nfa.proofs.Cuts.{IsCut, cut_start, cut_within, cut_more, count_more, count_within, word_after}
+use Rattle.lalrpop_hir.proofs.Cuts.{IsCut, cut_start, cut_within, cut_more, count_more, count_within, word_after}
 use Rattle.lalrpop_dfa.specs.Dfa.{Row, step, after, Recognizes, IsRightKind, IsWellFormed}
 use Rattle.lalrpop_hir.specs.Longest.{IsLongest}
 use Rattle.lalrpop_dfa.specs.declared.Kind.{Kind}
 use Rattle.lalrpop_dfa.specs.declared.Kind.TheVariants.{Accepts, Reject, Neither}
 use Rattle.lalrpop_dfa.proofs.AfterLaws.{after_push}
 use Rattle.lalrpop_dfa.proofs.EdgeTargets.{step_within}
-use Rattle.lalrpop_dfa.proofs.TextWords.{text_word}
+use Rattle.lalrpop_hir.proofs.TextWords.{text_word}
 use Rattle.lalrpop_dfa.proofs.LongestLemmas.{IsLongestUpTo, says_of, reject_at, longest_accept, longest_pass, longest_end, longest_stop, part_accept}
 use Rattle.lalrpop_dfa.proofs.Trails.{HasTrail, trail_accept, trail_pass}
 use Rattle.lalrpop_dense.specs.Internal.Table.{HasClasses, IsTableOf, IsRowOfKind, class_of, row_of, page_of}

@@ -2,7 +2,6 @@ pub mod Cases
 pub mod EdgeTargets
 pub mod StepLists
 pub mod StoredRows
-pub mod TextWords
 pub mod LongestLemmas
 pub mod SameTables
 pub mod Lookaheads

@@ -8,7 +8,7 @@ use Rattle.std.proofs.lemmas.List.{nil_from_length}
 use Rattle.std.proofs.lemmas.Str.{chars-nil, chars-append}
 use Rattle.lalrpop_hir.specs.Tree.{Tree}
 use Rattle.lalrpop_hir.specs.Prefix.{IsPrefix}
-use Rattle.lalrpop_nfa.proofs.Cuts.{IsCut, cut_within, word_after, goes_on, ends_there}
+use Rattle.lalrpop_hir.proofs.Cuts.{IsCut, cut_within, word_after, goes_on, ends_there}
 use Rattle.lalrpop_dfa.specs.Dfa.{Row, step, run, after, Recognizes, IsRightKind, IsReject}
 use Rattle.lalrpop_hir.specs.Longest.{IsMatch, IsLongest}
 use Rattle.lalrpop_hir.specs.Word.{IsWord}
@@ -16,7 +16,7 @@ use Rattle.lalrpop_hir.specs.Winners.{Matched, IsOnlyStrongest, IsHighestStronge
 use Rattle.lalrpop_dfa.specs.declared.Kind.{Kind}
 use Rattle.lalrpop_dfa.specs.declared.Kind.TheVariants.{Reject}
 use Rattle.lalrpop_dfa.proofs.AfterLaws.{run_append, after_push}
-use Rattle.lalrpop_dfa.proofs.TextWords.{IsWord-append, text_word}
+use Rattle.lalrpop_hir.proofs.TextWords.{IsWord-append, text_word}
 
 -- the state is the one after what was read
 pub record IsAfter (d : List Row) (text : List ℕ) (at : ℕ) (state : ℕ) : Type 0 where

@@ -5,7 +5,7 @@ use Rattle.std.specs.Char.{encode_utf8}
 use Rattle.std.specs.Str.{chars}
 use Rattle.std.proofs.lemmas.List.{append-nil}
 use Rattle.std.proofs.lemmas.Option.{IfSome_then}
-use Rattle.lalrpop_nfa.proofs.Cuts.{IsCut, word_after}
+use Rattle.lalrpop_hir.proofs.Cuts.{IsCut, word_after}
 use Rattle.lalrpop_dfa.specs.Dfa.{Row, step, run, after}
 use Rattle.lalrpop_dfa.specs.Lookahead.{IsAccepting, IsOpen, ReadsAtMost}
 use Rattle.lalrpop_dfa.specs.Internal.Marks.{StaysOpen}

@@ -132,7 +132,7 @@ fn hash_one(item: Item) -> u64
 }
 
 // The hash of a list of items, by which most lists differ at once.
-#[tactic(auto, unfolding(crate::specs::Internal::ItemOrder::hash_of))]
+#[tactic(auto, unfolding(crate::specs::ItemOrder::hash_of))]
 fn hash_items(items: &[Item]) -> u64
     ensures { result ≡ hash_of items.now }
 {

@@ -9,7 +9,7 @@ use Rattle.std.proofs.lemmas.List.{take-append-drop, append-nil}
 use Rattle.lalrpop_hir.specs.Tree.{Tree}
 use Rattle.lalrpop_hir.specs.Longest.{IsMatch, IsLongest}
 use Rattle.lalrpop_hir.specs.Winners.{Matched, IsStrongest, IsOnlyStrongest}
-use Rattle.lalrpop_nfa.proofs.Cuts.{IsCut, cut_more, cut_within, ends_there}
+use Rattle.lalrpop_hir.proofs.Cuts.{IsCut, cut_more, cut_within, ends_there}
 use Rattle.lalrpop_dfa.specs.Dfa.{Row, after, RecognizesAll, IsRightKind}
 use Rattle.lalrpop_dfa.specs.declared.Kind.{Kind}
 use Rattle.lalrpop_dfa.specs.declared.Kind.TheVariants.{Accepts, Reject, Neither}

@@ -13,7 +13,7 @@ use Rattle.bajofeki_rules.proofs.Places.{column_within, few_chars, line_within}
 use Rattle.bajofeki_rules.proofs.PlaceLaws.{before_trans, not_before, places_ascend, position_moved}
 use Rattle.lalrpop_rules.specs.Modes.{ModeRules}
 use Rattle.bajofeki_rules.specs.Stack.{Stack, start}
-use Rattle.lalrpop_nfa.proofs.Cuts.{IsCut}
+use Rattle.lalrpop_hir.proofs.Cuts.{IsCut}
 use Rattle.lalrpop_edits.specs.declared.block.Block.{Block}
 use Rattle.lalrpop_edits.specs.declared.kept.Kept.{Kept}
 use Rattle.lalrpop_edits.specs.declared.lines.Mark.{Mark}

@@ -6,7 +6,7 @@ use Rattle.std.specs.Str.{chars, encode_utf8_all, IsUtf8}
 use Rattle.std.proofs.lemmas.Bool.{cases_eq}
 use Rattle.std.proofs.lemmas.List.Elements.{All-nil, All-cons, All-contains, All-weaker}
 use Rattle.std.proofs.lemmas.Str.{chars_past_char, IsCharBoundary-from_take, length-encode, length-le-encodes, len_utf8_bounds}
-use Rattle.lalrpop_nfa.proofs.Cuts.{IsCut, cut_more, cut_within}
+use Rattle.lalrpop_hir.proofs.Cuts.{IsCut, cut_more, cut_within}
 use Rattle.lalrpop_dfa.specs.declared.Kind.TheVariants.{Neither}
 use Rattle.lalrpop_edits.specs.declared.memo.Memo.{Memo}
 use Rattle.lalrpop_edits.specs.declared.walker.Walker.{Walker}

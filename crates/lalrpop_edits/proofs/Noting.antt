@@ -19,7 +19,7 @@ use Rattle.lalrpop_hir.specs.Tree.{Tree}
 use Rattle.lalrpop_hir.specs.Longest.{IsLongest}
 use Rattle.lalrpop_hir.specs.Prefix.{IsPrefix}
 use Rattle.lalrpop_hir.specs.Winners.{Matched}
-use Rattle.lalrpop_nfa.proofs.Cuts.{IsCut, cut_more, cut_within, word_after, goes_on}
+use Rattle.lalrpop_hir.proofs.Cuts.{IsCut, cut_more, cut_within, word_after, goes_on}
 use Rattle.lalrpop_dfa.specs.Dfa.{Row, after, RecognizesAll, IsRightKind, IsReject}
 use Rattle.lalrpop_dfa.specs.Lookahead.{IsTrim}
 use Rattle.lalrpop_dfa.specs.declared.Kind.{Kind}

@@ -16,7 +16,7 @@ use Rattle.lalrpop_dfa.specs.Dfa.{Row, after, Recognizes, IsRightKind, IsReject}
 use Rattle.lalrpop_dfa.specs.declared.Kind.{Kind}
 use Rattle.lalrpop_dfa.specs.declared.Kind.TheVariants.{Accepts, Reject, Neither}
 use Rattle.lalrpop_dfa.proofs.EdgeTargets.{the_some}
-use Rattle.lalrpop_dfa.proofs.TextWords.{text_word}
+use Rattle.lalrpop_hir.proofs.TextWords.{text_word}
 use Rattle.lalrpop_dfa.proofs.LongestLemmas.{IsLongestUpTo, longest_start, says_of, reject_at, none_after, done}
 use Rattle.lalrpop_dense.specs.DenseTable.{TableNumbers, AreClasses, IsRowLike, IsTableFor, block_of_page, character_class, next_row, row_after}
 use Rattle.lalrpop_emit.specs.Internal.Characters.{IsCharacterAt}

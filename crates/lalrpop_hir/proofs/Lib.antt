@@ -6,6 +6,9 @@ pub mod Pushed
 pub mod SortedLists
 pub mod Orders
 pub mod Words
+-- texts, and how a walk along one divides it
+pub mod TextWords
+pub mod Cuts
 -- what the definitions mean: there is one clash, and one longest match
 pub mod ClashLaws
 pub mod Longests

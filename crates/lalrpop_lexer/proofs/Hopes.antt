@@ -8,14 +8,14 @@ use Rattle.lalrpop_hir.specs.Tree.{Tree}
 use Rattle.lalrpop_hir.specs.Longest.{IsLongest}
 use Rattle.lalrpop_hir.specs.Winners.{Matched}
 use Rattle.lalrpop_hir.specs.Word.{IsWord}
-use Rattle.lalrpop_nfa.proofs.Cuts.{IsCut, goes_on}
+use Rattle.lalrpop_hir.proofs.Cuts.{IsCut, goes_on}
 use Rattle.lalrpop_dfa.specs.Dfa.{Row, step, run, after, Recognizes}
 use Rattle.lalrpop_dfa.specs.Lookahead.{IsOpen}
 use Rattle.lalrpop_dfa.specs.Internal.Marks.{StaysOpen}
 use Rattle.lalrpop_dfa.proofs.AfterLaws.{after_push}
 use Rattle.lalrpop_dfa.proofs.LongestLemmas.{IsAfter, IsLongestUpTo, none_after, done}
 use Rattle.lalrpop_dfa.proofs.Recognized.{not_matched}
-use Rattle.lalrpop_dfa.proofs.TextWords.{IsWord-append, text_word}
+use Rattle.lalrpop_hir.proofs.TextWords.{IsWord-append, text_word}
 use Rattle.lalrpop_lexer.specs.Internal.Hopeless.{IsHopeless}
 
 -- open states, and then no match

@@ -7,7 +7,7 @@ use Rattle.std.proofs.lemmas.List.{append-nil, drop-append-le}
 use Rattle.std.proofs.lemmas.Str.{IsCharBoundary-at_seam}
 use Rattle.std.proofs.Math.ListN.{drop_of_length-le}
 use Rattle.std.proofs.Math.Seq.{take-append-add, take-append_seam}
-use Rattle.lalrpop_nfa.proofs.Cuts.{IsCut, word_after}
+use Rattle.lalrpop_hir.proofs.Cuts.{IsCut, word_after}
 
 -- what is shown of the text up to this byte
 abbrev pub shown_to : (ℕ → List ℕ) → List ℕ → ℕ → List ℕ

@@ -11,7 +11,6 @@ pub mod FragmentReads
 pub mod FragmentTests
 pub mod CompiledTree
 pub mod PathLemmas
-pub mod Cuts
 pub mod PrefixLemmas
 pub mod StateSetLemmas
 pub mod Runs

@@ -6,7 +6,7 @@ use Rattle.std.specs.Str.{chars}
 use Rattle.std.proofs.lemmas.Bool.{cases_lt}
 use Rattle.std.proofs.lemmas.List.{nil_from_length}
 use Rattle.std.proofs.lemmas.Str.{chars-nil, chars-append}
-use Rattle.lalrpop_nfa.proofs.Cuts.{IsCut, cut_within, goes_on, ends_there}
+use Rattle.lalrpop_hir.proofs.Cuts.{IsCut, cut_within, goes_on, ends_there}
 use Rattle.lalrpop_hir.specs.Prefix.{IsPrefix, IsLongestOf}
 
 -- the longest prefix of at most n bytes whose word is in the language

@@ -14,7 +14,7 @@ use Rattle.lalrpop_hir.specs.Prefix.{IsPrefix}
 use Rattle.lalrpop_nfa.specs.Internal.StateSets.{Visited, IsClosure, IsMove, IsIfAccepted, only}
 use Rattle.lalrpop_nfa.proofs.StateSetLemmas.{IsAfterWord, after_none, after_next, matched_if, only_if_matched}
 use Rattle.lalrpop_nfa.proofs.PrefixLemmas.{IsLongestOfUpTo, of_cut, of_accept, of_start, of_pass}
-use Rattle.lalrpop_nfa.proofs.Cuts.{IsCut, cut_start, cut_within, cut_more, count_more, count_within, word_after}
+use Rattle.lalrpop_hir.proofs.Cuts.{IsCut, cut_start, cut_within, cut_more, count_more, count_within, word_after}
 
 -- the run after the first `at` bytes of the text
 pub record IsRun (g : Graph) (text : List ℕ) (at : ℕ) (rest : List ℕ) (v : Visited) : Type 0 where

@@ -11,7 +11,7 @@ use crate::error::{LineFault, RuleFileError};
 use crate::line::said_by;
 use crate::stop::Unread;
 use crate::written::Said;
-use lalrpop_lexer::Position;
+use bajofeki_rules::Position;
 use std::alloc::Global;
 
 /// What a line of a file says, and its text without the carriage return at its end.

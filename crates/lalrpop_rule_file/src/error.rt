@@ -3,7 +3,7 @@ ghost use Rattle.std.specs.Prelude.{◌≡◌, Some};
 ghost use Rattle.lalrpop_rule_file.specs.RuleFault.{reason_of};
 ghost use Rattle.lalrpop_rule_file.specs.declared.error.RuleFileError.TheVariants.{OutOfMemory};
 
-use lalrpop_lexer::lexer::re::SyntaxKind;
+use lalrpop_re::SyntaxKind;
 use std::alloc::{AllocError, AllocFailed};
 use std::fmt::{self, Display, Formatter, Write};
 use thiserror::Error;

@@ -11,9 +11,8 @@ use crate::modes::modes_of_lines;
 use crate::part_line::PartLine;
 use crate::parts::parts_of_lines;
 use crate::rules::rules_of_lines;
-use lalrpop_lexer::lexer::re::Part;
-use lalrpop_rules::ModeRule;
-use lalrpop_rules::{Rule, RuleText};
+use bajofeki_rules::{ModeRule, Rule, RuleText};
+use lalrpop_re::Part;
 use std::alloc::{AllocError, Global};
 
 /// The modes, the parts and the rules of a file.

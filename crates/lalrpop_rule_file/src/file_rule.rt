@@ -1,8 +1,6 @@
 //! A rule of a file.
 
-use lalrpop_lexer::Position;
-use lalrpop_rules::Action;
-use lalrpop_rules::Rule;
+use bajofeki_rules::{Action, Position, Rule};
 
 /// A rule of a file, its modes and actions, and where it stands. Modes are numbered from 0, as the file's `modes`.
 ///

@@ -6,7 +6,7 @@ ghost use Rattle.lalrpop_rule_file.specs.Internal.Values.{section_of, written_of
 ghost use Rattle.lalrpop_rule_file.specs.Internal.Lines.{AllIn, IsFirstMissing, names_in};
 
 use crate::written::{Entry, Section, WrittenAction};
-use lalrpop_rules::Action;
+use bajofeki_rules::Action;
 use std::alloc::{AllocError, Global};
 
 /// The number of the mode with this name, if it is one of these.

@@ -1,6 +1,6 @@
 //! A part of a file, as it is written.
 
-use lalrpop_lexer::Position;
+use bajofeki_rules::Position;
 
 /// A part of a file: its name, its pattern and where it stands.
 ///

@@ -16,8 +16,8 @@ use crate::error::RuleFileError;
 use crate::numbers::number_of;
 use crate::part_line::PartLine;
 use crate::written::{LinePart, Said};
-use lalrpop_lexer::Position;
-use lalrpop_lexer::lexer::re::{Part, RegexError};
+use bajofeki_rules::Position;
+use lalrpop_re::{Part, RegexError};
 use std::alloc::Global;
 
 // The column of a place in the pattern of this part.

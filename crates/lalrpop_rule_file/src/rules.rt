@@ -14,10 +14,8 @@ use crate::file_rule::FileRule;
 use crate::modes::INITIAL;
 use crate::numbers::{actions_with_numbers, missing_mode, numbers_of, section_numbers};
 use crate::written::{Form, LineRule, Said, WrittenText};
-use lalrpop_lexer::Position;
-use lalrpop_lexer::lexer::dfa::Precedence;
-use lalrpop_rules::Action;
-use lalrpop_rules::{Rule, RuleText};
+use bajofeki_rules::{Action, Position, Rule, RuleText};
+use lalrpop_hir::Precedence;
 use std::alloc::Global;
 
 // The actions of a rule in the line with this number, with the numbers of their modes.

@@ -5,7 +5,7 @@ ghost use Rattle.lalrpop_rule_file.specs.Warnings.{StandsIn, StandsInPart, Stand
 
 use crate::file_rule::FileRule;
 use crate::part_line::PartLine;
-use lalrpop_rules::RuleText;
+use bajofeki_rules::RuleText;
 use std::alloc::{AllocError, Global};
 
 /// What a pattern says where it means the part with this name.

@@ -7,8 +7,7 @@ ghost use Rattle.lalrpop_rule_file.specs.declared.warning.Warning.{Warning as Wa
 use crate::file::RuleFile;
 use crate::used_parts::{reference, stands_in_part, stands_in_rule};
 use crate::warning::Warning;
-use lalrpop_rules::entered_modes;
-use lalrpop_rules::RuleText;
+use bajofeki_rules::{RuleText, entered_modes};
 use std::alloc::{AllocError, Global};
 
 // Whether the text is a literal without characters, of whichever kind.

@@ -8,7 +8,7 @@ use Rattle.std.proofs.lemmas.Str.{IsCharBoundary-start, IsCharBoundary-from_rest
 use Rattle.std.proofs.lemmas.List.{drop_at, take-append-drop}
 use Rattle.lalrpop_hir.specs.Tree.{Tree}
 use Rattle.lalrpop_hir.specs.Longest.{IsMatch, IsLongest}
-use Rattle.lalrpop_nfa.proofs.Cuts.{IsCut, cut_more, ends_there}
+use Rattle.lalrpop_hir.proofs.Cuts.{IsCut, cut_more, ends_there}
 use Rattle.lalrpop_rules.specs.Found.{MatchesAt, NoMatchBefore, NothingFound}
 
 pub some_length : (p : List ℕ) → p ≢ [] → 0 < length p

@@ -15,7 +15,7 @@ use Rattle.lalrpop_lexer.proofs.Strongest.{IsOnlyStrongest-from_greatest}
 use Rattle.lalrpop_lexer.specs.Dfa.{Row}
 use Rattle.lalrpop_lexer.specs.Matching.{Matching, rest_of}
 use Rattle.lalrpop_lexer.specs.Rules.{IsBuiltFrom}
-use Rattle.lalrpop_nfa.proofs.Cuts.{IsCut}
+use Rattle.lalrpop_hir.proofs.Cuts.{IsCut}
 use Rattle.lalrpop_rules.specs.Pieces.{IsFault}
 use Rattle.std.proofs.lemmas.Bool.{cases_order}
 use Rattle.lalrpop_rules.specs.CutToEnd.{CutToEnd, IsSoughtFromRest, IsSoughtBehind}

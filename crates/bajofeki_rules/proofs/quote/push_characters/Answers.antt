@@ -3,7 +3,7 @@ use Rattle.std.specs.Str.{chars}
 use Rattle.std.specs.Str.Iter.{char_indices_rest, char_indices_offset}
 use Rattle.std.proofs.lemmas.List.{append-nil, drop-take}
 use Rattle.std.proofs.lemmas.Str.{chars-nil}
-use Rattle.lalrpop_nfa.proofs.Cuts.{cut_start, cut_more, cut_within}
+use Rattle.lalrpop_hir.proofs.Cuts.{cut_start, cut_more, cut_within}
 use Rattle.bajofeki_rules.specs.Quoted.{told}
 use Rattle.bajofeki_rules.proofs.QuotedRuns.{run_more, run_ends, up_to}
 use Rattle.bajofeki_rules.proofs.quote.push_characters.Goals as goal

@@ -1,6 +1,6 @@
 use Rattle.std.proofs.Common.{◌≡◌, ◌≤◌, ◌++◌, take, drop}
 use Rattle.std.specs.Str.Iter.{char_indices_rest, char_indices_offset}
-use Rattle.lalrpop_nfa.proofs.Cuts.{IsCut}
+use Rattle.lalrpop_hir.proofs.Cuts.{IsCut}
 use Rattle.bajofeki_rules.proofs.QuotedRuns.{up_to}
 use Rattle.bajofeki_rules.proofs.quote.push_characters.Given as goal
 

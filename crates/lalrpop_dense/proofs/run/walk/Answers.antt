@@ -3,7 +3,7 @@ use Rattle.std.specs.Option.{option_map}
 use Rattle.std.specs.Str.{chars}
 use Rattle.std.proofs.lemmas.Bool.{leb-true}
 use Rattle.std.proofs.lemmas.Str.{chars-nil}
-use Rattle.lalrpop_nfa.proofs.Cuts.{cut_within}
+use Rattle.lalrpop_hir.proofs.Cuts.{cut_within}
 use Rattle.lalrpop_dfa.proofs.LongestLemmas.{longest_start}
 use Rattle.lalrpop_dense.specs.Internal.Reading.{found}
 use Rattle.lalrpop_dense.proofs.Walks.{walked_start, walked_more, in_row, walked_on, walked_boundary, walk_accepts, walk_place, walk_passes, walk_rejects, walk_ends, walk_counts, walk_count, walk_trail, walk_trails, past_more, past_of}

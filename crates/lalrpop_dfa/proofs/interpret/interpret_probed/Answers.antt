@@ -6,10 +6,10 @@ use Rattle.std.proofs.lemmas.Str.{chars-nil, len_utf8_bounds, length-encode, IsC
 use Rattle.lalrpop_dfa.specs.Dfa.{step}
 use Rattle.lalrpop_dfa.specs.declared.Kind.TheVariants.{Accepts, Reject, Neither}
 use Rattle.lalrpop_dfa.proofs.LongestLemmas.{after_start, after_more, says_of, reject_at, longest_start, longest_accept, part_accept, longest_pass, longest_end, longest_stop}
-use Rattle.lalrpop_dfa.proofs.TextWords.{text_word}
+use Rattle.lalrpop_hir.proofs.TextWords.{text_word}
 use Rattle.lalrpop_dfa.proofs.Trails.{some_read, trail_accept, trail_pass, trail_cost, still_pays}
 use Rattle.lalrpop_dfa.proofs.EdgeTargets.{the_some, probed_turn, probed_end}
-use Rattle.lalrpop_nfa.proofs.Cuts.{cut_start, cut_within, cut_more, count_more, count_within}
+use Rattle.lalrpop_hir.proofs.Cuts.{cut_start, cut_within, cut_more, count_more, count_within}
 use Rattle.lalrpop_dfa.proofs.interpret.interpret_probed.Goals as goal
 
 pub loop-offset-init : goal.loop-offset-init

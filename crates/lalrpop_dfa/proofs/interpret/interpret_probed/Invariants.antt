@@ -8,7 +8,7 @@ use Rattle.lalrpop_dfa.specs.Counts.{HaveAtMost}
 use Rattle.lalrpop_dfa.specs.Dfa.{Recognizes}
 use Rattle.lalrpop_dfa.proofs.LongestLemmas.{IsAfter, IsLongestUpTo}
 use Rattle.lalrpop_dfa.proofs.Trails.{HasTrail}
-use Rattle.lalrpop_nfa.proofs.Cuts.{IsCut}
+use Rattle.lalrpop_hir.proofs.Cuts.{IsCut}
 use Rattle.lalrpop_dfa.proofs.interpret.interpret_probed.Given as goal
 
 abbrev pub invariant-loop-offset : goal.invariant-loop-offset

@@ -6,7 +6,7 @@ use Rattle.std.specs.Str.Iter.{char_indices_rest, char_indices_offset}
 use Rattle.std.proofs.lemmas.Str.{IsCharBoundary-from_take, IsCharBoundary-start}
 use Rattle.lalrpop_hir.specs.Prefix.{IsPrefix}
 use Rattle.lalrpop_hir.specs.Longest.{IsLongest}
-use Rattle.lalrpop_nfa.proofs.Cuts.{IsCut, cut_start, cut_more, cut_within}
+use Rattle.lalrpop_hir.proofs.Cuts.{IsCut, cut_start, cut_more, cut_within}
 use Rattle.lalrpop_lexer.proofs.Cuttings.{cut_behind}
 use Rattle.lalrpop_rules.proofs.FirstMatches.{before_next, before_start, left_at, some_length}
 use Rattle.lalrpop_edits.specs.declared.memo.Memo.{Memo}

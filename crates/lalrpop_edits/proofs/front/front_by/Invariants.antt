@@ -4,7 +4,7 @@ use Rattle.std.specs.Str.Iter.{char_indices_rest, char_indices_offset}
 use Rattle.lalrpop_hir.specs.Tree.{Tree}
 use Rattle.lalrpop_dfa.specs.Dfa.{Row, RecognizesAll}
 use Rattle.lalrpop_dfa.specs.Lookahead.{IsTrim}
-use Rattle.lalrpop_nfa.proofs.Cuts.{IsCut}
+use Rattle.lalrpop_hir.proofs.Cuts.{IsCut}
 use Rattle.lalrpop_rules.specs.Found.{NoMatchBefore}
 use Rattle.lalrpop_edits.proofs.Fronts.{AreRead, BeginsMore}
 use Rattle.lalrpop_edits.proofs.FrontCosts.{IsWalked}

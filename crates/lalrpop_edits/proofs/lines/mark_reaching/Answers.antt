@@ -3,7 +3,7 @@ use Rattle.std.specs.Char.{encode_utf8}
 use Rattle.std.specs.Str.{IsCharBoundary, IsUtf8}
 use Rattle.std.specs.declared.str.Chars.{Chars}
 use Rattle.std.proofs.lemmas.Str.{IsCharBoundary-from_take}
-use Rattle.lalrpop_nfa.proofs.Cuts.{IsCut, cut_more, cut_within}
+use Rattle.lalrpop_hir.proofs.Cuts.{IsCut, cut_more, cut_within}
 use Rattle.lalrpop_edits.proofs.LineLaws.{cut_here, none_behind, none_more}
 use Rattle.lalrpop_edits.proofs.lines.mark_reaching.Goals as goal
 

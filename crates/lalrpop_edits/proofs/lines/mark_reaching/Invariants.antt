@@ -1,4 +1,4 @@
-use Rattle.lalrpop_nfa.proofs.Cuts.{IsCut}
+use Rattle.lalrpop_hir.proofs.Cuts.{IsCut}
 use Rattle.lalrpop_edits.specs.Internal.BlockPlaces.{IsMark}
 use Rattle.lalrpop_edits.proofs.LineLaws.{HasNone}
 use Rattle.lalrpop_edits.proofs.lines.mark_reaching.Given as goal

@@ -1,7 +1,7 @@
 use Rattle.std.proofs.Common.{◌≡◌, ◌≢◌, ℕ, ◌+◌, ◌<◌, ◌≤◌, true, List, ◌++◌, length, drop}
 use Rattle.std.specs.Str.{chars}
 use Rattle.std.specs.Str.Iter.{char_indices_rest, char_indices_offset}
-use Rattle.lalrpop_nfa.proofs.Cuts.{IsCut}
+use Rattle.lalrpop_hir.proofs.Cuts.{IsCut}
 use Rattle.lalrpop_edits.specs.Internal.Walking.{IsMet}
 use Rattle.lalrpop_edits.specs.Internal.Noted.{IsKnown, IsNoted, IsOver, IsSound}
 use Rattle.lalrpop_edits.specs.Internal.Paying.{AreUnknown}

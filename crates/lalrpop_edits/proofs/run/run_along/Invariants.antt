@@ -1,7 +1,7 @@
 use Rattle.std.proofs.Common.{◌≡◌, ℕ, ◌+◌, ◌-◌, ◌≤◌, List, length, take, drop}
 use Rattle.std.specs.Prelude.{Option}
 use Rattle.std.specs.Str.{chars}
-use Rattle.lalrpop_nfa.proofs.Cuts.{IsCut}
+use Rattle.lalrpop_hir.proofs.Cuts.{IsCut}
 use Rattle.lalrpop_edits.specs.Internal.Walking.{behind}
 use Rattle.lalrpop_edits.specs.Internal.Noted.{IsOver, IsStand}
 use Rattle.lalrpop_edits.proofs.Vain.{IsVainTo}

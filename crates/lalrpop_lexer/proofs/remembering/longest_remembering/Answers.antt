@@ -4,13 +4,13 @@ use Rattle.std.specs.Str.Iter.{char_indices_rest, char_indices_offset}
 use Rattle.std.specs.Option.{option_map}
 use Rattle.std.proofs.lemmas.Str.{chars-nil, len_utf8_bounds, length-encode, IsCharBoundary-from_take}
 use Rattle.lalrpop_nfa.proofs.CharLemmas.{chars-none}
-use Rattle.lalrpop_nfa.proofs.Cuts.{cut_start, cut_within, cut_more, count_more, count_within}
+use Rattle.lalrpop_hir.proofs.Cuts.{cut_start, cut_within, cut_more, count_more, count_within}
 use Rattle.lalrpop_dfa.specs.Dfa.{step, IsReject}
 use Rattle.lalrpop_dfa.specs.Lookahead.{IsOpen}
 use Rattle.lalrpop_dfa.specs.declared.Kind.TheVariants.{Accepts, Reject, Neither}
 use Rattle.lalrpop_dfa.proofs.EdgeTargets.{the_some}
 use Rattle.lalrpop_dfa.proofs.LongestLemmas.{after_start, after_more, says_of, reject_at, longest_start, longest_accept, part_accept, longest_pass, longest_end, longest_stop}
-use Rattle.lalrpop_dfa.proofs.TextWords.{text_word}
+use Rattle.lalrpop_hir.proofs.TextWords.{text_word}
 use Rattle.lalrpop_lexer.specs.Matching.{characters_of}
 use Rattle.lalrpop_lexer.specs.Internal.Memory.{room}
 use Rattle.lalrpop_lexer.specs.Internal.Hopeless.{IsHopeless}

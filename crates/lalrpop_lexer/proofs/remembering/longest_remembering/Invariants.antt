@@ -4,7 +4,7 @@ use Rattle.std.specs.Str.{chars}
 use Rattle.std.specs.Str.Iter.{char_indices_rest, char_indices_offset}
 use Rattle.lalrpop_hir.specs.Tree.{Tree}
 use Rattle.lalrpop_hir.specs.Prefix.{IsPrefix}
-use Rattle.lalrpop_nfa.proofs.Cuts.{IsCut}
+use Rattle.lalrpop_hir.proofs.Cuts.{IsCut}
 use Rattle.lalrpop_dfa.specs.Dfa.{Recognizes}
 use Rattle.lalrpop_dfa.proofs.LongestLemmas.{IsAfter, IsLongestUpTo}
 use Rattle.lalrpop_lexer.specs.Matching.{characters_of}

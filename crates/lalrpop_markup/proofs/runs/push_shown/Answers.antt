@@ -4,7 +4,7 @@ use Rattle.std.proofs.lemmas.Str.{chars-nil, IsCharBoundary-start}
 use Rattle.std.specs.Str.{IsCharBoundary}
 use Rattle.std.specs.Str.Iter.{char_indices_rest, char_indices_offset}
 use Rattle.std.specs.Prelude.{flat_map}
-use Rattle.lalrpop_nfa.proofs.Cuts.{cut_start, cut_more}
+use Rattle.lalrpop_hir.proofs.Cuts.{cut_start, cut_more}
 use Rattle.lalrpop_markup.proofs.ShownRuns.{run_more, run_ends, cut_boundary}
 use Rattle.lalrpop_markup.proofs.runs.push_shown.Goals as goal
 

@@ -3,7 +3,7 @@ use Rattle.std.specs.Prelude.{None}
 use Rattle.std.specs.Str.Iter.{char_indices_rest, char_indices_offset}
 use Rattle.lalrpop_hir.specs.Longest.{IsLongest}
 use Rattle.lalrpop_hir.specs.Tokens.{IsToken}
-use Rattle.lalrpop_nfa.proofs.Cuts.{cut_start, cut_more, cut_within}
+use Rattle.lalrpop_hir.proofs.Cuts.{cut_start, cut_more, cut_within}
 use Rattle.lalrpop_rules.proofs.FirstMatches.{before_start, before_next, nothing_found, left_at}
 use Rattle.lalrpop_rules.proofs.leftmost.find.Goals as goal
 

@@ -1,5 +1,5 @@
 use Rattle.std.specs.Str.Iter.{char_indices_rest, char_indices_offset}
-use Rattle.lalrpop_nfa.proofs.Cuts.{IsCut}
+use Rattle.lalrpop_hir.proofs.Cuts.{IsCut}
 use Rattle.lalrpop_rules.specs.Found.{NoMatchBefore}
 use Rattle.lalrpop_rules.proofs.leftmost.find.Given as goal
 

@@ -5,7 +5,7 @@ use Rattle.lalrpop_dfa.specs.Dfa.{run, after}
 use Rattle.lalrpop_dfa.proofs.AfterLaws.{run_append}
 use Rattle.lalrpop_dfa.proofs.EdgeTargets.{the_some}
 use Rattle.lalrpop_dfa.proofs.LongestLemmas.{says_of}
-use Rattle.lalrpop_dfa.proofs.TextWords.{text_word}
+use Rattle.lalrpop_hir.proofs.TextWords.{text_word}
 use Rattle.uses_automata.proofs.run_in_parts.kind_of_parts.Goals as goal
 
 pub returns : goal.returns
