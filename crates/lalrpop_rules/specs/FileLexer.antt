@@ -1,3 +1,4 @@
+-- cases: proofs/Cases/FileLexer.antt
 -- The lexer of a file of rules, or why there is none.
 use Rattle.std.specs.Prelude.{◌≡◌, ℕ, List, length, map, Option, Some, None, slice_get}
 use Rattle.std.specs.Option.{option_map}
@@ -8,7 +9,6 @@ use Rattle.lalrpop_re.specs.NamedPart.{NamedPart}
 use Rattle.lalrpop_rule_file.specs.RuleFile.{AreFileParts, ArePlaces, AreRules, IsRuleFileError, without_mark, AreModeRules as KnowTheirParts}
 use Rattle.lalrpop_rule_file.specs.declared.error.RuleFileError.{RuleFileError}
 use Rattle.lalrpop_rule_file.specs.declared.error.RuleFileError.TheVariants as read
-use Rattle.lalrpop_rule_file.specs.declared.file.RuleFile.{RuleFile}
 use Rattle.lalrpop_rule_file.specs.declared.file_rule.FileRule.{FileRule}
 use Rattle.lalrpop_rules.specs.Modes.{ModeRules}
 use Rattle.lalrpop_rules.specs.ModeSet.{AreModeRules, IsRulesError}
@@ -55,20 +55,6 @@ abbrev pub IsFileError : List ℕ → FileError → Type 0
 IsFileError bytes (File e) = IsRuleFileError (without_mark bytes) e
 IsFileError bytes (Rules place e) =
     (modes : ℕ) × ((rules : List FileRule) × ((taken : List ModeRule) × (Says bytes modes rules taken × IsRulesError taken modes e × (place ≡ place_in rules e))))
-
--- ---- of a file that was read
-
--- the lexer is that of the rules of the file
-abbrev pub IsLexerOfRules : RuleFile → ModeRules → Type 0
-IsLexerOfRules file lexer =
-    (taken : List ModeRule) × (KnowTheirParts file.parts.items file.rules.items taken × AreModeRules taken (length file.modes.items) lexer)
-
--- the error is right: memory was refused; or the rules make no lexer
-abbrev pub IsRefusalOfRules : RuleFile → FileError → Type 0
-IsRefusalOfRules file (File e) = e ≡ read.OutOfMemory
-IsRefusalOfRules file (Rules place e) =
-    (taken : List ModeRule) × (KnowTheirParts file.parts.items file.rules.items taken × IsRulesError taken (length file.modes.items) e
-    × (place ≡ place_in file.rules.items e))
 
 -- errors of reading and of memory as errors of a file
 abbrev pub file_error : RuleFileError → FileError

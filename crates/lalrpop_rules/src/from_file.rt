@@ -1,7 +1,7 @@
 //! A lexer of the rules of a file, in one call.
 ghost use Rattle.std.specs.Prelude.{◌≡◌, ◌<◌, length, IfOk, IfErr};
-ghost use Rattle.lalrpop_rules.specs.FileLexer.{IsFileError, IsLexerOfFile, IsLexerOfRules, IsRefusalOfRules, file_error, memory_error, place_in, rule_of as rule_named};
-ghost use Rattle.lalrpop_rules.specs.declared.from_file.FileError.{FileError as FileErrorValue};
+ghost use Rattle.lalrpop_rules.specs.FileLexer.{IsFileError, IsLexerOfFile, file_error, memory_error, place_in, rule_of as rule_named};
+ghost use Rattle.lalrpop_rules.specs.Internal.FileRules.{IsLexerOfRules, IsRefusalOfRules};
 
 use crate::error::RulesError;
 use crate::rule_lexer::RuleLexer;
