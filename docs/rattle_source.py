@@ -1,4 +1,5 @@
-"""Reads sources of Rattle, as rt fmt lays them out: an item begins its line. Comments, strings and characters count as no code."""
+"""Reads sources of Rattle, as rt fmt lays them out: an item begins its line. Comments, strings and characters count as no code. `theirs` gives
+what a user's program can call, library by library, and `seen` what a user sees of an item."""
 import functools
 import itertools
 import re
@@ -7,14 +8,18 @@ from pathlib import Path
 
 TOP = Path(__file__).resolve().parent.parent
 # Each library, with the crates below it.
-LIBRARIES = {name: below.split() for name, below in re.findall(r"^(lalrpop_\w+|\w+_lib):(.*)", (TOP / "crates.txt").read_text(), re.M)}
+LIBRARIES = {name: below.split() for name, below in re.findall(r"^(lalrpop_\w+|\w+_lib|bajofeki_\w+)(?: \w+)?:(.*)", (TOP / "crates.txt").read_text(), re.M)}
 # `kind` is fn, impl, trait, struct, enum, mod or use; `name` is its name, an impl's type, or what a `use` says.
 Item = namedtuple("Item", "kind name trait is_public text about functions ghosts file")
 # `text` is the head and the clauses, without comments.
 Function = namedtuple("Function", "name is_public text about")
+TYPES = ("struct", "enum", "trait")
+# What an impl says to the prover, or of the representation: laws with their proofs, invariants, views and codes.
+UNSEEN = set("Value view invariant coded inverse laws total matches_eq matches_partial_cmp size size_decreases list_written"
+             " list_unwritten other_lists_kept run_in run_out".split())
 
 NO_CODE = re.compile(r"""//[^\n]*|/\*.*?\*/|(?<!\w)r(#*)".*?"\1|"(?:\\.|[^"\\])*"|(?<![\w'])b?'(?:\\.[^'\n]*|[^\\'\n])'""", re.S)
-BEFORE = r"(?:#\[[^\n]*?\] *)*(pub(?:\([^)]*\))? )?(?:const |unsafe )*"
+BEFORE = r"(?:#\[[^\n]*?\] *)*(pub(?:\([^)]*\))? )?(?:const |unsafe |extern +)*"
 ITEM = re.compile(rf"^{BEFORE}(?:(use) ([^;]*)|(fn|impl|trait|struct|enum|mod)\b([^{{;]*))", re.M)
 FUNCTION = re.compile(rf"^ *{BEFORE}fn (\w+)", re.M)
 BRACE = re.compile(r"\{|;$", re.M)
@@ -83,5 +88,55 @@ def handed_out(file, wanted=None):
 @functools.cache
 def of_users():
     """What a user's program can call: what lalrpop_lexer, the libraries above it and lalrpop_verdicts hand out."""
-    above = [it for it, below in LIBRARIES.items() if {"lalrpop_build", "lalrpop_lexer"}.intersection(below)]
+    above = [it for it, below in LIBRARIES.items() if {"lalrpop_build", "lalrpop_lexer"}.intersection(below) and it != "bajofeki_c"]
     return {it for crate in above for it in handed_out(TOP / "crates" / crate / "src/lib.rt")}
+
+
+def theirs():
+    """The libraries with items that users see, each with those: what is declared, followed by its impls. Of bajofeki_c, the exports."""
+    for crate in LIBRARIES:
+        found = [it for path in sorted(TOP.glob(f"crates/{crate}/src/**/*.rt")) for it in items(path)]
+        found = [it for it in found if (crate, it.name) in of_users() or it.kind == "fn" and it.name.startswith("bajofeki_")]
+        declared = [it.name for it in found if it.kind != "impl"]
+        if found:
+            yield crate, sorted(found, key=lambda it: (declared.index(it.name), it.kind == "impl"))
+
+
+def seen(item):
+    """What users see of an item of theirs: titles, each with a comment and with code, which is a promise to them."""
+    said = [f"{text};" for name, text in item.ghosts.items() if name not in UNSEEN]
+    if item.is_public and item.kind in TYPES:
+        is_open = item.kind == "enum" or item.kind == "struct" and "\n    pub " in item.text
+        yield item.name, item.about, item.text if is_open else "\n".join(said * (item.kind == "trait"))
+    if item.trait not in ("", "Model"):
+        said += [it.text for it in item.functions if "ensures" in it.text]
+        yield from [(f"{item.trait} for {item.name}", item.about, "\n".join([re.split(r" \{|\n", item.text)[0], *said]))] if said else []
+    for it in (it for it in item.functions if not item.trait and (it.is_public or item.kind == "trait")):
+        yield it.name if item.kind == "fn" else f"{item.name}::{it.name}", it.about, it.text
+
+
+# The code of a lexer in Rust is DRIVER in this file, the text of the functions of DRIVEN; that in C is `c_text.rt` beside it.
+RUST = TOP / "crates/lalrpop_emit/src/rust_text.rt"
+DRIVEN = ("driver", "longest_match", "ahead_columns", "ahead_rows", "ahead_driver")
+RUST_FUNCTION = re.compile(r"^(?:(?://|#\[)[^\n]*\n)*fn (\w+).*?^}\n", re.M | re.S)
+C_FUNCTION = re.compile(r"^(?:/\*(?:(?!\*/).)*\*/\n)?[$\w][^\n;]*?\$_(\w+)\([^;]*?\) \{\n.*?^\}\n", re.M | re.S)
+
+
+def driven(name):
+    """What follows the last `use` of the file, without contracts, labels and `pub(crate)`."""
+    text = (RUST.parent / f"{name}.rt").read_text()
+    text = re.sub(r"\A.*\n(?:ghost )?use [^\n]*;\n\n", "", text, flags=re.S)
+    text = re.sub(r"\n    (?:requires|ensures) .*?\n\{\n", " {\n", text, flags=re.S)
+    return re.sub(r"pub\(crate\) |(?<=//)/|'\w+: ", "", text)
+
+
+def driver_beside():
+    """Each function of a lexer in C beside those of Rattle that it stands for: the one of its name, and those before that C lacks."""
+    c_text = re.sub(r"\\(.)", r"\1", (RUST.parent / "c_text.rt").read_text())
+    c, before = {it[1].replace("fault_piece", "fault"): it[0] for it in C_FUNCTION.finditer(c_text)}, ""
+    for it in RUST_FUNCTION.finditer("\n".join(map(driven, DRIVEN))):
+        before += it[0] + "\n" * (it[1] not in c)
+        if it[1] in c:
+            yield it[1], c.pop(it[1]), before
+            before = ""
+    yield "In C without a proved one", "\n".join(c.values()), ""
