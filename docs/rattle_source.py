@@ -23,7 +23,7 @@ BEFORE = r"(?:#\[[^\n]*?\] *)*(pub(?:\([^)]*\))? )?(?:const |unsafe |extern +)*"
 ITEM = re.compile(rf"^{BEFORE}(?:(use) ([^;]*)|(fn|impl|trait|struct|enum|mod)\b([^{{;]*))", re.M)
 FUNCTION = re.compile(rf"^ *{BEFORE}fn (\w+)", re.M)
 BRACE = re.compile(r"\{|;$", re.M)
-CLAUSE = re.compile(r"\b(?:requires|ensures)\b")
+CLAUSE = re.compile(r"\b(?:requires|ensures|ghost \w+:)")
 GHOST = re.compile(r"^ *ghost (?!use\b)(\w+)[^{;]*\{", re.M)
 ABOUT = re.compile(r"((?:^ *///[^\n]*\n)+)(?: *#\[[^\]]*\]\n)*\Z", re.M)
 
@@ -87,9 +87,9 @@ def handed_out(file, wanted=None):
 
 @functools.cache
 def of_users():
-    """What a user's program can call: what lalrpop_lexer, the libraries above it and lalrpop_verdicts hand out."""
-    above = [it for it, below in LIBRARIES.items() if {"lalrpop_build", "lalrpop_lexer"}.intersection(below) and it != "bajofeki_c"]
-    return {it for crate in above for it in handed_out(TOP / "crates" / crate / "src/lib.rt")}
+    """What a user's program can call: what lalrpop_lexer and the libraries that it doesn't need hand out, patterns and rules."""
+    below = {*LIBRARIES["lalrpop_lexer"], "bajofeki_c"} - {"lalrpop_re", "bajofeki_rules"}
+    return {it for crate in LIBRARIES if crate not in below for it in handed_out(TOP / "crates" / crate / "src/lib.rt")}
 
 
 def theirs():
