@@ -12,8 +12,7 @@ use Rattle.lalrpop_hir.specs.declared.error.DfaConstructionError.TheVariants as 
 use Rattle.lalrpop_lexer.specs.Rules.{Rules}
 use Rattle.lalrpop_rules.specs.RuleSet.{AreTrees, IsTextError}
 use Rattle.lalrpop_rules.proofs.RuleTrees.{length-AreTrees}
-use Rattle.lalrpop_rules.proofs.KindLaws.{no_fault_merged}
-use Rattle.lalrpop_rules.proofs.MergedTrees.{no_first_fault}
+use Rattle.lalrpop_rules.proofs.KindLaws.{no_fault_merged, no_first_fault}
 use Rattle.lalrpop_rules.specs.declared.text_error.TextError.{TextError}
 use Rattle.lalrpop_rules.specs.declared.text_error.TextError.TheVariants as texts
 use Rattle.lalrpop_rules.specs.Modes.{ModeRules, kinds_of, mode_rules, trees_of, trees_in}
