@@ -13,6 +13,4 @@ mod parts;
 #[cfg(test)]
 mod patterns;
 #[cfg(test)]
-mod sets;
-#[cfg(test)]
 mod trees;

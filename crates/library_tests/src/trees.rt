@@ -1,4 +1,4 @@
-//! What trees and their parts show, and that clones show what their sources show.
+//! That clones of trees and of their parts show what their sources show.
 
 use lalrpop_hir::{
     Capture, Class, ClassBytes, ClassBytesRange, ClassUnicode, ClassUnicodeRange, Hir, HirKind,
@@ -7,73 +7,14 @@ use lalrpop_hir::{
 use std::alloc::{AllocError, Global};
 use std::fmt;
 
-// A literal is empty for the empty text alone.
-fn is_literal(tree: &Hir, text: &str) -> bool {
-    match tree.kind() {
-        HirKind::Empty => text.is_empty(),
-        HirKind::Literal(literal) => !text.is_empty() && literal.as_str() == text,
-        _ => false,
-    }
-}
-
-fn makes_literal(alloc: Global, text: &str) -> bool {
-    match Hir::literal(alloc, text) {
-        Ok(tree) => is_literal(&tree, text),
-        Err(_) => false,
-    }
-}
-
-#[test]
-fn literals_are_never_empty(rt: HostRuntime) {
-    let texts: &[&str] = &["", "é", "a.b"];
-    for text in texts {
-        assert!(rt; makes_literal(rt.alloc(), *text));
-    }
-}
-
 fn lazy(alloc: Global) -> Result<Repetition, AllocError> {
     let sub = Box::new(alloc, Hir::look(Look::EndLF))?;
     Ok(Repetition::new(2, Some(4), false, sub))
 }
 
-fn is_twice_and_lazy(made: Result<Repetition, AllocError>) -> bool {
-    match made {
-        Ok(twice) => {
-            twice.min() == 2
-                && twice.max() == Some(4)
-                && !twice.greedy()
-                && matches!(twice.sub().kind(), HirKind::Look(Look::EndLF))
-        }
-        Err(_) => false,
-    }
-}
-
-#[test]
-fn parts_of_repetitions_are_those_given(rt: HostRuntime) {
-    assert!(rt; is_twice_and_lazy(lazy(rt.alloc())));
-}
-
 fn group(alloc: Global, name: &str, sub: Hir) -> Result<Capture, AllocError> {
     let sub = Box::new(alloc, sub)?;
     Ok(Capture::new(Some(String::from_str(alloc, name)?), sub))
-}
-
-fn group_without_name(alloc: Global) -> Result<Capture, AllocError> {
-    Ok(Capture::new(None, Box::new(alloc, Hir::empty())?))
-}
-
-fn is_an_empty_group(made: Result<Capture, AllocError>, name: Option<&str>) -> bool {
-    match made {
-        Ok(group) => group.name() == name && matches!(group.sub().kind(), HirKind::Empty),
-        Err(_) => false,
-    }
-}
-
-#[test]
-fn parts_of_groups_are_those_given(rt: HostRuntime) {
-    let alloc = rt.alloc();
-    assert!(rt; is_an_empty_group(group(alloc, "year", Hir::empty()), Some("year")));
-    assert!(rt; is_an_empty_group(group_without_name(alloc), None));
 }
 
 fn letters(alloc: Global) -> Result<Hir, AllocError> {

@@ -78,13 +78,3 @@ fn escapes_of_no_character_are_refused(rt: HostRuntime) -> Result<(), AllocError
     ];
     expect_said(&rt, rt.alloc(), rows)
 }
-
-// Escaping a text, and then reading its escapes, gives the text.
-#[test]
-fn what_escape_makes_says_the_text(rt: HostRuntime) -> Result<(), RegexError> {
-    for text in ["", "a+b#c", "\\.+*?()|[]{}^$#&-~", "é\n"] {
-        let escaped = escape(rt.alloc(), text)?;
-        expect_same(&rt, &unescape(rt.alloc(), &escaped)?, text);
-    }
-    Ok(())
-}
