@@ -1,16 +1,56 @@
-//! Tests of trees, classes and sets of characters: what they show, and that copies show the same; of what patterns are read as
-//! and refused for, with parts and without; of texts with escapes, and of texts in any case.
+//! Tests of the public calls of the libraries with values: trees, patterns and escapes; automata, how they and errors are written,
+//! tokens, clashes, lookaheads and neighbours; named rules, their pieces, files and pages; lexers in numbers and in source files; edits.
+//! `memory_tests` makes the same calls where memory is refused. They are a crate of their own, so that no layer is proved a second
+//! time for its tests.
 #![tactic(auto)]
 
 #[cfg(test)]
 mod any_case;
 #[cfg(test)]
+mod automata;
+#[cfg(test)]
+mod built;
+#[cfg(test)]
+mod bytes;
+#[cfg(test)]
+mod clash_words;
+#[cfg(test)]
 mod classes;
 #[cfg(test)]
+mod cutting;
+#[cfg(test)]
+mod delimited;
+#[cfg(test)]
+mod edits;
+#[cfg(test)]
 mod escape_text;
+#[cfg(test)]
+mod files;
+#[cfg(test)]
+mod lookaheads;
+#[cfg(test)]
+mod neighbours;
+#[cfg(test)]
+mod pages;
 #[cfg(test)]
 mod parts;
 #[cfg(test)]
 mod patterns;
 #[cfg(test)]
+mod pieces;
+#[cfg(test)]
+mod printed;
+#[cfg(test)]
+mod rules;
+#[cfg(test)]
+mod shapes;
+#[cfg(test)]
+mod sources;
+#[cfg(test)]
+mod tables;
+#[cfg(test)]
 mod trees;
+#[cfg(test)]
+mod warnings;
+#[cfg(test)]
+mod witnesses;

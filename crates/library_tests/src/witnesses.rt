@@ -1,8 +1,8 @@
 //! What makes a lexer look ahead: a match, and characters after it that leave it open, by their code values.
 
-use crate::built::{built, expect, halves};
+use crate::built::{expect, halves};
 use crate::lookaheads::lexer_of;
-use lalrpop_lexer::lexer::dfa::{Witness, lookahead_witness};
+use lalrpop_lexer::lexer::dfa::Witness;
 use std::alloc::{AllocError, Global};
 
 // Patterns, the stronger before the weaker, a number of characters, and the witness.
@@ -45,12 +45,6 @@ fn of_lexer(alloc: Global, row: &str) -> Result<String, AllocError> {
     shown(alloc, &found)
 }
 
-fn of_automaton(alloc: Global, words: &str, count: usize) -> Result<String, AllocError> {
-    let dfa = built(alloc, words)?;
-    let found = lookahead_witness(alloc, &dfa, count)?;
-    shown(alloc, &found)
-}
-
 #[test]
 fn what_leaves_a_match_open(rt: HostRuntime) {
     for row in WITNESSES.trim_matches('\n').lines() {
@@ -58,25 +52,4 @@ fn what_leaves_a_match_open(rt: HostRuntime) {
         expect(&rt, of_lexer(rt.alloc(), patterns), wanted);
     }
     expect(&rt, of_lexer(rt.alloc(), " 0"), "none");
-    expect(
-        &rt,
-        of_automaton(rt.alloc(), "'a' 'abcd'", 2),
-        "[97] [98, 99]",
-    );
-    expect(&rt, of_automaton(rt.alloc(), "'a' 'abcd'", 3), "none");
-}
-
-fn printed(alloc: Global) -> Result<String, AllocError> {
-    let dfa = built(alloc, "'a' 'abcd'")?;
-    let found = lookahead_witness(alloc, &dfa, 2)?;
-    format!(in alloc; "{found:?}")
-}
-
-#[test]
-fn a_witness_is_printed(rt: HostRuntime) {
-    expect(
-        &rt,
-        printed(rt.alloc()),
-        "Some(Witness { word: [97], after: [98, 99] })",
-    );
 }

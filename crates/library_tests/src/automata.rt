@@ -1,9 +1,7 @@
 //! The states of built automata, with their test edges.
 
-use crate::built::{built, built_from, expect};
-use lalrpop_lexer::lexer::dfa::interpret::interpret;
-use lalrpop_lexer::lexer::dfa::{Dfa, DfaStateIndex, START};
-use lalrpop_lexer::lexer::re::Hir;
+use crate::built::{built, expect};
+use lalrpop_lexer::lexer::dfa::{Dfa, DfaStateIndex};
 use std::alloc::{AllocError, Global};
 use std::fmt::Write;
 
@@ -94,46 +92,4 @@ fn drawn(alloc: Global) -> Result<String, AllocError> {
 #[test]
 fn lists_of_patterns_have_these_automata(rt: HostRuntime) {
     expect(&rt, drawn(rt.alloc()), AUTOMATA);
-}
-
-fn has_no_edge_at_start(dfa: &Dfa) -> bool {
-    START.index() < dfa.states().len() && dfa.test_edges(START).len() == 0
-}
-
-fn nothing_rejects_all(alloc: Global) -> Result<bool, AllocError> {
-    let dfa = built_from(alloc, Hir::alternation(Vec::new(alloc)))?;
-    Ok(has_no_edge_at_start(&dfa))
-}
-
-#[test]
-fn a_choice_of_nothing_rejects_all(rt: HostRuntime) {
-    assert!(rt; nothing_rejects_all(rt.alloc()) == Ok(true));
-}
-
-// `a`, followed by a choice of nothing.
-fn a_then_nothing(alloc: Global) -> Result<Hir, AllocError> {
-    let parts = vec![in alloc;
-        Hir::literal(alloc, "a")?,
-        Hir::alternation(Vec::new(alloc)),
-    ]?;
-    Ok(Hir::concat(parts))
-}
-
-fn finds_nothing(dfa: &Dfa) -> bool {
-    for text in ["", "a", "aa", "b"] {
-        if interpret(dfa, text).is_some() {
-            return false;
-        }
-    }
-    true
-}
-
-fn nothing_behind_a_matches_nothing(alloc: Global) -> Result<bool, AllocError> {
-    let dfa = built_from(alloc, a_then_nothing(alloc)?)?;
-    Ok(finds_nothing(&dfa))
-}
-
-#[test]
-fn a_choice_of_nothing_behind_a_letter_matches_nothing(rt: HostRuntime) {
-    assert!(rt; nothing_behind_a_matches_nothing(rt.alloc()) == Ok(true));
 }

@@ -1,6 +1,6 @@
 //! Warnings about files of rules.
 
-use crate::rules::{expect, halves};
+use crate::built::{expect, halves};
 use lalrpop_rule_file::{RuleFileError, read_rules};
 use std::alloc::{AllocError, Global};
 

@@ -1,10 +1,50 @@
-//! How states, edges and errors are written.
+//! How ranges, states, edges, witnesses and errors are written.
 
 use crate::built::{expect, made};
-use lalrpop_lexer::lexer::dfa::{self, Dfa, DfaConstructionError};
+use lalrpop_lexer::lexer::dfa::{self, Dfa, DfaConstructionError, Witness};
 use lalrpop_lexer::lexer::nfa::{ACCEPT, Edge, NfaConstructionError, Other, REJECT, START, Test};
 use std::alloc::{AllocError, Global};
 use std::fmt::Write;
+
+fn ranges(alloc: Global) -> Result<String, AllocError> {
+    let tests = [
+        Test::char('a'),
+        Test::char('.'),
+        Test::byte(b'!'),
+        Test::char('\u{3b1}'),
+        Test::inclusive_range('a', 'z'),
+        Test::inclusive_byte_range(b'\n', b'9'),
+        Test::new(55296..=57343),
+        Test::new(97..=1114112),
+    ];
+    format!(in alloc; "{tests:?}")
+}
+
+#[test]
+fn ranges_are_written(rt: HostRuntime) {
+    expect(
+        &rt,
+        ranges(rt.alloc()),
+        "[a, \\., \\!, \u{3b1}, ['a'..='z'], ['\\n'..='9'], [55296..]57343], [97..]1114112]]",
+    );
+}
+
+fn witness(alloc: Global) -> Result<String, AllocError> {
+    let found = Witness {
+        word: vec![in alloc; 97]?,
+        after: vec![in alloc; 98, 99]?,
+    };
+    format!(in alloc; "{found:?}")
+}
+
+#[test]
+fn a_witness_is_written(rt: HostRuntime) {
+    expect(
+        &rt,
+        witness(rt.alloc()),
+        "Witness { word: [97], after: [98, 99] }",
+    );
+}
 
 fn edges_and_states(alloc: Global) -> Result<String, AllocError> {
     let letters = Edge {

@@ -2,7 +2,7 @@
 
 use crate::built::{compiled, expect, halves, nfa_for, tree_of};
 use lalrpop_lexer::lexer::nfa::{
-    ACCEPT, Edge, EdgeLabel, Nfa, NfaStateIndex, Noop, Other, REJECT, START, StateKind, Test,
+    ACCEPT, Edge, EdgeLabel, Nfa, NfaStateIndex, Noop, Other, REJECT, START, Test,
 };
 use lalrpop_lexer::lexer::re::Hir;
 use std::alloc::{AllocError, Global};
@@ -158,21 +158,4 @@ fn drawn(alloc: Global) -> Result<String, AllocError> {
 #[test]
 fn patterns_are_compiled_to_these_edges(rt: HostRuntime) {
     expect(&rt, drawn(rt.alloc()), SHAPES);
-}
-
-fn has_its_fixed_states(nfa: &Nfa) -> bool {
-    nfa.contains_state(START)
-        && nfa.is_accepting_state(ACCEPT)
-        && nfa.is_rejecting_state(REJECT)
-        && nfa.kind(START) == StateKind::Neither
-}
-
-fn fixed_states_are_there(alloc: Global) -> Result<bool, AllocError> {
-    let nfa = nfa_for(alloc, "")?;
-    Ok(has_its_fixed_states(&nfa))
-}
-
-#[test]
-fn the_fixed_states_are_what_they_are_for(rt: HostRuntime) {
-    assert!(rt; fixed_states_are_there(rt.alloc()) == Ok(true));
 }

@@ -95,28 +95,14 @@ pub(crate) fn built(alloc: Global, words: &str) -> Result<Dfa, AllocError> {
     given(made(alloc, words)?)
 }
 
-/// The automaton of the patterns, which are separated by spaces, with these precedences, or why there is none.
-pub(crate) fn made_with(
-    alloc: Global,
-    words: &str,
-    precedences: &[Precedence],
-) -> Result<Result<Dfa, DfaConstructionError>, AllocError> {
-    let trees = trees_of(alloc, words)?;
-    Ok(build(alloc, &trees, precedences))
-}
-
 /// The automaton of the patterns, which are separated by spaces, with these precedences.
 pub(crate) fn built_with(
     alloc: Global,
     words: &str,
     precedences: &[Precedence],
 ) -> Result<Dfa, AllocError> {
-    given(made_with(alloc, words, precedences)?)
-}
-
-/// The automaton of one tree.
-pub(crate) fn built_from(alloc: Global, tree: Hir) -> Result<Dfa, AllocError> {
-    given(build(alloc, &[tree], &[Precedence(0)]))
+    let trees = trees_of(alloc, words)?;
+    given(build(alloc, &trees, precedences))
 }
 
 /// What one tree is compiled to.

@@ -1,8 +1,8 @@
 //! Patterns that clash, and the least word on which they do.
 
-use crate::built::{expect, made, made_with};
+use crate::built::{expect, made};
 use lalrpop_lexer::ShownWord;
-use lalrpop_lexer::lexer::dfa::{Dfa, DfaConstructionError, Precedence};
+use lalrpop_lexer::lexer::dfa::{Dfa, DfaConstructionError};
 use std::alloc::{AllocError, Global};
 
 // The two patterns, and the word.
@@ -28,15 +28,6 @@ fn clash(alloc: Global, words: &str) -> Result<String, AllocError> {
     shown(alloc, &made)
 }
 
-fn clash_with(
-    alloc: Global,
-    words: &str,
-    precedences: &[Precedence],
-) -> Result<String, AllocError> {
-    let made = made_with(alloc, words, precedences)?;
-    shown(alloc, &made)
-}
-
 #[test]
 fn patterns_of_one_strength_clash_on_the_least_word(rt: HostRuntime) {
     let rows = [
@@ -53,18 +44,6 @@ fn patterns_of_one_strength_clash_on_the_least_word(rt: HostRuntime) {
     for (words, wanted) in rows {
         expect(&rt, clash(rt.alloc(), words), wanted);
     }
-}
-
-// The stronger patterns leave the surrogates alone, and the first of them is the least word.
-#[test]
-fn a_clash_beside_stronger_patterns(rt: HostRuntime) {
-    let words = "(?s). (?s). [\\x{0}-\\x{D7FF}] [\\x{E000}-\\x{10FFFF}]";
-    let precedences = [Precedence(0), Precedence(0), Precedence(1), Precedence(1)];
-    expect(
-        &rt,
-        clash_with(rt.alloc(), words, &precedences),
-        "1 0 [55296]",
-    );
 }
 
 #[test]

@@ -2,7 +2,7 @@
 
 use crate::built::{expect, halves};
 use crate::lookaheads::lexer_from;
-use lalrpop_re::{FromToError, from_to};
+use lalrpop_re::from_to;
 use lalrpop_lexer::Lexer;
 use lalrpop_lexer::lexer::dfa::Precedence;
 use std::alloc::{AllocError, Global};
@@ -45,25 +45,4 @@ fn up_to_the_first_end(rt: HostRuntime) {
         let (question, wanted) = halves(row, " => ");
         expect(&rt, token(rt.alloc(), question), wanted);
     }
-}
-
-// 64 characters.
-const LONGEST: &str = "éééééééééééééééééééééééééééééééééééééééééééééééééééééééééééééééé";
-
-const LONGER: &str = "ééééééééééééééééééééééééééééééééééééééééééééééééééééééééééééééééé";
-
-fn answer(alloc: Global, to: &str) -> &'static str {
-    match from_to(alloc, "a", to) {
-        Ok(_) => "a tree",
-        Err(FromToError::EmptyEnd) => "empty",
-        Err(FromToError::LongEnd) => "long",
-        Err(FromToError::OutOfMemory) => "memory",
-    }
-}
-
-#[test]
-fn ends_that_are_refused(rt: HostRuntime) {
-    assert_eq!(rt; answer(rt.alloc(), ""), "empty");
-    assert_eq!(rt; answer(rt.alloc(), LONGEST), "a tree");
-    assert_eq!(rt; answer(rt.alloc(), LONGER), "long");
 }

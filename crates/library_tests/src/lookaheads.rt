@@ -1,10 +1,9 @@
-//! How many characters past a match leave it open, and the tokens of lexers that look ahead.
+//! How many characters past a match leave it open.
 
-use crate::built::{built, expect, halves, trees_of};
+use crate::built::{expect, halves, trees_of};
 use lalrpop_lexer::lexer::dfa::Precedence;
-use lalrpop_lexer::lexer::dfa::lookahead::lookahead;
 use lalrpop_lexer::lexer::re::Regex;
-use lalrpop_lexer::{Lexer, Token, TokenFault};
+use lalrpop_lexer::Lexer;
 use std::alloc::{AllocError, Global};
 
 // Patterns, the stronger before the weaker, and the greatest number of characters. Of the last four, one waits in vain after a match,
@@ -59,12 +58,6 @@ fn of_lexer(alloc: Global, words: &str) -> Result<String, AllocError> {
     format!(in alloc; "{found:?}")
 }
 
-fn of_automaton(alloc: Global, words: &str) -> Result<String, AllocError> {
-    let dfa = built(alloc, words)?;
-    let found = lookahead(alloc, &dfa)?;
-    format!(in alloc; "{found:?}")
-}
-
 #[test]
 fn characters_that_leave_a_match_open(rt: HostRuntime) {
     for row in LOOKAHEADS.trim_matches('\n').lines() {
@@ -72,8 +65,6 @@ fn characters_that_leave_a_match_open(rt: HostRuntime) {
         expect(&rt, of_lexer(rt.alloc(), words), wanted);
     }
     expect(&rt, of_lexer(rt.alloc(), ""), "Some(0)");
-    expect(&rt, of_automaton(rt.alloc(), "'a' 'abcd'"), "Some(2)");
-    expect(&rt, of_automaton(rt.alloc(), "'a' a*b"), "None");
 }
 
 fn open_of(alloc: Global, words: &str) -> Result<String, AllocError> {
@@ -102,36 +93,4 @@ fn patterns_that_stay_open(rt: HostRuntime) {
         "[false, false, false]",
     );
     expect(&rt, open_of(rt.alloc(), ""), "[]");
-}
-
-fn shown(alloc: Global, item: &Result<Token, TokenFault>) -> Result<String, AllocError> {
-    match item {
-        Ok(token) => format!(in alloc;
-            "{} {:?} at {}, ",
-            token.index.index(),
-            token.slice,
-            token.start
-        ),
-        Err(fault) => format!(in alloc; "{fault}, "),
-    }
-}
-
-// What the calls of `next` return, including the first two `None`.
-fn given(alloc: Global, words: &str, text: &str) -> Result<String, AllocError> {
-    let lexer = lexer_of(alloc, words)?;
-    let mut line = String::new(alloc);
-    let mut items = lexer.tokens(text);
-    for item in items.by_ref() {
-        line.push_str(&shown(alloc, &item)?)?;
-    }
-    line.push_str(&format!(in alloc; "None, {:?}", items.next())?)?;
-    Ok(line)
-}
-
-#[test]
-fn tokens_and_the_fault(rt: HostRuntime) {
-    let wanted =
-        r#"0 "a" at 0, 1 "abcd" at 1, 0 "a" at 5, no pattern matches at byte 6, None, None"#;
-    expect(&rt, given(rt.alloc(), "'a' 'abcd'", "aabcdabc"), wanted);
-    expect(&rt, given(rt.alloc(), "'a' 'abcd'", ""), "None, None");
 }
