@@ -2,9 +2,9 @@
 
 use crate::built::{expect, halves};
 use crate::lookaheads::lexer_from;
-use lalrpop_re::from_to;
 use lalrpop_lexer::Lexer;
 use lalrpop_lexer::lexer::dfa::Precedence;
+use lalrpop_re::from_to;
 use std::alloc::{AllocError, Global};
 
 // A beginning, an end and a text, and the token at its front.

@@ -95,10 +95,7 @@ fn decoded(alloc: Global, chunks: &[&[u8]]) -> Result<String, AllocError> {
 fn characters_may_come_in_chunks(rt: HostRuntime) {
     let rows: [(&[&[u8]], &str); 4] = [
         (&[b"a\xc3", b"\xa4b"], "a [195] äb [] "),
-        (
-            &[b"\xe2", b"\x82", b"\xac"],
-            " [226]  [226, 130] € [] ",
-        ),
+        (&[b"\xe2", b"\x82", b"\xac"], " [226]  [226, 130] € [] "),
         (&[b"ab\xffc", b"d"], "ab []  [] broken"),
         (&[b"a\xc3", b"b"], "a [195]  [195] broken"),
     ];

@@ -1,8 +1,8 @@
 //! Files of rules, and what is wrong with them.
 
 use crate::built::{expect, halves};
-use lalrpop_rules::{RuleLexer, RulesError};
 use lalrpop_rule_file::{FileRule, RuleFile, RuleFileError, read_rules};
+use lalrpop_rules::{RuleLexer, RulesError};
 use std::alloc::{AllocError, Global};
 
 const FILE: &[u8] = b"# Names, and what is between them\r

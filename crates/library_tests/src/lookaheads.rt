@@ -1,9 +1,9 @@
 //! How many characters past a match leave it open.
 
 use crate::built::{expect, halves, trees_of};
+use lalrpop_lexer::Lexer;
 use lalrpop_lexer::lexer::dfa::Precedence;
 use lalrpop_lexer::lexer::re::Regex;
-use lalrpop_lexer::Lexer;
 use std::alloc::{AllocError, Global};
 
 // Patterns, the stronger before the weaker, and the greatest number of characters. Of the last four, one waits in vain after a match,
