@@ -1,7 +1,6 @@
-//! Tests of the public calls of the libraries with values: trees, patterns and escapes; automata, how they and errors are written,
-//! tokens, clashes, lookaheads and neighbours; named rules, their pieces, files and pages; lexers in numbers and in source files; edits.
-//! `memory_tests` makes the same calls where memory is refused. They are a crate of their own, so that no layer is proved a second
-//! time for its tests.
+//! Tests of the public calls of patterns and automata with values: trees, patterns and escapes; automata, how they and errors are
+//! written, tokens, clashes, lookaheads and neighbours. `memory_tests` makes the same calls where memory is refused. They are a crate
+//! of their own, so that no layer is proved a second time for its tests.
 #![tactic(auto)]
 
 #[cfg(test)]
@@ -11,46 +10,34 @@ mod automata;
 #[cfg(test)]
 mod built;
 #[cfg(test)]
-mod bytes;
-#[cfg(test)]
 mod clash_words;
 #[cfg(test)]
 mod classes;
 #[cfg(test)]
 mod cutting;
 #[cfg(test)]
-mod delimited;
+mod deep;
 #[cfg(test)]
-mod edits;
+mod delimited;
 #[cfg(test)]
 mod escape_text;
 #[cfg(test)]
-mod files;
+mod longest;
 #[cfg(test)]
 mod lookaheads;
 #[cfg(test)]
 mod neighbours;
 #[cfg(test)]
-mod pages;
-#[cfg(test)]
 mod parts;
 #[cfg(test)]
 mod patterns;
 #[cfg(test)]
-mod pieces;
-#[cfg(test)]
 mod printed;
 #[cfg(test)]
-mod rules;
-#[cfg(test)]
 mod shapes;
-#[cfg(test)]
-mod sources;
 #[cfg(test)]
 mod tables;
 #[cfg(test)]
 mod trees;
-#[cfg(test)]
-mod warnings;
 #[cfg(test)]
 mod witnesses;

@@ -1,12 +1,12 @@
-//! The clashes of rules: their lines, what is written when a writer fails, and rules without trees.
+//! The clashes of rules: their lines, and what is written when a writer fails.
 ghost use Rattle.std.specs.Prelude.{◌≡◌, false};
 
 use lexdfa_lib::{RunError, Watched};
-use program_tests::failing::FailsAfter;
+use crate::failing::FailsAfter;
 use std::alloc::Global;
 use std::io;
 use std::io::Write;
-use tokens_lib::{ModeRule, RulesError, Rule, mode_clashes, write_rule_clashes};
+use tokens_lib::{ModeRule, Rule, mode_clashes, write_rule_clashes};
 
 // The rule in the first mode, without actions.
 fn plain<'text>(rule: Rule<'text>) -> ModeRule<'text> {
@@ -55,51 +55,7 @@ fn a_failed_write_leaves_a_prefix_of_the_clashes_of_rules(rt: HostRuntime) {
     }
 }
 
-// The stronger rules leave the surrogates alone, which no text holds.
-fn surrogate_clash(alloc: Global) -> Option<Vec<u8>> {
-    let rules = [
-        plain(Rule::pattern("X", "(?s).")),
-        plain(Rule::pattern("Y", "(?s).")),
-        plain(Rule::pattern("BELOW", "[\\x{0}-\\x{D7FF}]").with_precedence(1)),
-        plain(Rule::pattern("ABOVE", "[\\x{E000}-\\x{10FFFF}]").with_precedence(1)),
-    ];
-    let found = mode_clashes(alloc, &rules, 1).ok()?;
-    let mut writer = Watched::new(Vec::new(alloc));
-    write_rule_clashes(alloc, &rules, &["INITIAL"], &found, &mut writer).ok()?;
-    Some(writer.into_inner())
-}
-
-#[test]
-fn values_that_are_no_characters_are_shown(rt: HostRuntime) {
-    let written = surrogate_clash(rt.alloc()).expect(&rt, "clashes");
-    assert!(rt; written.as_slice() == b"X Y \"\\u{d800}\"\n".as_slice());
-}
-
-#[test]
-fn rules_without_trees_have_no_clashes(rt: HostRuntime) {
-    let open = [
-        plain(Rule::literal("A", "(")),
-        plain(Rule::pattern("B", "(")),
-    ];
-    assert!(rt;
-        matches!(
-            mode_clashes(rt.alloc(), &open, 1),
-            Err(RulesError::NotParsed { rule: 1, .. })
-        )
-    );
-    let lazy = [
-        plain(Rule::literal("A", "a")),
-        plain(Rule::pattern("B", "a*?")),
-    ];
-    assert!(rt;
-        matches!(
-            mode_clashes(rt.alloc(), &lazy, 1),
-            Err(RulesError::NotCompiled { rule: 1, .. })
-        )
-    );
-}
-
-// The two rules meet in the second mode alone.
+// The two rules meet only in the second mode.
 fn clash_in_a_mode(alloc: Global) -> Option<Vec<u8>> {
     let rules = [
         ModeRule {

@@ -3,11 +3,11 @@
 
 use crate::cutting::{
     ALL, Answer, CLEAN, Ended, FAULTY, Fed, JOBS, JSON, Job, Lines, PLAIN, RECOVERING, Shape, cut,
-    is_end, lexer_of_comments, lexer_of_rules, lexer_of_words, write_lines, write_shape,
+    is_end, lexer_of_comments, lexer_of_rules, lexer_of_words, write_lines,
 };
 use lalrpop_lexer::Position;
 use lexdfa_lib::{RunError, Watched};
-use program_tests::failing::FailsAfter;
+use crate::failing::FailsAfter;
 use std::alloc::{AllocError, Global};
 use std::io;
 use std::process::Abort;
@@ -18,7 +18,7 @@ const SIZES: [usize; 5] = [1, 2, 3, 5, ALL];
 
 const MARK: &[u8] = b"\xef\xbb\xbf";
 
-// These bytes behind one another.
+// These bytes one after another.
 fn joined(alloc: Global, parts: &[&[u8]]) -> Result<Vec<u8>, AllocError> {
     let mut all = Vec::new(alloc);
     for part in parts {
@@ -268,59 +268,6 @@ fn a_byte_of_no_character_leaves_the_lines_in_front(rt: HostRuntime) {
     }
 }
 
-// The text ends within a character.
-fn ends_within(alloc: Global, lexer: &RuleLexer, job: &Coming, size: usize) -> bool {
-    let bytes = job.text.as_bytes().get(..size).unwrap_or(b"");
-    let at = whole_front(job.text, size);
-    for at_once in SIZES {
-        let shape = Shape::Lines(job.lines);
-        let cut = cut(alloc, lexer, &shape, Fed::ending(bytes, at_once));
-        let calls = reads(size, at_once).saturating_add(1);
-        if !is_cut(&cut, job, size, Ended::NotText { at }, calls) {
-            return false;
-        }
-    }
-    true
-}
-
-#[test]
-fn a_text_may_end_within_a_character(rt: HostRuntime) {
-    for job in &COMING {
-        let lexer = lexer_by(&rt, rt.alloc(), job.rules);
-        for size in 0..job.text.len() {
-            if !job.text.is_char_boundary(size) {
-                assert!(rt;
-                    ends_within(rt.alloc(), &lexer, job, size),
-                    "{} {}",
-                    job.text,
-                    size
-                );
-            }
-        }
-    }
-}
-
-// Places count from behind a byte order mark.
-#[test]
-fn a_text_breaks_off_behind_a_mark(rt: HostRuntime) {
-    let lexer = lexer_of_rules(&rt, rt.alloc());
-    let rows: &[(&'static [u8], &'static [u8], usize)] = &[
-        (b"\xef\xbb\xbfa \xff", b"1:1 NAME \"a\"\n", 2),
-        (b"\xef\xbb\xbfa\xff", b"", 1),
-        (b"\xef\xbb\xbf\xff", b"", 0),
-        (b"\xef\xbb\xff", b"", 0),
-        (b"\xef\xbb", b"", 0),
-    ];
-    for (bytes, lines, at) in rows {
-        for at_once in SIZES {
-            let reader = Fed::ending(*bytes, at_once);
-            let cut = cut(rt.alloc(), &lexer, &Shape::Lines(PLAIN), reader);
-            assert!(rt; is_end(&cut.end, Ended::NotText { at: *at }));
-            assert!(rt; cut.written.as_slice() == *lines);
-        }
-    }
-}
-
 // ---- up to a fault
 
 // A text, what is written of it, the column of its first fault, the character there, and how many bytes show that there is one.
@@ -432,22 +379,6 @@ fn reading_stops_at_a_fault(rt: HostRuntime) {
     }
 }
 
-// A fault that only the end of the text shows.
-#[test]
-fn the_end_shows_a_fault(rt: HostRuntime) {
-    let lexer = lexer_of_comments(&rt, rt.alloc());
-    let cut = cut(
-        rt.alloc(),
-        &lexer,
-        &Shape::Lines(PLAIN),
-        Fed::ending(b"a/", 1),
-    );
-    let place = Position { line: 1, column: 2 };
-    assert!(rt; is_end(&cut.end, Ended::Stopped { place, found: '/' }));
-    assert!(rt; cut.written.as_slice() == b"1:1 NAME \"a\"\n".as_slice());
-    assert!(rt; cut.calls == 3);
-}
-
 // ---- before more is read
 
 // A writer that fails at this byte of the lines is called before more is read than the line needs, which this many bytes settle.
@@ -485,31 +416,5 @@ fn a_line_is_written_before_more_is_read(rt: HostRuntime) {
             }
             room = room.saturating_add(line.len());
         }
-    }
-}
-
-// ---- a reader that has failed
-
-fn is_left_alone(alloc: Global, lexer: &RuleLexer, shape: &Shape) -> bool {
-    let mut reader = Watched::new(Fed::failing(b"", ALL));
-    let mut writer = Watched::new(Vec::new(alloc));
-    let mut buffer = [0u8; 4];
-    let has_failed = reader.read(&mut buffer).is_err();
-    let end = write_shape(alloc, lexer, shape, &mut reader, &mut writer);
-    has_failed
-        && is_end(&end, Ended::Unread)
-        && writer.into_inner().is_empty()
-        && reader.into_inner().calls == 1
-}
-
-#[test]
-fn a_reader_that_has_failed_is_left_alone(rt: HostRuntime) {
-    let lexer = lexer_of_rules(&rt, rt.alloc());
-    for shape in [
-        Shape::Lines(PLAIN),
-        Shape::Page(Markup::Html),
-        Shape::Page(Markup::Ansi),
-    ] {
-        assert!(rt; is_left_alone(rt.alloc(), &lexer, &shape));
     }
 }

@@ -6,11 +6,11 @@ use crate::cutting::{
 };
 use lalrpop_lexer::Position;
 use lexdfa_lib::{RunError, Watched};
-use program_tests::failing::FailsAfter;
+use crate::failing::FailsAfter;
 use std::alloc::Global;
 use std::io;
 use std::process::Abort;
-use tokens_lib::{CutEnd, Layout, LineForm, Markup, RuleLexer, OpenMode, write_items};
+use tokens_lib::{CutEnd, Layout, LineForm, OpenMode, RuleLexer, write_items};
 
 fn is_written(alloc: Global, lexer: &RuleLexer, job: &Job) -> bool {
     let reader = Fed::ending(job.text.as_bytes(), ALL);
@@ -64,20 +64,6 @@ fn many_lines_are_written(rt: HostRuntime) {
     assert!(rt; is_end(&cut.end, CLEAN));
     let lines = cut.written.as_slice().split(|byte| *byte == b'\n').count();
     assert!(rt; lines == 10_001);
-}
-
-// A page of more bytes than one write takes.
-#[test]
-fn a_long_page_is_written(rt: HostRuntime) {
-    let lexer = lexer_of_rules(&rt, rt.alloc());
-    let text = "a ".repeat(rt.alloc(), 10_000).expect(&rt, "memory");
-    let page = "<span class=\"NAME\">a</span> "
-        .repeat(rt.alloc(), 10_000)
-        .expect(&rt, "memory");
-    let reader = Fed::ending(text.as_bytes(), usize::MAX);
-    let cut = cut(rt.alloc(), &lexer, &Shape::Page(Markup::Html), reader);
-    assert!(rt; is_end(&cut.end, CLEAN));
-    assert!(rt; cut.written.as_slice() == page.as_bytes());
 }
 
 // What is written for a text with comments, and how it ends.

@@ -1,0 +1,80 @@
+//! Warnings about files of rules.
+
+use crate::rules::{expect, halves};
+use lalrpop_rule_file::{RuleFileError, read_rules};
+use std::alloc::{AllocError, Global};
+
+// Files, with `;` between their lines, and their warnings.
+const WARNED: &str = r#"
+A = 'a' => []
+D part = /[0-9]/;NUM = /{D}+/;[C];X = 'x';[INITIAL];IN push C = '(' => []
+# nothing => [NoRules]
+D part = /[0-9]/ => [NoRules, PartUnused { part: 0 }]
+[A B] => [NoRules, ModeNotEntered { mode: 1 }]
+D part = /[0-9]/;E part = /e{D}/;F part = /f/;A = /{E}/ => [PartUnused { part: 2 }]
+A = /{D}/;D part = /d/;E part = /{D}/ => [PartUnused { part: 1 }]
+D part = /d/;A = '{D}' => [PartUnused { part: 0 }]
+A = 'a';[B];C push D = 'c';[D];E = 'e' => [ModeNotEntered { mode: 1 }, ModeNotEntered { mode: 2 }]
+A mode C = 'a';[B];D = 'd';[C];E push B = 'e' => []
+A = 'a';[B];C push B = 'c' => [ModeNotEntered { mode: 1 }]
+A = 'a';B = '' => [LiteralEmpty { rule: 1 }]
+A = '';B = //;C = '' => [LiteralEmpty { rule: 0 }, LiteralEmpty { rule: 2 }]
+A = "";B = "\n";C = anycase '';D = anycase 'd' => [LiteralEmpty { rule: 0 }, LiteralEmpty { rule: 2 }]
+D part = /d/;[A];B = '';[C];E pop = 'e' => [PartUnused { part: 0 }, ModeNotEntered { mode: 1 }, LiteralEmpty { rule: 0 }]
+"#;
+
+fn warned(alloc: Global, line: &str) -> Result<String, AllocError> {
+    let lines = line.replace(alloc, ';', "\n")?;
+    match read_rules(alloc, lines.as_bytes()) {
+        Ok(file) => {
+            let warnings = file.warnings(alloc)?;
+            format!(in alloc; "{warnings:?}")
+        }
+        Err(RuleFileError::OutOfMemory) => Err(AllocError),
+        Err(error) => format!(in alloc; "{error}"),
+    }
+}
+
+#[test]
+fn files_are_warned_of(rt: HostRuntime) {
+    for row in WARNED.trim().lines() {
+        let (file, wanted) = halves(row, " => ");
+        expect(&rt, warned(rt.alloc(), file), wanted);
+    }
+}
+
+// The places of parts.
+const PLACES: &str = r#"
+D part = /[0-9]/ => D [0-9] 1:1
+A = 'a';  E  part  = /x/ ;# no;F part=/f// => E x 2:3 F f/ 4:1
+"#;
+
+fn placed(alloc: Global, line: &str) -> Result<String, AllocError> {
+    let lines = line.replace(alloc, ';', "\n")?;
+    let mut all = String::new(alloc);
+    match read_rules(alloc, lines.as_bytes()) {
+        Ok(file) => {
+            for part in &file.part_lines {
+                if !all.is_empty() {
+                    all.push(' ')?;
+                }
+                let place = format!(in alloc;
+                    "{} {} {}:{}",
+                    part.name, part.pattern, part.place.line, part.place.column
+                )?;
+                all.push_str(&place)?;
+            }
+            Ok(all)
+        }
+        Err(RuleFileError::OutOfMemory) => Err(AllocError),
+        Err(error) => format!(in alloc; "{error}"),
+    }
+}
+
+#[test]
+fn parts_have_their_places(rt: HostRuntime) {
+    for row in PLACES.trim().lines() {
+        let (file, wanted) = halves(row, " => ");
+        expect(&rt, placed(rt.alloc(), file), wanted);
+    }
+}
