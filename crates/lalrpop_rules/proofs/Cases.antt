@@ -10,3 +10,4 @@ mod Modes
 mod ModeSet
 mod ModeCut
 mod ModeClashes
+mod FileLexer

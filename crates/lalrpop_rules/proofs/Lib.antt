@@ -36,5 +36,7 @@ pub mod NamedModes
 -- the lexers of modes, one after another
 pub mod ModeByMode
 pub mod ClashLists
+-- a lexer of a file
+pub mod FileLexers
 -- stacks that are the same
 mod SameStacks

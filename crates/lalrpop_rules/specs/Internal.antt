@@ -5,3 +5,5 @@ pub mod Faults
 pub mod ModeCode
 pub mod Lexers
 pub mod Cutting
+-- a file that was read
+pub mod FileRules

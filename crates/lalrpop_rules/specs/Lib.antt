@@ -9,6 +9,8 @@ pub mod Modes
 pub mod ModeSet
 pub mod RulesErrors
 pub mod ModeClashes
+-- a lexer of a file
+pub mod FileLexer
 -- the pieces of a text
 pub mod Found
 pub mod Pieces

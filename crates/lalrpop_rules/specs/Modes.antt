@@ -12,6 +12,7 @@ use Rattle.lalrpop_rules.specs.declared.item.Item.TheVariants.{Token, Skipped, F
 use Rattle.bajofeki_rules.specs.declared.action.Action.{Action}
 use Rattle.bajofeki_rules.specs.declared.action.Action.TheVariants.{Mode, Push, Pop}
 use Rattle.bajofeki_rules.specs.Stack.{Stack, act_all, actions_of}
+use Rattle.bajofeki_rules.specs.EnteredModes.{CanBeEntered}
 
 -- rules with modes: the name, the tree, the precedence and the actions of each rule, whether it is skipped, the modes that it belongs to, and its
 -- kind, which is the index of the first rule of that kind; how many modes there are; and the states of the automaton of each mode

@@ -6,7 +6,7 @@ use Rattle.std.proofs.lemmas.Bool.Decides.{Decides-eqb}
 use Rattle.std.proofs.lemmas.Slice.Eq.{bytes_eq-Decides, slice_eq-Decides}
 use Rattle.bajofeki_rules.specs.declared.action.Action.{Action}
 use Rattle.bajofeki_rules.specs.declared.action.Action.TheVariants.{Mode, Push, Pop}
-use Rattle.lalrpop_rules.specs.contracts.action.ActionPartialEq.TheImpl.{eq-value}
+use Rattle.bajofeki_rules.specs.contracts.action.ActionPartialEq.TheImpl.{eq-value}
 use Rattle.lalrpop_review.specs.Apart.{Told}
 use Rattle.lalrpop_review.specs.Internal.Meanings.{meant}
 use Rattle.lalrpop_review.specs.declared.apart.Meaning.{Meaning}

@@ -7,7 +7,7 @@ use Rattle.lalrpop_rules.specs.Kinds.{AreOneKind}
 use Rattle.bajofeki_rules.specs.declared.action.Action.{Action}
 use Rattle.bajofeki_rules.specs.declared.action.Action.TheVariants.{Mode, Push, Pop}
 use Rattle.bajofeki_rules.specs.declared.mode_rule.ModeRule.{ModeRule}
-use Rattle.lalrpop_rules.specs.contracts.action.ActionPartialEq.TheImpl.{eq-value}
+use Rattle.bajofeki_rules.specs.contracts.action.ActionPartialEq.TheImpl.{eq-value}
 use Rattle.lalrpop_rules.specs.ModeSet.{AreOneModeKind}
 use Rattle.lalrpop_rules.proofs.mode_kinds.are_one_mode_kind.Goals as goal
 

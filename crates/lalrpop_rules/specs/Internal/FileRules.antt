@@ -1,0 +1,23 @@
+-- The lexer of a file that was read, or why there is none.
+use Rattle.std.specs.Prelude.{◌≡◌, List, length}
+use Rattle.bajofeki_rules.specs.declared.mode_rule.ModeRule.{ModeRule}
+use Rattle.lalrpop_rule_file.specs.RuleFile.{AreModeRules as KnowTheirParts}
+use Rattle.lalrpop_rule_file.specs.declared.error.RuleFileError.TheVariants as read
+use Rattle.lalrpop_rule_file.specs.declared.file.RuleFile.{RuleFile}
+use Rattle.lalrpop_rules.specs.FileLexer.{place_in}
+use Rattle.lalrpop_rules.specs.Modes.{ModeRules}
+use Rattle.lalrpop_rules.specs.ModeSet.{AreModeRules, IsRulesError}
+use Rattle.lalrpop_rules.specs.declared.from_file.FileError.{FileError}
+use Rattle.lalrpop_rules.specs.declared.from_file.FileError.TheVariants.{File, Rules}
+
+-- the lexer is that of the rules of the file
+abbrev pub IsLexerOfRules : RuleFile → ModeRules → Type 0
+IsLexerOfRules file lexer =
+    (taken : List ModeRule) × (KnowTheirParts file.parts.items file.rules.items taken × AreModeRules taken (length file.modes.items) lexer)
+
+-- the error is right: memory was refused; or the rules make no lexer
+abbrev pub IsRefusalOfRules : RuleFile → FileError → Type 0
+IsRefusalOfRules file (File e) = e ≡ read.OutOfMemory
+IsRefusalOfRules file (Rules place e) =
+    (taken : List ModeRule) × (KnowTheirParts file.parts.items file.rules.items taken × IsRulesError taken (length file.modes.items) e
+    × (place ≡ place_in file.rules.items e))
