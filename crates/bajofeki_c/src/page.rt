@@ -61,7 +61,7 @@ fn page_of(
     let names = rules.names();
     let mut painter = Painter::new(alloc, names)?;
     let mut page = String::new(alloc);
-    for item in rules.items_linear(alloc, text)? {
+    for item in rules.items(alloc, text)? {
         match item {
             Ok(item) => push_piece(&mut page, names, &mut painter, markup, &item)?,
             Err(error) => return Err(error),

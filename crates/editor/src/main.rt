@@ -94,7 +94,7 @@ fn check_place(text: &LexedText<'_>, at: usize) -> Result<()> {
 // Cuts the text from nothing, and compares.
 fn check(alloc: Global, text: &LexedText<'_>) -> Result<()> {
     let mut kept = text.pieces();
-    for item in text.lexer().items(alloc, text.text()) {
+    for item in text.lexer().items(alloc, text.text())? {
         let item = match item {
             Ok(item) => item,
             Err(error) => return Err(error.into()),

@@ -4,9 +4,9 @@ use Rattle.std.specs.Prelude.{Some, None, Result, Ok}
 use Rattle.std.specs.List.{list_all, AllPass}
 use Rattle.std.proofs.lemmas.Bool.{not-true}
 use Rattle.std.proofs.lemmas.List.Sums.{AllPass-from_list_all}
-use Rattle.lalrpop_lexer.specs.Cutting.{Cutting, rest_of}
+use Rattle.lalrpop_lexer.specs.Cutting.{Cutting, rest_of, start_of}
 use Rattle.lalrpop_lexer.specs.Dfa.{Row}
-use Rattle.lalrpop_lexer.specs.LexerTokens.{LexerCutting, lexer_start, CutsToken}
+use Rattle.lalrpop_lexer.specs.LexerTokens.{LexerCutting, CutsToken}
 use Rattle.lalrpop_lexer.specs.declared.Token.{Token}
 use Rattle.lalrpop_lexer.specs.declared.TokenFault.{TokenFault}
 use Rattle.lalrpop_lexer.proofs.Cuttings.{rest_behind}
@@ -37,12 +37,12 @@ pub record ShowsFront (shown text : List ℕ) (s : Cutting) : Type 0 where
   pub parts : text ≡ front ++ rest_of s
   pub going : s.is_over ≡ false
 
-pub front-start : (shown : List ℕ) (s r : LexerCutting) (d : List Row) (text : List ℕ) → shown ≡ [] → r ≡ s → s ≡ lexer_start d text None → ShowsFront shown text r.cutting
+pub front-start : (shown : List ℕ) (s r : LexerCutting) (d : List Row) (text : List ℕ) → shown ≡ [] → r ≡ s → s.cutting ≡ start_of d text → ShowsFront shown text r.cutting
 front-start shown s r d text none same e = record {
   front = [];
   shows = λ rest. ap (λ (l : List ℕ). without_marks (l ++ rest)) none;
-  parts = sym (ap (λ (x : LexerCutting). rest_of x.cutting) (same ∙ e));
-  going = ap (λ (x : LexerCutting). x.cutting.is_over) (same ∙ e);
+  parts = sym (ap (λ (x : LexerCutting). rest_of x.cutting) same ∙ ap rest_of e);
+  going = ap (λ (x : LexerCutting). x.cutting.is_over) same ∙ ap (λ (x : Cutting). x.is_over) e;
 }
 
 pub front-more : (old new text : List ℕ) (s t : Cutting) (x : Result Token TokenFault) (token : Token) → ShowsFront old text s → x ≡ Ok token → CutsToken s (Some x) t

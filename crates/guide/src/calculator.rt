@@ -4,11 +4,11 @@
 
 use anyhow::Result;
 use lalrpop_lexer::Position;
-use lalrpop_rules::{Item, Rule, OldRuleLexer};
+use lalrpop_rules::{Item, Rule, RuleLexer};
 use std::alloc::Global;
 use std::io::{self, Print};
 
-fn lexer(alloc: Global) -> Result<OldRuleLexer> {
+fn lexer(alloc: Global) -> Result<RuleLexer> {
     let rules = [
         // A keyword is a name too. Literals have precedence 1 and patterns 0, so the keyword wins.
         Rule::literal("LET", "let"),
@@ -18,7 +18,7 @@ fn lexer(alloc: Global) -> Result<OldRuleLexer> {
         Rule::pattern("SPACE", r"\s+").skipped(),
         Rule::pattern("COMMENT", r"#[^\n]*").skipped(),
     ];
-    Ok(OldRuleLexer::from_rules(alloc, &rules)?)
+    Ok(RuleLexer::of_one_mode(alloc, &rules)?)
 }
 
 // Writes the place of a piece of the text, its name and its characters.
@@ -30,15 +30,16 @@ fn show_piece(rt: &impl Print, text: &str, start: usize, name: &str, slice: &str
 }
 
 // Writes each token, and `!` for the name where no rule matches.
-fn show<'x>(rt: &impl Print, lexer: &'x OldRuleLexer, text: &'x str) -> Result<()> {
-    for item in lexer.items(text) {
+fn show<'x>(rt: &impl Print, alloc: Global, lexer: &'x RuleLexer, text: &'x str) -> Result<()> {
+    for item in lexer.items(alloc, text)? {
         match item {
-            Item::Token(token) => {
+            Ok(Item::Token(token)) => {
                 let name = lexer.name(token.index).unwrap_or("?");
                 show_piece(rt, text, token.start, name, token.slice)?;
             }
-            Item::Skipped(_) => {}
-            Item::Fault { start, slice } => show_piece(rt, text, start, "!", slice)?,
+            Ok(Item::Skipped(_)) => {}
+            Ok(Item::Fault { start, slice }) => show_piece(rt, text, start, "!", slice)?,
+            Err(error) => return Err(error.into()),
         }
     }
     Ok(())
@@ -49,5 +50,5 @@ pub fn main(rt: HostRuntime) -> Result<()> {
     let alloc = rt.alloc();
     let lexer = lexer(alloc)?;
     let text = io::read_to_string(alloc, rt.reader())?;
-    show(&rt, &lexer, &text)
+    show(&rt, alloc, &lexer, &text)
 }

@@ -41,7 +41,7 @@ fn show_piece(rt: &impl Print, text: &str, start: usize, kind: Kind, slice: &str
 
 // Writes each token. The stack of modes may need memory, so an item may be an error.
 fn show<'x>(rt: &impl Print, alloc: Global, lexer: &'x RuleLexer, text: &'x str) -> Result<()> {
-    for item in lexer.items(alloc, text) {
+    for item in lexer.items(alloc, text)? {
         match item {
             Ok(Item::Token(token)) => {
                 let kind = kind_of(lexer.name(token.index).unwrap_or(""));

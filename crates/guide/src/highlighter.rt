@@ -50,7 +50,7 @@ fn is_plain(slice: &str) -> bool
     slice.bytes().all(|byte| byte != 0x1b)
 }
 
-// The token, behind its mark.
+// The token, after its mark.
 fn push_marked(shown: &mut String, place: usize, slice: &str) -> Result<(), ShowError>
     ensures shows { OnOk result ((text : List ℕ) → Shows (string_bytes shown.old) text
         → Shows (string_bytes shown.new) (text ++ slice.now)) }
@@ -72,7 +72,7 @@ pub fn highlighted(alloc: Global, lexer: &Lexer, text: &str) -> Result<String, S
     ensures text { IfOk result (λ shown. without_marks (string_bytes shown) ≡ text.now) }
 {
     let mut shown = String::new(alloc);
-    for item in lexer.tokens(text) {
+    for item in lexer.tokens(alloc, text)? {
         match item {
             Ok(token) => push_marked(&mut shown, token.index.index(), token.slice)?,
             Err(fault) => return Err(ShowError::Fault { at: fault.at }),

@@ -15,7 +15,7 @@ pub fn main(rt: HostRuntime) -> Result<()> {
     ]?;
     let precedences = vec![in alloc; Precedence(1), Precedence(0)]?;
     let lexer = Lexer::new(alloc, regexs, precedences)?;
-    for item in lexer.tokens("if iffy!") {
+    for item in lexer.tokens(alloc, "if iffy!")? {
         match item {
             Ok(token) => println!(rt; "{} {:?}", token.index.index(), token.slice)?,
             Err(fault) => println!(rt; "{fault}")?,

@@ -9,7 +9,7 @@ use lalrpop_lexer::lexer::dfa::{
     DenseDfa, Dfa, DfaConstructionError, NfaIndex, Precedence, State, Witness, build_dfa,
 };
 use lalrpop_lexer::lexer::nfa::{self, Nfa, NfaConstructionError, Steps, Test};
-use lalrpop_lexer::{JoinError, Lexer, Token, TokenFault, TokenList};
+use lalrpop_lexer::{JoinError, Lexer, Token, TokenFault};
 use std::alloc::{AllocError, Global};
 use std::collections::BTreeSet;
 use std::env::{self, VarError};
@@ -385,41 +385,6 @@ fn lexer_for(alloc: Global, rows: &str) -> Result<Lexer, AllocError> {
     }
 }
 
-fn told_list(alloc: Global, list: &TokenList) -> Result<String, AllocError> {
-    let mut line = String::new(alloc);
-    for number in 0..list.ends.len() {
-        let index = list.ends.get(number).map_or(0, |end| end.index.index());
-        let part = format!(in alloc; "{index}")?;
-        add(&mut line, " ", part.as_str())?;
-    }
-    if let Some(fault) = &list.fault {
-        let at = fault.at;
-        let part = format!(in alloc; "fault {at}")?;
-        add(&mut line, " ", part.as_str())?;
-    }
-    Ok(line)
-}
-
-fn list_by(alloc: Global, lexer: &Lexer, text: &str) -> Result<String, AllocError> {
-    let list = lexer.token_list(alloc, text)?;
-    told_list(alloc, &list)
-}
-
-// The patterns of all tokens of the text in `PATTERNS <- TEXT`, and the place of the fault.
-pub(crate) fn listed(alloc: Global, row: &str) -> Result<String, AllocError> {
-    let (rows, text) = halves(row, " <- ");
-    let lexer = lexer_for(alloc, rows)?;
-    list_by(alloc, &lexer, text)
-}
-
-#[test]
-fn texts_are_cut_into_lists(rt: HostRuntime) {
-    let table = "\
-1 class / 0 [a-z]+ / 0  +|> <- class classes>a => 0 2 1 2 1
-1 class / 0 [a-z]+ / 0  +|> <- a 1 => 1 2 fault 2";
-    expect(&rt, rt.alloc(), Call::List, table, 2);
-}
-
 fn add_item(
     alloc: Global,
     line: &mut String,
@@ -432,28 +397,28 @@ fn add_item(
     add(line, " ", part.as_str())
 }
 
-fn linear_by(alloc: Global, lexer: &Lexer, text: &str) -> Result<String, AllocError> {
+fn cut_by(alloc: Global, lexer: &Lexer, text: &str) -> Result<String, AllocError> {
     let mut line = String::new(alloc);
-    for item in lexer.tokens_linear(alloc, text)? {
+    for item in lexer.tokens(alloc, text)? {
         add_item(alloc, &mut line, &item)?;
     }
     Ok(line)
 }
 
-// The same, cut in linear time.
-pub(crate) fn listed_linear(alloc: Global, row: &str) -> Result<String, AllocError> {
+// The patterns of all tokens of the text in `PATTERNS <- TEXT`, and the place of the fault.
+pub(crate) fn cut_up(alloc: Global, row: &str) -> Result<String, AllocError> {
     let (rows, text) = halves(row, " <- ");
     let lexer = lexer_for(alloc, rows)?;
-    linear_by(alloc, &lexer, text)
+    cut_by(alloc, &lexer, text)
 }
 
 #[test]
-fn texts_are_cut_in_linear_time(rt: HostRuntime) {
+fn texts_are_cut(rt: HostRuntime) {
     let table = "\
 0 a / 0 a*b <- aaab => 1
 0 a / 0 a*b <- aac => 0 0 fault 2
 0 a / 0 ab <- aabc => 0 1 fault 3";
-    expect(&rt, rt.alloc(), Call::Linear, table, 3);
+    expect(&rt, rt.alloc(), Call::Tokens, table, 3);
 }
 
 fn told_witness(
@@ -492,15 +457,30 @@ fn matches_are_left_open(rt: HostRuntime) {
     expect(&rt, rt.alloc(), Call::Witness, table, 3);
 }
 
+fn tokens_by<'text>(
+    alloc: Global,
+    lexer: &'text Lexer,
+    text: &'text str,
+) -> Result<Vec<Token<'text>>, AllocError> {
+    let mut tokens = Vec::new(alloc);
+    for item in lexer.tokens(alloc, text)? {
+        if let Ok(token) = item
+            && tokens.push(token).is_err()
+        {
+            return Err(AllocError);
+        }
+    }
+    Ok(tokens)
+}
+
 fn rejoined_by(alloc: Global, lexer: &Lexer, text: &str) -> Result<String, AllocError> {
-    let list = lexer.token_list(alloc, text)?;
+    let tokens = tokens_by(alloc, lexer, text)?;
     let neighbours = lexer.neighbours(alloc)?;
     let separator = Token {
         index: NfaIndex::new(2),
         slice: "_",
         start: 0,
     };
-    let tokens = list.tokens(text).collect::<Vec<Token>>(alloc)?;
     match neighbours.joined(alloc, &tokens, &separator) {
         Ok(text) => Ok(text),
         Err(JoinError::OutOfMemory) => Err(AllocError),

@@ -9,11 +9,11 @@ use std::alloc::{AllocError, Global};
 // The slices of the pieces of a text. A loop ends after an error. Then `next_item` goes on with the piece that was refused.
 fn slices<'x>(alloc: Global, lexer: &'x RuleLexer, text: &'x str) -> Result<String, AllocError> {
     let mut line = String::new(alloc);
-    let mut items = lexer.items(alloc, text);
+    let mut items = lexer.items(alloc, text)?;
     let mut is_refused = false;
     for item in items.by_ref() {
         match item {
-            Ok(_) if is_refused => return String::from_str(alloc, "a piece behind an error"),
+            Ok(_) if is_refused => return String::from_str(alloc, "a piece after an error"),
             Ok(item) => add(&mut line, " ", item.slice())?,
             Err(AllocError) => is_refused = true,
         }

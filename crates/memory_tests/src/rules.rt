@@ -5,7 +5,7 @@ use lalrpop_lexer::lexer::dfa::Precedence;
 use lalrpop_lexer::{Form, Lexer, LexerError};
 use lalrpop_markup::{ansi, html};
 use lalrpop_rule_file::{FileRule, RuleFileError, read_rules};
-use lalrpop_rules::{Item, Rule, OldRuleLexer, OldRulesError};
+use lalrpop_rules::{Item, Rule, RuleLexer, RulesError};
 use std::alloc::{AllocError, Global};
 
 // The pattern of `PRECEDENCE l TEXT` or `PRECEDENCE r PATTERN`.
@@ -66,55 +66,36 @@ fn rule_of(row: &str) -> Rule {
     }
 }
 
-fn rule_lexer_of(alloc: Global, rows: &str) -> Result<Result<OldRuleLexer, OldRulesError>, AllocError> {
+fn rule_lexer_of(
+    alloc: Global,
+    rows: &str,
+) -> Result<Result<RuleLexer, RulesError>, AllocError> {
     let mut rules = Vec::new(alloc);
     for row in rows.split(" / ") {
         rules.push(rule_of(row))?;
     }
-    Ok(OldRuleLexer::from_rules(alloc, &rules))
+    Ok(RuleLexer::of_one_mode(alloc, &rules))
 }
 
-fn told(alloc: Global, error: OldRulesError) -> Result<String, AllocError> {
+fn told(alloc: Global, error: RulesError) -> Result<String, AllocError> {
     match error {
-        OldRulesError::OutOfMemory => Err(AllocError),
+        RulesError::OutOfMemory => Err(AllocError),
         error => format!(in alloc; "{error}"),
     }
 }
 
-fn names_in(alloc: Global, lexer: &OldRuleLexer, text: &str) -> Result<String, AllocError> {
+fn names_in(alloc: Global, lexer: &RuleLexer, text: &str) -> Result<String, AllocError> {
     let mut line = String::new(alloc);
-    for item in lexer.items(text) {
-        if let Item::Token(token) = item {
-            add(&mut line, " ", lexer.name(token.index).unwrap_or("no name"))?;
+    for item in lexer.items(alloc, text)? {
+        match item {
+            Ok(Item::Token(token)) => {
+                add(&mut line, " ", lexer.name(token.index).unwrap_or("no name"))?;
+            }
+            Ok(_) => {}
+            Err(error) => return Err(error),
         }
     }
     Ok(line)
-}
-
-fn names_in_linear_time(
-    alloc: Global,
-    lexer: &OldRuleLexer,
-    text: &str,
-) -> Result<String, AllocError> {
-    let mut line = String::new(alloc);
-    for item in lexer.items_linear(alloc, text)? {
-        let name = match item {
-            Item::Token(token) => lexer.name(token.index).unwrap_or("no name"),
-            Item::Skipped(_) => "-",
-            Item::Fault { slice, .. } => slice,
-        };
-        add(&mut line, " ", name)?;
-    }
-    Ok(line)
-}
-
-// The names of all pieces of the text in `RULES <- TEXT`: `-` for a skipped piece, and for a fault its slice.
-pub(crate) fn named_in_linear_time(alloc: Global, row: &str) -> Result<String, AllocError> {
-    let (rows, text) = halves(row, " <- ");
-    match rule_lexer_of(alloc, rows)? {
-        Ok(lexer) => names_in_linear_time(alloc, &lexer, text),
-        Err(error) => told(alloc, error),
-    }
 }
 
 // The names of the tokens of the text in `RULES <- TEXT`, or why the rules have no lexer.
@@ -193,16 +174,9 @@ NOTE u # to ; / SPACE s \x20+ <- #a #; #; => NOTE NOTE
 NOTE u # to  <-  => the text of rule 0 has no tree: the end is empty
 IF c if / MARK e \\x21? / SPACE s \\x20+ <- iF !? IF => IF MARK IF
 A e a\\q <-  => the text of rule 0 does not parse: EscapeUnrecognized at byte 1
-A r a / B r [ab] <-  => rules 0 and 1 clash on \"a\"";
-    expect(&rt, rt.alloc(), Call::Rules, table, 7);
-}
-
-#[test]
-fn pieces_are_named_in_linear_time(rt: HostRuntime) {
-    let table = "\
-A r a / LONG r a*b / SPACE s \\x20+ <- aa  !!b?aab => A A - !! LONG ? LONG
-A r a / LONG r a*b <-  => ";
-    expect(&rt, rt.alloc(), Call::LinearRules, table, 2);
+A r a / B r [ab] <-  => in mode 0 rules 0 and 1 clash on \"a\"
+A r a / LONG r a*b / SPACE s \\x20+ <- aa  !!b?aab => A A LONG LONG";
+    expect(&rt, rt.alloc(), Call::Rules, table, 8);
 }
 
 #[test]

@@ -28,7 +28,7 @@ fn expect(rt: &impl Abort, alloc: Global, rows: &[(&[u8], &str, &str)]) {
 }
 
 #[test]
-fn literals_are_answered(rt: HostRuntime) {
+fn texts_are_answered(rt: HostRuntime) {
     expect(
         &rt,
         rt.alloc(),
@@ -39,36 +39,17 @@ fn literals_are_answered(rt: HostRuntime) {
             (b"0 l a\r\n", "a", "none, 1"),
             (b"18446744073709551615 l a\n", "a", "match 0 1, 0"),
             (b"00000000000000000000 l a\n", "a", "match 0 1, 0"),
-            (b"0 l a\n0 l a\n", "b", "ambiguous 1 0 61, 2"),
             (b"0 l \xc3\xa9\n", "\u{e9}!", "match 0 2, 0"),
             (b"0 l  a\n", " a", "match 0 2, 0"),
             (b"0 l (\n", "(", "match 0 1, 0"),
-            (b"01 l class\n0 l classic", "classz", "match 0 5, 0"),
-        ],
-    );
-}
-
-#[test]
-fn patterns_are_answered(rt: HostRuntime) {
-    expect(
-        &rt,
-        rt.alloc(),
-        &[
             (b"1 l class\n0 r [a-z]+\n", "classz", "match 1 6, 0"),
-            (b"0 r a\n", "a", "match 0 1, 0"),
             (b"0 r \n", "a", "none, 1"),
-            (b"0 r a\n0 r \\bb\n", "a", "refused 1 LookAround, 2"),
-            (
-                b"0 r [a-z]+\n0 r (?P<n>a)\n0 r b??\n",
-                "a",
-                "refused 1 NamedCaptures, 2",
-            ),
         ],
     );
 }
 
 #[test]
-fn clashes_are_answered_with_their_words(rt: HostRuntime) {
+fn clashes_and_refusals_are_answered(rt: HostRuntime) {
     expect(
         &rt,
         rt.alloc(),
@@ -86,18 +67,11 @@ fn clashes_are_answered_with_their_words(rt: HostRuntime) {
                 "a",
                 "ambiguous 3 2 62, 2",
             ),
-            (b"0 r b\n0 r b\n0 r a\n0 r a\n", "a", "ambiguous 3 2 61, 2"),
             (
-                b"0 r class\n0 r [a-zA-Z_][a-zA-Z0-9_]*\n",
+                b"0 r [a-z]+\n0 r (?P<n>a)\n0 r b??\n",
                 "a",
-                "ambiguous 1 0 63 6c 61 73 73, 2",
+                "refused 1 NamedCaptures, 2",
             ),
-            (
-                b"0 r .*\n0 r [-+]?[0-9]*\\.?[0-9]+\n",
-                "a",
-                "ambiguous 1 0 30, 2",
-            ),
-            (b"0 r [b-d]\n0 r [c-f]\n", "a", "ambiguous 1 0 63, 2"),
         ],
     );
 }
@@ -108,31 +82,14 @@ fn bad_lines_are_named(rt: HostRuntime) {
         &rt,
         rt.alloc(),
         &[
-            (b"x l a\n", "a", "line 0, 3"),
             (b"0 l a\n\n", "a", "line 1, 3"),
-            (b"\n", "a", "line 0, 3"),
             (b"18446744073709551616 l a\n", "a", "line 0, 3"),
             (b"000000000000000000000 l a\n", "a", "line 0, 3"),
             (b"+1 l a\n", "a", "line 0, 3"),
-            (b" 0 l a\n", "a", "line 0, 3"),
-            (b"0  l a\n", "a", "line 0, 3"),
             (b"0 l\n", "a", "line 0, 3"),
-            (b"0 q a\n", "a", "line 0, 3"),
-            (b"0 l \xff\n", "a", "line 0, 3"),
             (b"0 r \xff\n", "a", "line 0, 3"),
-        ],
-    );
-}
-
-#[test]
-fn the_first_line_that_is_no_terminal_decides(rt: HostRuntime) {
-    expect(
-        &rt,
-        rt.alloc(),
-        &[
             (b"0 r \\ba\n0 r (\n", "a", "syntax 1, 3"),
             (b"0 r (\n0 l a\nq\n", "a", "syntax 0, 3"),
-            (b"0 l a\n0 r (\n0 l \xff\n", "a", "syntax 1, 3"),
             (b"0 l a\nq\n0 r (\n", "a", "line 1, 3"),
             (b"0 l a\n0 l a\nq\n", "a", "line 2, 3"),
         ],

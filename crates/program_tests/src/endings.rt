@@ -1,6 +1,6 @@
 //! The program's arguments, and the statuses and messages that it ends with.
 
-use lexdfa_lib::{Ending, Failure, Outcome, RunError, Word, arguments};
+use lexdfa_lib::{Ending, Failure, Outcome, RunError, arguments};
 use std::alloc::{AllocError, Global};
 
 // The words of a text, with `|` between them.
@@ -72,37 +72,4 @@ fn endings_are_told(rt: HostRuntime) {
     assert!(rt; run_ends_with(RunError::Read, 6, "lexdfa: read failed\n"));
     assert!(rt; run_ends_with(RunError::Write, 6, "lexdfa: write failed\n"));
     assert!(rt; ends_with(Ok(Outcome::NoMatch), 1, None));
-}
-
-#[test]
-fn outcomes_are_compared_by_their_parts(rt: HostRuntime) {
-    let three = Outcome::Match {
-        terminal: 1,
-        bytes: 3,
-    };
-    let two = Outcome::Match {
-        terminal: 1,
-        bytes: 2,
-    };
-    assert!(rt; three == three);
-    assert!(rt; three != two);
-    assert!(rt; three != Outcome::NoMatch);
-}
-
-fn clash_at(alloc: Global, value: u32) -> Result<Outcome, AllocError> {
-    Ok(Outcome::Ambiguous {
-        match0: 1,
-        match1: 0,
-        word: Word::new(vec![in alloc; value]?),
-    })
-}
-
-fn clashes_differ_by_their_words(alloc: Global) -> Result<bool, AllocError> {
-    let (a, b) = (clash_at(alloc, 97)?, clash_at(alloc, 98)?);
-    Ok(a == clash_at(alloc, 97)? && a != b)
-}
-
-#[test]
-fn clashes_are_compared_by_their_words(rt: HostRuntime) {
-    assert!(rt; clashes_differ_by_their_words(rt.alloc()) == Ok(true));
 }

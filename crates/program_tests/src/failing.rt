@@ -6,7 +6,7 @@ use std::io;
 use std::io::{Read, Write};
 
 /// Errors after which others try again, and one after which nobody does.
-pub const KINDS: [io::ErrorKind; 3] = [
+pub(crate) const KINDS: [io::ErrorKind; 3] = [
     io::ErrorKind::Interrupted,
     io::ErrorKind::WouldBlock,
     io::ErrorKind::Other,
@@ -14,10 +14,10 @@ pub const KINDS: [io::ErrorKind; 3] = [
 
 /// Gives its bytes, then fails, and counts its calls.
 #[derive(Drop)]
-pub struct FailsAtEnd<'a> {
-    pub left: &'a [u8],
-    pub kind: io::ErrorKind,
-    pub calls: usize,
+pub(crate) struct FailsAtEnd<'a> {
+    pub(crate) left: &'a [u8],
+    pub(crate) kind: io::ErrorKind,
+    pub(crate) calls: usize,
 }
 
 impl<'a> Read for FailsAtEnd<'a> {
@@ -33,17 +33,17 @@ impl<'a> Read for FailsAtEnd<'a> {
 /// Takes one byte a call while it has room, then fails, and counts its calls and its flushes. With no kind of error it fails
 /// by taking nothing.
 #[derive(Drop)]
-pub struct FailsAfter {
-    pub taken: Vec<u8>,
-    pub room: usize,
-    pub kind: Option<io::ErrorKind>,
-    pub calls: usize,
-    pub flushes: usize,
+pub(crate) struct FailsAfter {
+    pub(crate) taken: Vec<u8>,
+    pub(crate) room: usize,
+    pub(crate) kind: Option<io::ErrorKind>,
+    pub(crate) calls: usize,
+    pub(crate) flushes: usize,
 }
 
 impl FailsAfter {
     /// Has room for this many bytes.
-    pub fn new(alloc: Global, room: usize, kind: Option<io::ErrorKind>) -> FailsAfter
+    pub(crate) fn new(alloc: Global, room: usize, kind: Option<io::ErrorKind>) -> FailsAfter
         ensures room { result.room ≡ room }
     {
         FailsAfter {

@@ -1,9 +1,6 @@
 //! What the tests of more than one module use.
 ghost use Rattle.std.specs.Prelude.{◌≡◌, false};
 
-use lalrpop_lexer::lexer::dfa::Precedence;
-use lalrpop_lexer::lexer::re::Regex;
-use lalrpop_lexer::{Terminals, read_terminals};
 use lexdfa_lib::{Outcome, RunError, Watched, run, run_all};
 use std::alloc::Global;
 use std::io::{Read, Write};
@@ -11,19 +8,6 @@ use std::process::Abort;
 
 pub(crate) fn expect_same(rt: &impl Abort, found: &str, wanted: &str) {
     assert_eq!(rt; found, wanted);
-}
-
-// The trees and the precedences of lines of terminals.
-pub(crate) fn terminals(alloc: Global, lines: &[u8]) -> Option<(Vec<Regex>, Vec<Precedence>)> {
-    match read_terminals(alloc, lines) {
-        Ok(
-            Terminals::All {
-                regexs,
-                precedences,
-            },
-        ) => Some((regexs, precedences)),
-        _ => None,
-    }
 }
 
 // A run that finds the longest match, or one that cuts all of the text.

@@ -1,8 +1,8 @@
 //! Files of rules, and what is wrong with them.
 
 use crate::rules::{expect, halves};
-use lalrpop_rules::{RuleLexer, RulesError};
 use lalrpop_rule_file::{FileRule, RuleFile, RuleFileError, read_rules};
+use lalrpop_rules::{RuleLexer, RulesError};
 use std::alloc::{AllocError, Global};
 
 const FILE: &[u8] = b"# Names, and what is between them\r
@@ -365,9 +365,9 @@ fn rules_know_the_parts_above_them(rt: HostRuntime) {
 }
 
 // The slices of the pieces of a text.
-fn slices<'x>(alloc: Global, lexer: &'x RuleLexer, text: &'x str) -> Result<String, AllocError> {
+fn slices(alloc: Global, lexer: &RuleLexer, text: &str) -> Result<String, AllocError> {
     let mut line = String::new(alloc);
-    for item in lexer.items(alloc, text) {
+    for item in lexer.items(alloc, text)? {
         match item {
             Ok(item) => line.push_str(&format!(in alloc; "{:?} ", item.slice())?)?,
             Err(error) => return Err(error),
@@ -376,6 +376,7 @@ fn slices<'x>(alloc: Global, lexer: &'x RuleLexer, text: &'x str) -> Result<Stri
     Ok(line)
 }
 
+// The pieces of a text that is cut by the rules of a file, or why they give no lexer.
 fn cut_by(alloc: Global, file: &RuleFile, text: &str) -> Result<String, AllocError> {
     let rules = file.mode_rules(alloc)?;
     let modes = file.modes.len();
@@ -384,34 +385,14 @@ fn cut_by(alloc: Global, file: &RuleFile, text: &str) -> Result<String, AllocErr
     }
     match RuleLexer::from_rules(alloc, &rules, modes) {
         Ok(lexer) => slices(alloc, &lexer, text),
-        Err(_) => Err(AllocError),
+        Err(RulesError::OutOfMemory) => Err(AllocError),
+        Err(error) => format!(in alloc; "{error}"),
     }
 }
 
 fn pieces(alloc: Global, bytes: &[u8], text: &str) -> Result<String, AllocError> {
     match read_rules(alloc, bytes) {
         Ok(file) => cut_by(alloc, &file, text),
-        Err(_) => Err(AllocError),
-    }
-}
-
-fn refusal(alloc: Global, file: &RuleFile) -> Result<String, AllocError> {
-    let rules = file.mode_rules(alloc)?;
-    let modes = file.modes.len();
-    if modes == 0 {
-        return Err(AllocError);
-    }
-    match RuleLexer::from_rules(alloc, &rules, modes) {
-        Ok(_) => String::from_str(alloc, "none"),
-        Err(RulesError::OutOfMemory) => Err(AllocError),
-        Err(error) => format!(in alloc; "{error}"),
-    }
-}
-
-// Why the rules of a file give no lexer.
-fn refused_by_the_lexer(alloc: Global, bytes: &[u8]) -> Result<String, AllocError> {
-    match read_rules(alloc, bytes) {
-        Ok(file) => refusal(alloc, &file),
         Err(_) => Err(AllocError),
     }
 }
@@ -452,19 +433,19 @@ fn rules_are_refused_by_the_lexer(rt: HostRuntime) {
             b"Q part = /q/\nA = /a{P}/",
             "the text of rule 0 does not parse: PartUnknown at byte 1",
         ),
-        (b"P part = /p/\nA = /a{P}/", "none"),
+        (b"P part = /p/\nA = /a{P}/", ""),
         (
             b"A = 'a'\nB = \"\xc3\xa9\\q\"",
             "the text of rule 1 does not parse: EscapeUnrecognized at byte 2",
         ),
-        (b"A = \"\\x41\"", "none"),
+        (b"A = \"\\x41\"", ""),
         (
             b"A = /a/\nB = anycase 'A'\nC = 1 /(?i)a/",
             "in mode 0 rules 1 and 2 clash on \"A\"",
         ),
     ];
     for (bytes, wanted) in rows {
-        expect(&rt, refused_by_the_lexer(rt.alloc(), bytes), wanted);
+        expect(&rt, pieces(rt.alloc(), bytes, ""), wanted);
     }
 }
 

@@ -1,8 +1,8 @@
 //! Texts that are shown by named rules: as HTML, and in the colours of a terminal.
 
-use crate::rules::{expect, halves, lexer_from, rule_lexer};
+use crate::rules::{expect, given, halves, rule_lexer};
 use lalrpop_markup::{ansi, html};
-use lalrpop_rules::Rule;
+use lalrpop_rules::{Rule, RuleLexer};
 use std::alloc::{AllocError, Global};
 
 const SHOWN: &str = r#"
@@ -62,7 +62,7 @@ fn in_seven_colours(alloc: Global, text: &str) -> Result<String, AllocError> {
         Rule::literal("E", "f"),
         Rule::literal("F", "g"),
     ];
-    let lexer = lexer_from(alloc, &rules)?;
+    let lexer = given(RuleLexer::of_one_mode(alloc, &rules))?;
     ansi(alloc, &lexer, text)
 }
 

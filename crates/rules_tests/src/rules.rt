@@ -1,9 +1,6 @@
-//! Lexers of named rules, what is expected of them, and rules that are refused.
+//! Lexers of named rules, the kinds and the forms of rules, and rules that are refused.
 
-use lalrpop_lexer::Lexer;
-use lalrpop_lexer::lexer::dfa::Precedence;
-use lalrpop_lexer::lexer::re::{Regex, RegexError, parse_literal, parse_regex};
-use lalrpop_rules::{Item, Rule, OldRuleLexer};
+use lalrpop_rules::{Action, Item, ModeRule, Rule, RuleLexer, RulesError};
 use std::alloc::{AllocError, Global};
 use std::process::Abort;
 
@@ -18,45 +15,25 @@ pub(crate) fn halves<'a>(row: &'a str, between: &str) -> (&'a str, &'a str) {
     row.split_once(between).unwrap_or((row, ""))
 }
 
-// A keyword, names, spaces, and an operator.
-fn words(alloc: Global) -> Result<Vec<Regex>, RegexError> {
-    let keyword = parse_literal(alloc, "if")?;
-    let name = parse_regex(alloc, "[a-z]+")?;
-    let space = parse_regex(alloc, " +")?;
-    let operator = parse_literal(alloc, "==")?;
-    Ok(vec![in alloc; keyword, name, space, operator]?)
-}
-
-fn lexer_of(alloc: Global, regexs: Vec<Regex>) -> Result<Lexer, AllocError> {
-    let precedences = vec![in alloc; Precedence(1), Precedence(0), Precedence(0), Precedence(0)]?;
-    if regexs.len() != precedences.len() {
-        return Err(AllocError);
-    }
-    match Lexer::new(alloc, regexs, precedences) {
+/// The lexer, or why there is none. Here and below any error but this one is reported as out of memory, which ends a test.
+pub(crate) fn given(made: Result<RuleLexer, RulesError>) -> Result<RuleLexer, AllocError> {
+    match made {
         Ok(lexer) => Ok(lexer),
         Err(_) => Err(AllocError),
     }
 }
 
-/// A keyword, which is stronger than names; names; spaces; and an operator. Here and below any error is reported as out of memory,
-/// which ends a test.
-pub(crate) fn word_lexer(alloc: Global) -> Result<Lexer, AllocError> {
-    match words(alloc) {
-        Ok(regexs) => lexer_of(alloc, regexs),
-        Err(_) => Err(AllocError),
-    }
-}
-
-/// The lexer of the rules.
-pub(crate) fn lexer_from(alloc: Global, rules: &[Rule]) -> Result<OldRuleLexer, AllocError> {
-    match OldRuleLexer::from_rules(alloc, rules) {
-        Ok(lexer) => Ok(lexer),
-        Err(_) => Err(AllocError),
+/// The rule in mode 0, without actions.
+pub(crate) fn plain<'text>(rule: Rule<'text>) -> ModeRule<'text> {
+    ModeRule {
+        rule,
+        modes: &[0],
+        actions: &[],
     }
 }
 
 /// A keyword, names, spaces, which are skipped, operators, and comments. A comment stays open for as long as it isn't closed.
-pub(crate) fn rule_lexer(alloc: Global) -> Result<OldRuleLexer, AllocError> {
+pub(crate) fn rule_lexer(alloc: Global) -> Result<RuleLexer, AllocError> {
     let rules = [
         Rule::literal("IF", "if"),
         Rule::pattern("NAME", "[a-z]+"),
@@ -66,11 +43,11 @@ pub(crate) fn rule_lexer(alloc: Global) -> Result<OldRuleLexer, AllocError> {
         Rule::literal("STAR", "*"),
         Rule::pattern("COMMENT", r"/\*([^*]|\*+[^*/])*\*+/"),
     ];
-    lexer_from(alloc, &rules)
+    given(RuleLexer::of_one_mode(alloc, &rules))
 }
 
 /// A piece, with the name of its rule and its place.
-pub(crate) fn shown(alloc: Global, lexer: &OldRuleLexer, item: &Item) -> Result<String, AllocError> {
+pub(crate) fn shown(alloc: Global, lexer: &RuleLexer, item: &Item) -> Result<String, AllocError> {
     let slice = item.slice();
     let start = item.start();
     match item {
@@ -86,26 +63,41 @@ pub(crate) fn shown(alloc: Global, lexer: &OldRuleLexer, item: &Item) -> Result<
     }
 }
 
-const REFUSED: &str = r#"
-b => none
-[a-c] => rules 0 and 1 clash on "a"
-(b => the text of rule 1 does not parse: UnclosedGroup at byte 0
-b*? => rule 1 can't be compiled: NonGreedy
-"#;
+/// The pieces of a text.
+pub(crate) fn pieces(alloc: Global, lexer: &RuleLexer, text: &str) -> Result<String, AllocError> {
+    let mut line = String::new(alloc);
+    for item in lexer.items(alloc, text)? {
+        match item {
+            Ok(item) => line.push_str(&shown(alloc, lexer, &item)?)?,
+            Err(error) => return Err(error),
+        }
+    }
+    Ok(line)
+}
 
-// The error of two rules, whose patterns are `a` and the text.
-fn refused(alloc: Global, text: &str) -> Result<String, AllocError> {
-    match OldRuleLexer::from_rules(
-        alloc,
-        &[Rule::pattern("A", "a"), Rule::pattern("OTHER", text)],
-    ) {
-        Ok(_) => String::from_str(alloc, "none"),
-        Err(error) => format!(in alloc; "{error}"),
+// The number of a piece's rule.
+fn number(alloc: Global, item: &Item) -> Result<String, AllocError> {
+    match item {
+        Item::Token(token) => format!(in alloc; "{} ", token.index.index()),
+        Item::Skipped(token) => format!(in alloc; "({}) ", token.index.index()),
+        Item::Fault { .. } => String::from_str(alloc, "! "),
     }
 }
 
-// The index and the slice of each token of a text, by numbers of three forms and by words.
-fn indices(alloc: Global, text: &str) -> Result<String, AllocError> {
+// The numbers of the rules of a text's pieces.
+fn numbers(alloc: Global, lexer: &RuleLexer, text: &str) -> Result<String, AllocError> {
+    let mut line = String::new(alloc);
+    for item in lexer.items(alloc, text)? {
+        match item {
+            Ok(item) => line.push_str(&number(alloc, &item)?)?,
+            Err(error) => return Err(error),
+        }
+    }
+    Ok(line)
+}
+
+// Numbers of three forms, words, and spaces of two.
+fn by_kinds(alloc: Global, text: &str) -> Result<String, AllocError> {
     let rules = [
         Rule::pattern("NUMBER", "[0-9]+"),
         Rule::literal("IF", "if"),
@@ -114,39 +106,48 @@ fn indices(alloc: Global, text: &str) -> Result<String, AllocError> {
         Rule::pattern("NUMBER", "0x[0-9a-f]+"),
         Rule::pattern("SPACE", "\\t+").skipped(),
     ];
-    let lexer = lexer_from(alloc, &rules)?;
-    let mut line = String::new(alloc);
-    for item in lexer.items(text) {
-        match item {
-            Item::Token(token) => {
-                line.push_str(&format!(in alloc; "{} {}, ", token.index.index(), token.slice)?)?;
-            }
-            Item::Skipped(token) => {
-                line.push_str(&format!(in alloc; "({}), ", token.index.index())?)?;
-            }
-            Item::Fault { .. } => line.push_str("!, ")?,
-        }
-    }
-    Ok(line)
+    let lexer = given(RuleLexer::of_one_mode(alloc, &rules))?;
+    numbers(alloc, &lexer, text)
+}
+
+// In mode 1 a word is a word of both forms, and in mode 0 only of the second.
+fn by_kinds_in_modes(alloc: Global, text: &str) -> Result<String, AllocError> {
+    let rules = [
+        ModeRule {
+            rule: Rule::pattern("WORD", "[a-z]+"),
+            modes: &[1],
+            actions: &[],
+        },
+        ModeRule {
+            rule: Rule::literal("IN", "<"),
+            modes: &[0],
+            actions: &[Action::Push(1)],
+        },
+        ModeRule {
+            rule: Rule::pattern("WORD", "[a-c]+|[0-9]+"),
+            modes: &[0, 1],
+            actions: &[],
+        },
+    ];
+    let lexer = given(RuleLexer::from_rules(alloc, &rules, 2))?;
+    numbers(alloc, &lexer, text)
 }
 
 #[test]
 fn rules_of_one_name_are_one_kind(rt: HostRuntime) {
-    let wanted = "0 12, (3), 0 1f, (3), 0 0x1f, (3), 1 if, (3), 0 ff, ";
-    expect(&rt, indices(rt.alloc(), "12 1f\t0x1f if ff"), wanted);
+    let alloc = rt.alloc();
+    let wanted = "0 (3) 0 (3) 0 (3) 1 (3) 0 ";
+    expect(&rt, by_kinds(alloc, "12 1f\t0x1f if ff"), wanted);
+    expect(&rt, by_kinds_in_modes(alloc, "abc<abc12"), "2 1 0 0 ");
 }
 
 // The pieces of a text that is cut by the rules, or why they give no lexer.
 fn cut_by(alloc: Global, rules: &[Rule], text: &str) -> Result<String, AllocError> {
-    let lexer = match OldRuleLexer::from_rules(alloc, rules) {
-        Ok(lexer) => lexer,
-        Err(error) => return format!(in alloc; "{error}"),
-    };
-    let mut line = String::new(alloc);
-    for item in lexer.items(text) {
-        line.push_str(&shown(alloc, &lexer, &item)?)?;
+    match RuleLexer::of_one_mode(alloc, rules) {
+        Ok(lexer) => pieces(alloc, &lexer, text),
+        Err(RulesError::OutOfMemory) => Err(AllocError),
+        Err(error) => format!(in alloc; "{error}"),
     }
-    Ok(line)
 }
 
 // By names and by what is from `/*` to the text.
@@ -156,6 +157,21 @@ fn with_comments(alloc: Global, to: &str, text: &str) -> Result<String, AllocErr
         Rule::from_to("COMMENT", "/*", to).skipped(),
     ];
     cut_by(alloc, &rules, text)
+}
+
+const COMMENTS: &str = r#"
+*/ => a/* b **/c*/ => NAME "a" 0, (COMMENT "/* b **/" 1), NAME "c" 9, ! "*/" 10, 
+*/ => /*/ => ! "/*/" 0, 
+ => a => the text of rule 1 has no tree: the end is empty
+"#;
+
+#[test]
+fn comments_end_at_the_first_end(rt: HostRuntime) {
+    for row in COMMENTS.trim_matches('\n').lines() {
+        let (to, rest) = halves(row, " => ");
+        let (text, wanted) = halves(rest, " => ");
+        expect(&rt, with_comments(rt.alloc(), to, text), wanted);
+    }
 }
 
 // By names, by a keyword in any case, and by a literal with escapes.
@@ -184,25 +200,23 @@ fn literals_have_escapes_and_any_case(rt: HostRuntime) {
     }
 }
 
-const COMMENTS: &str = r#"
-*/ => a/* b **/c*/ => NAME "a" 0, (COMMENT "/* b **/" 1), NAME "c" 9, ! "*/" 10, 
-*/ => /*/ => ! "/*/" 0, 
- => a => the text of rule 1 has no tree: the end is empty
-"#;
-
-#[test]
-fn comments_end_at_the_first_end(rt: HostRuntime) {
-    for row in COMMENTS.trim_matches('\n').lines() {
-        let (to, rest) = halves(row, " => ");
-        let (text, wanted) = halves(rest, " => ");
-        expect(&rt, with_comments(rt.alloc(), to, text), wanted);
-    }
+// By two rules, whose patterns are `a` and the text.
+fn with_pattern(alloc: Global, text: &str) -> Result<String, AllocError> {
+    let rules = [Rule::pattern("A", "a"), Rule::pattern("OTHER", text)];
+    cut_by(alloc, &rules, "")
 }
+
+const REFUSED: &str = r#"
+b => 
+[a-c] => in mode 0 rules 0 and 1 clash on "a"
+(b => the text of rule 1 does not parse: UnclosedGroup at byte 0
+b*? => rule 1 can't be compiled: NonGreedy
+"#;
 
 #[test]
 fn rules_are_refused(rt: HostRuntime) {
     for row in REFUSED.trim_matches('\n').lines() {
         let (text, wanted) = halves(row, " => ");
-        expect(&rt, refused(rt.alloc(), text), wanted);
+        expect(&rt, with_pattern(rt.alloc(), text), wanted);
     }
 }

@@ -2,7 +2,7 @@ use Rattle.guide.proofs.ShowLemmas.{front-start, front-more, front-whole}
 use Rattle.guide.proofs.highlighter.highlighted.Goals as goal
 
 pub loop-item-init : goal.loop-item-init
-loop-item-init c = front-start _ _ _ _ c.args.text.now c.new-shown.ensures.bytes c.into_iter-item-iterator.ensures.into_iter_gives c.tokens-item-items.ensures.start
+loop-item-init c = front-start _ _ _ _ c.args.text.now c.new-shown.ensures.bytes c.into_iter-item-iterator.ensures.into_iter_gives c.in_ok-item-items.ensures.start.0
 
 pub loop-item-preserved : goal.loop-item-preserved
 loop-item-preserved c =

@@ -1,0 +1,119 @@
+//! Whole texts that are cut into tokens.
+
+use crate::built::{expect, halves};
+use crate::lookaheads::lexer_of;
+use lalrpop_lexer::{Lexer, Token, TokenFault};
+use std::alloc::{AllocError, Global};
+
+fn shown(alloc: Global, item: &Result<Token, TokenFault>) -> Result<String, AllocError> {
+    match item {
+        Ok(token) => {
+            let index = token.index.index();
+            let slice = token.slice;
+            let start = token.start;
+            format!(in alloc; "{index} {slice} {start}, ")
+        }
+        Err(fault) => format!(in alloc; "{fault}, "),
+    }
+}
+
+fn way_of(lexer: &Lexer) -> &'static str {
+    match lexer.lookahead() {
+        Some(_) => "looking: ",
+        None => "remembering: ",
+    }
+}
+
+// The way, what the calls of `next` return, and the first two `None`.
+fn cut(alloc: Global, argument: &str) -> Result<String, AllocError> {
+    let (words, text) = halves(argument, " <- ");
+    let lexer = lexer_of(alloc, words)?;
+    let mut line = String::from_str(alloc, way_of(&lexer))?;
+    let mut items = lexer.tokens(alloc, text)?;
+    for item in items.by_ref() {
+        line.push_str(&shown(alloc, &item)?)?;
+    }
+    line.push_str(&format!(in alloc; "None, {:?}", items.next())?)?;
+    Ok(line)
+}
+
+// Patterns, the stronger before the weaker, a text, whether anything bounds the lookahead, and what the text is cut into.
+const CUT: &str = r"
+'class' [a-zA-Z_]+ \x20+ '>>' '>' <- class Foo>>> => looking: 0 class 0, 2   5, 1 Foo 6, 3 >> 9, 4 > 11, None, None
+'class' [a-zA-Z_]+ <- é => looking: no pattern matches at byte 0, None, None
+'a' ab <-  => looking: None, None
+a* <- b => looking: no pattern matches at byte 0, None, None
+ <- b => looking: no pattern matches at byte 0, None, None
+'a' 'abcd' <- aabcdabc => looking: 0 a 0, 1 abcd 1, 0 a 5, no pattern matches at byte 6, None, None
+'m' ma*[a&&b] <- maa => looking: 0 m 0, no pattern matches at byte 1, None, None
+'a' a*b <- aac => remembering: 0 a 0, 0 a 1, no pattern matches at byte 2, None, None
+'a' a*b <- aab => remembering: 1 aab 0, None, None
+é é*b <- éé => remembering: 0 é 0, 0 é 2, None, None
+";
+
+#[test]
+fn texts_are_cut(rt: HostRuntime) {
+    for row in CUT.trim_matches('\n').lines() {
+        let (argument, wanted) = halves(row, " => ");
+        expect(&rt, cut(rt.alloc(), argument), wanted);
+    }
+}
+
+// How many tokens of each pattern there are before the fault, and where the fault is, if there is one.
+fn counts(alloc: Global, words: &str, text: &str) -> Result<String, AllocError> {
+    let lexer = lexer_of(alloc, words)?;
+    let mut counts = vec![in alloc; 0usize; 4]?;
+    let mut end = String::new(alloc);
+    for item in lexer.tokens(alloc, text)? {
+        match item {
+            Ok(token) => {
+                if let Some(count) = counts.get_mut(token.index.index()) {
+                    *count = count.wrapping_add(1);
+                }
+            }
+            Err(fault) => end = format!(in alloc; "{fault}")?,
+        }
+    }
+    let counts = counts.as_slice();
+    format!(in alloc; "{counts:?} {end}")
+}
+
+// For the patterns, and a text of `count` parts and an end.
+fn counted(
+    alloc: Global,
+    words: &str,
+    part: &str,
+    count: usize,
+    end: &str,
+) -> Result<String, AllocError> {
+    let mut text = part.repeat(alloc, count)?;
+    text.push_str(end)?;
+    counts(alloc, words, &text)
+}
+
+// Patterns, a part of a text, its end, and the answer. Much is read in vain; where one run came to nothing, another goes on.
+const REPEATED: [(&str, &str, &str, &str); 5] = [
+    ("'a' a*b", "a", "b", "[0, 1, 0, 0] "),
+    (
+        "'a' a*b c",
+        "a",
+        "cc.",
+        "[40000, 0, 2, 0] no pattern matches at byte 40002",
+    ),
+    ("é é*😀", "é", "", "[40000, 0, 0, 0] "),
+    ("'a' 'b' a[ab]*c b[ab]*d", "ab", "d", "[1, 0, 0, 1] "),
+    // A comment that is never closed.
+    (
+        r"'/' '*' 'x' /\*([^*]|\*+[^*/])*\*+/",
+        "/*x",
+        "",
+        "[40000, 40000, 40000, 0] ",
+    ),
+];
+
+#[test]
+fn long_texts_are_cut_in_linear_time(rt: HostRuntime) {
+    for (words, part, end, wanted) in REPEATED {
+        expect(&rt, counted(rt.alloc(), words, part, 40_000, end), wanted);
+    }
+}

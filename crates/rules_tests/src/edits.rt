@@ -1,0 +1,104 @@
+//! What an edit changes of the pieces of a text, and a text that comes as bytes, in chunks.
+
+use crate::rules::{expect, given, plain};
+use lalrpop_edits::{LexedText, TextDecoder};
+use lalrpop_rules::{Action, ModeRule, Rule, RuleLexer};
+use std::alloc::{AllocError, Global};
+
+// Words with spaces between them, and comments, in which each character is a piece.
+fn words_and_comments(alloc: Global) -> Result<RuleLexer, AllocError> {
+    let rules = [
+        plain(Rule::pattern("WORD", "[a-zä]+")),
+        plain(Rule::pattern("SPACE", " +").skipped()),
+        ModeRule {
+            rule: Rule::literal("OPEN", "<"),
+            modes: &[0],
+            actions: &[Action::Push(1)],
+        },
+        ModeRule {
+            rule: Rule::literal("CLOSE", ">"),
+            modes: &[1],
+            actions: &[Action::Pop],
+        },
+        ModeRule {
+            rule: Rule::pattern("INSIDE", "[^>]"),
+            modes: &[1],
+            actions: &[],
+        },
+    ];
+    given(RuleLexer::from_rules(alloc, &rules, 2))
+}
+
+// What becomes of the text if these bytes are replaced by the new text.
+fn changed(
+    alloc: Global,
+    text: &str,
+    start: usize,
+    end: usize,
+    new: &str,
+) -> Result<String, AllocError> {
+    let lexer = words_and_comments(alloc)?;
+    let Ok(mut lexed) = LexedText::new(alloc, &lexer, text) else {
+        return Err(AllocError);
+    };
+    match lexed.edit(alloc, start..end, new) {
+        Ok(change) => format!(in alloc; "{change:?}"),
+        Err(error) => format!(in alloc; "{error:?}"),
+    }
+}
+
+// Outside of a comment `>` is a fault. What depends on the second byte is cut anew, up to where the comment ends.
+const CHANGES: [(&str, usize, usize, &str, &str); 4] = [
+    (
+        "ab cd ef",
+        4,
+        4,
+        "x",
+        "Change { first: 2, removed: 1, inserted: 1, start: 3, old_end: 5, new_end: 6 }",
+    ),
+    (
+        "ab cd> ef",
+        2,
+        3,
+        "<",
+        "Change { first: 0, removed: 4, inserted: 5, start: 0, old_end: 6, new_end: 6 }",
+    ),
+    ("bäb", 2, 2, "c", "NoBoundary"),
+    ("bäb", 3, 1, "c", "NoBoundary"),
+];
+
+#[test]
+fn edits_change_what_depends_on_them(rt: HostRuntime) {
+    for (text, start, end, new, wanted) in CHANGES {
+        expect(&rt, changed(rt.alloc(), text, start, end, new), wanted);
+    }
+}
+
+// For each chunk the text that it gives, and what is begun.
+fn decoded(alloc: Global, chunks: &[&[u8]]) -> Result<String, AllocError> {
+    let mut decoder = TextDecoder::new(alloc);
+    let mut line = String::new(alloc);
+    for chunk in chunks {
+        let text = decoder.decode(alloc, *chunk)?;
+        let begun = decoder.begun();
+        write!(line, "{text} {begun:?} ")?;
+    }
+    if decoder.is_broken() {
+        line.push_str("broken")?;
+    }
+    Ok(line)
+}
+
+// By tables 3-6 and 3-7 of the Unicode Standard: U+00E4 is C3 A4, U+20AC is E2 82 AC, and FF is in no character.
+#[test]
+fn characters_may_come_in_chunks(rt: HostRuntime) {
+    let rows: [(&[&[u8]], &str); 4] = [
+        (&[b"a\xc3", b"\xa4b"], "a [195] äb [] "),
+        (&[b"\xe2", b"\x82", b"\xac"], " [226]  [226, 130] € [] "),
+        (&[b"ab\xffc", b"d"], "ab []  [] broken"),
+        (&[b"a\xc3", b"b"], "a [195]  [195] broken"),
+    ];
+    for (chunks, wanted) in rows {
+        expect(&rt, decoded(rt.alloc(), chunks), wanted);
+    }
+}

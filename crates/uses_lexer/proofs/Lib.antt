@@ -1,8 +1,0 @@
-mod Counting
-mod EditCosts
-mod Edits
-mod Joining
-mod ModePieces
-mod Pages
-mod ReadFiles
-mod Tokens

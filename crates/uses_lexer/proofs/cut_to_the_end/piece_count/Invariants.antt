@@ -1,6 +1,0 @@
-use Rattle.std.proofs.Common.{◌≡◌, length}
-use Rattle.uses_lexer.proofs.cut_to_the_end.piece_count.Given as goal
-
--- the number of pieces so far
-abbrev pub invariant-loop-piece : goal.invariant-loop-piece
-invariant-loop-piece l = l.count ≡ length l.yielded

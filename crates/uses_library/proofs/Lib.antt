@@ -1,0 +1,9 @@
+mod Counted
+mod Counting
+mod EditCosts
+mod Edits
+mod Joining
+mod ModePieces
+mod Pages
+mod ReadFiles
+mod Tokens
