@@ -5,7 +5,7 @@ use Rattle.std.specs.List.{list_any, starts_with}
 use Rattle.std.specs.Str.{bytes_eq}
 use Rattle.reports_lib.specs.declared.layout.LineForm.TheVariants.{Plain, Json}
 use Rattle.tokens_lib.specs.declared.command.Action.{Action}
-use Rattle.tokens_lib.specs.declared.command.Action.TheVariants.{Cut, Show, CutByTerminals, Clashes, TerminalClashes, Emit, Picture, Check, Difference}
+use Rattle.tokens_lib.specs.declared.command.Action.TheVariants.{Cut, Show, Clashes, Emit, Picture, Check, Difference}
 use Rattle.tokens_lib.specs.declared.command.ArgumentsError.{ArgumentsError}
 use Rattle.tokens_lib.specs.declared.command.ArgumentsError.TheVariants.{Unknown, NoRules, Apart, NoFiles, NoOther}
 use Rattle.tokens_lib.specs.declared.command.Command.{Command}
@@ -23,10 +23,7 @@ options_of (Cut Json false) = codes "--json" ∷ []
 options_of (Cut Json true) = codes "--recover" ∷ codes "--json" ∷ []
 options_of (Show Html) = codes "--html" ∷ []
 options_of (Show Ansi) = codes "--ansi" ∷ []
-options_of (CutByTerminals false) = codes "--lines" ∷ []
-options_of (CutByTerminals true) = codes "--lines" ∷ codes "--places" ∷ []
 options_of Clashes = codes "--clashes" ∷ []
-options_of TerminalClashes = codes "--lines" ∷ codes "--clashes" ∷ []
 options_of (Emit (C None)) = codes "--emit=c" ∷ []
 options_of (Emit (C (Some prefix))) = codes "--emit=c" ∷ (codes "--prefix=" ++ prefix.now) ∷ []
 options_of (Emit Rust) = codes "--emit=rust" ∷ []
@@ -38,7 +35,6 @@ options_of Difference = codes "--diff" ∷ []
 -- how many names at most stand behind RULES where no FILE is read: a rule for --dot, the other rules for --diff, none for others
 abbrev pub most_names : Action → Option ℕ
 most_names Clashes = Some 0
-most_names TerminalClashes = Some 0
 most_names (Emit language) = Some 0
 most_names Picture = Some 1
 most_names (Check form) = Some 0
@@ -55,7 +51,7 @@ has words word = list_any (λ other. bytes_eq other word) words
 
 -- the options of actions, in the order of the table
 abbrev pub action_options : List (List ℕ)
-action_options = codes "--recover" ∷ codes "--json" ∷ codes "--html" ∷ codes "--ansi" ∷ codes "--lines" ∷ codes "--places" ∷ codes "--clashes" ∷ codes "--emit=c" ∷ codes "--emit=rust" ∷ codes "--dot" ∷ codes "--check" ∷ codes "--diff" ∷ []
+action_options = codes "--recover" ∷ codes "--json" ∷ codes "--html" ∷ codes "--ansi" ∷ codes "--clashes" ∷ codes "--emit=c" ∷ codes "--emit=rust" ∷ codes "--dot" ∷ codes "--check" ∷ codes "--diff" ∷ []
 
 -- the option says a prefix
 abbrev pub is_prefix_option : List ℕ → Bool
