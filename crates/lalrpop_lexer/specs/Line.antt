@@ -1,10 +1,10 @@
 -- cases: proofs/Cases/Line.antt
 -- What one line says.
-use Rattle.std.specs.Prelude.{◌≡◌, ℕ, ◌≤◌, List, ◌++◌, length, codes}
+use Rattle.std.specs.Prelude.{◌≡◌, ℕ, List, ◌++◌, codes}
 use Rattle.std.specs.Str.{IsUtf8, chars}
-use Rattle.std.specs.Str.Parse.{IsNumeral, digits_value}
 use Rattle.lalrpop_hir.specs.Tree.{Tree}
 use Rattle.lalrpop_re.specs.Pattern.{Pattern}
+use Rattle.bajofeki_rules.specs.Precedence.{IsPrecedence}
 use Rattle.lalrpop_lexer.specs.Spelled.{Spells}
 use Rattle.lalrpop_lexer.specs.declared.form.Form.{Form}
 use Rattle.lalrpop_lexer.specs.declared.form.Form.TheVariants as forms
