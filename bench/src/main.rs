@@ -7,7 +7,7 @@ use lalrpop_lexer::lexer::dfa::{
 };
 use lalrpop_lexer::lexer::nfa::Steps;
 use lalrpop_lexer::lexer::re::Regex;
-use lalrpop_lexer::{Lexer, Terminals, TokenList, read_terminals, tokens};
+use lalrpop_lexer::{Lexer, Terminals, read_terminals, tokens};
 use lalrpop_verdicts::{minimized, verdicts};
 use std::alloc::{AllocError, Global};
 use std::time::{CpuClock, Duration};
@@ -142,7 +142,6 @@ struct Cutters {
     dfa: Dfa,
     dense: DenseDfa,
     lexer: Lexer,
-    list: TokenList,
 }
 
 fn cutters_of(alloc: Global, list: Listed) -> Option<Cutters> {
@@ -156,12 +155,7 @@ fn cutters_of(alloc: Global, list: Listed) -> Option<Cutters> {
     }
     let lexer = Lexer::new(alloc, regexs, precedences).ok()?;
     let dense = DenseDfa::new(alloc, dfa.clone().ok()?).ok()?;
-    Some(Cutters {
-        dfa,
-        dense,
-        lexer,
-        list: TokenList::new(alloc),
-    })
+    Some(Cutters { dfa, dense, lexer })
 }
 
 impl Work for Cutters {
@@ -170,10 +164,7 @@ impl Work for Cutters {
             "interpret" => Ok(by_longest(&self.dfa, text)),
             "longest" => Ok(by_longest(&self.dense, text)),
             "dfa_tokens" => Ok(by_automaton(&self.dfa, text)),
-            "tokens" => Ok(by_tokens(&self.lexer, text)),
-            "tokens_linear" => by_tokens_linear(alloc, &self.lexer, text),
-            "token_list" => by_list(&self.lexer, text, &mut TokenList::new(alloc)),
-            "token_list_into" => by_list(&self.lexer, text, &mut self.list),
+            "tokens" => by_tokens(alloc, &self.lexer, text),
             _ => made_again(alloc, &self.dfa),
         }
     }
@@ -218,36 +209,13 @@ fn by_automaton(dfa: &Dfa, text: &str) -> Found {
     found
 }
 
-fn by_tokens(lexer: &Lexer, text: &str) -> Found {
+fn by_tokens(alloc: Global, lexer: &Lexer, text: &str) -> Result<Found, AllocError> {
     let mut found = Found::none();
-    for token in lexer.tokens(text) {
+    for token in lexer.tokens(alloc, text)? {
         match token {
             Ok(token) => found.add(token.index, token.slice.len()),
             Err(_) => found.add_fault(),
         }
-    }
-    found
-}
-
-fn by_tokens_linear(alloc: Global, lexer: &Lexer, text: &str) -> Result<Found, AllocError> {
-    let mut found = Found::none();
-    for token in lexer.tokens_linear(alloc, text)? {
-        match token {
-            Ok(token) => found.add(token.index, token.slice.len()),
-            Err(_) => found.add_fault(),
-        }
-    }
-    Ok(found)
-}
-
-fn by_list(lexer: &Lexer, text: &str, list: &mut TokenList) -> Result<Found, AllocError> {
-    lexer.token_list_into(text, list)?;
-    let mut found = Found::none();
-    for token in list.tokens(text) {
-        found.add(token.index, token.slice.len());
-    }
-    if list.fault.is_some() {
-        found.add_fault();
     }
     Ok(found)
 }

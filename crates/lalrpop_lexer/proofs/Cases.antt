@@ -1,7 +1,6 @@
 -- Small cases of the definitions in specs/: Cases/X.antt has those of specs/X.antt.
 mod Cutting
 mod LexerTokens
-mod TokenList
 mod LeadingTokens
 mod Rules
 mod LexerErrors

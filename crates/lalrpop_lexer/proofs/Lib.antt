@@ -2,7 +2,6 @@ pub mod Cases
 -- what the calls that cut a text return
 pub mod Cuttings
 pub mod LexerCuttings
-pub mod TokenLists
 pub mod Costs
 pub mod Founds
 pub mod LexerCosts

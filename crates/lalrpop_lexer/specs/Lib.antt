@@ -1,7 +1,6 @@
 pub mod Matching
 pub mod Cutting
 pub mod LexerTokens
-pub mod TokenList
 pub mod LeadingTokens
 pub use Rattle.bajofeki_rules.specs.Position
 pub use Rattle.bajofeki_rules.specs.Quoted

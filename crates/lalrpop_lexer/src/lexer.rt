@@ -7,14 +7,13 @@ ghost use Rattle.lalrpop_hir.specs.Clash.{NoClash};
 ghost use Rattle.lalrpop_hir.specs.Report.{NoFault, IsReport};
 ghost use Rattle.lalrpop_hir.specs.Longest.{IsLongest};
 ghost use Rattle.lalrpop_hir.specs.Winners.{IsOnlyStrongest, Matched};
-ghost use Rattle.lalrpop_dfa.specs.Lookahead.{IsLookahead, LooksAtMost, StaysOpenEver, IsTrim};
+ghost use Rattle.lalrpop_dfa.specs.Lookahead.{IsLookahead, StaysOpenEver, IsTrim};
 ghost use Rattle.lalrpop_dfa.specs.Witness.{IsOpenMatch, IsWitness};
 ghost use Rattle.lalrpop_lexer.specs.Matching.{open_states};
 ghost use Rattle.lalrpop_lexer.specs.Cutting.{start_of, rest_of};
 ghost use Rattle.lalrpop_hir.specs.Tokens.{slices, IsToken, AreTokens, bare};
-ghost use Rattle.lalrpop_lexer.specs.LexerTokens.{LexerCutting, lexer_start, GivesToken, most_steps};
+ghost use Rattle.lalrpop_lexer.specs.LexerTokens.{LexerCutting, GivesToken, most_steps};
 ghost use Rattle.lalrpop_lexer.specs.Rules.{IsBuiltFrom};
-ghost use Rattle.lalrpop_lexer.specs.TokenList.{AreCuts, AreTokenEnds};
 ghost use Rattle.lalrpop_hir.specs.declared.token.Token.{Token as TokenValue};
 ghost use Rattle.lalrpop_hir.specs.declared.token.TokenFault.{TokenFault as FaultValue};
 
@@ -26,7 +25,6 @@ use crate::lexer_tokens::{Finder, LexerTokens};
 use crate::linear_matches::LinearMatches;
 use crate::matches::Matches;
 use crate::neighbours::Neighbours;
-use crate::token_list::{TokenList, fill};
 use lalrpop_build::{DfaConstructionError, Precedence, build_dfa};
 use lalrpop_dense::DenseDfa;
 use lalrpop_dfa::lookahead::{lookahead, unbounded_patterns};
@@ -47,7 +45,7 @@ use std::marker::Model;
 ///
 /// let patterns = [(Precedence(1), Form::Literal, "if"), (Precedence(0), Form::Pattern, "[a-z]+| +")];
 /// let lexer = Lexer::from_patterns(alloc, &patterns)?;
-/// let count = lexer.tokens("if iffy").count(); // 3
+/// let count = lexer.tokens(alloc, "if iffy")?.count(); // 3
 /// ```
 #[derive(Debug, Drop)]
 pub struct Lexer {
@@ -149,73 +147,21 @@ impl Lexer {
     }
 
     /// The tokens of the text, in order, each at the front of the rest. They end at the end of the text, or with one fault
-    /// at the first place where no pattern matches. After that, every call returns `None`.
+    /// at the first place where no pattern matches. After that, every call returns `None`. There are at most as many tokens
+    /// and faults as the text has characters.
     ///
-    /// It takes no memory, and there are at most as many tokens and faults as the text has characters. A step is counted each
-    /// time a character is read, which only contracts see. If `lookahead` is n, a whole text costs at most n + 2 steps a
-    /// character; if it is `None`, the cost can be quadratic in the length of the text: use `tokens_linear` for long texts.
-    pub fn tokens<'text>(&'text self, text: &'text str) -> LexerTokens<'text>
-        ensures start { result ≡ lexer_start self.now.automaton text.now None }
-        ensures built { IsBuiltFrom self.now.trees self.now.precedences result.cutting.automaton }
-        ensures tokens { (xs : List (Result TokenValue FaultValue)) → Drains GivesToken result xs
-            → AreTokens self.now.trees self.now.precedences text.now 0 xs }
-        ensures parts { (xs : List (Result TokenValue FaultValue)) (s : LexerCutting)
-            → Yields GivesToken result xs s
-            → text.now ≡ slices (map bare xs) ++ rest_of s.cutting }
-        ensures count { (xs : List (Result TokenValue FaultValue)) (s : LexerCutting)
-            → Yields GivesToken result xs s → length xs ≤ length (chars text.now) }
-        ensures cost { (xs : List (Result TokenValue FaultValue)) (s : LexerCutting)
-            → Yields GivesToken result xs s → (n : ℕ) → LooksAtMost (Matched self.now.trees) n
-            → s.steps ≤ (n + 2) * length (chars text.now) }
-    {
-        let matches = Matches::new(&self.dense, text);
-        LexerTokens::new(&self.dense, text, Finder::Plain(matches))
-    }
-
-    /// All tokens that `tokens` gives, in one list of 8 bytes a token, with the fault at which they end, if there is one.
-    ///
-    /// The text is cut block by block.
+    /// The time is linear in the length of the text, whatever the patterns are. A step is counted each time a character is
+    /// read, which only contracts see. If `lookahead` is n, a whole text costs at most n + 2 steps a character, and no memory
+    /// is taken. Otherwise the table cuts the text as long as it reads little in vain. After that the places of the text are
+    /// remembered that were passed in vain, so no run is repeated that came to nothing. A state of the automaton is open if it
+    /// neither accepts a pattern nor rejects. A whole text then costs at most 66 steps a character and one a byte, and for each
+    /// open state one step a byte and 64 more. All memory is taken by this call: a byte for each open state and each 64 bytes of
+    /// the text.
     ///
     /// # Errors
     ///
     /// `AllocError` if a request for memory was refused.
-    pub fn token_list(&self, alloc: Global, text: &str) -> Result<TokenList, AllocError>
-        ensures tokens { IfOk result (λ list. AreTokenEnds self.now.trees self.now.precedences
-            text.now 0 list.ends list.fault) }
-        ensures cuts { IfOk result (λ list. AreCuts text.now 0 list.ends) }
-    {
-        let mut list = TokenList::new(alloc);
-        self.token_list_into(text, &mut list)?;
-        Ok(list)
-    }
-
-    /// The same, into a list that is lent. Its former tokens are forgotten, and its memory is used again, so that a list filled
-    /// again and again takes none in the end.
-    ///
-    /// # Errors
-    ///
-    /// `AllocError` if a request for memory was refused. Then the list is empty.
-    pub fn token_list_into(&self, text: &str, list: &mut TokenList) -> Result<(), AllocError>
-        ensures tokens { OnOk result (AreTokenEnds self.now.trees self.now.precedences
-            text.now 0 list.new.ends list.new.fault) }
-        ensures cuts { OnOk result (AreCuts text.now 0 list.new.ends) }
-        ensures refused { OnErr result ((list.new.ends ≡ []) × (list.new.fault ≡ None)) }
-    {
-        fill(&self.dense, text, list)
-    }
-
-    /// The tokens of `tokens`, in time linear in the length of the text, whatever the patterns are.
-    ///
-    /// If `lookahead` is a number, they are those of `tokens`, and no memory is taken. Otherwise the table of `tokens` cuts the
-    /// text as long as it reads little in vain. After that the places of the text are remembered that were passed in vain, so no
-    /// run is repeated that came to nothing. A state of the automaton is open if it neither accepts a pattern nor rejects. A
-    /// whole text then costs at most 66 steps a character and one a byte, and for each open state one step a byte and 64 more.
-    /// All memory is taken by this call: a byte for each open state and each 64 bytes of the text.
-    ///
-    /// # Errors
-    ///
-    /// `AllocError` if a request for memory was refused.
-    pub fn tokens_linear<'text>(
+    pub fn tokens<'text>(
         &'text self,
         alloc: Global,
         text: &'text str,
@@ -229,6 +175,13 @@ impl Lexer {
         ensures tokens { IfOk result (λ s. (xs : List (Result TokenValue FaultValue))
             → Drains GivesToken s xs
             → AreTokens self.now.trees self.now.precedences text.now 0 xs) }
+        ensures parts { IfOk result (λ s.
+            (xs : List (Result TokenValue FaultValue)) (t : LexerCutting)
+            → Yields GivesToken s xs t
+            → text.now ≡ slices (map bare xs) ++ rest_of t.cutting) }
+        ensures count { IfOk result (λ s.
+            (xs : List (Result TokenValue FaultValue)) (t : LexerCutting)
+            → Yields GivesToken s xs t → length xs ≤ length (chars text.now)) }
         ensures cost { IfOk result (λ s. (found : Option ℕ)
             × (IsLookahead (Matched self.now.trees) found
             × ((xs : List (Result TokenValue FaultValue)) (t : LexerCutting)
@@ -238,7 +191,8 @@ impl Lexer {
         ensures no_clash { NoClash self.now.trees self.now.precedences }
     {
         if self.lookahead.is_some() {
-            return Ok(self.tokens(text));
+            let plain = Matches::new(&self.dense, text);
+            return Ok(LexerTokens::new(&self.dense, text, Finder::Plain(plain)));
         }
         let matches = self.matches_linear(alloc, text)?;
         Ok(LexerTokens::new(&self.dense, text, Finder::Remembering(matches)))
@@ -260,7 +214,7 @@ impl Lexer {
     }
 
     /// The longest matches of the text, one after another, for a caller that goes on where nothing matches. It starts with all
-    /// of the text left. All memory is taken by this call, as in `tokens_linear`.
+    /// of the text left. All memory is taken by this call, as in `tokens`.
     ///
     /// # Errors
     ///

@@ -22,7 +22,7 @@ use std::marker::Model;
 /// use lalrpop_lexer::{Form, Lexer};
 ///
 /// let lexer = Lexer::from_patterns(alloc, &[(Precedence(0), Form::Pattern, "[a-z]+| +")])?;
-/// let mut tokens = lexer.tokens("ab c!"); // "ab" at 0, " " at 2, "c" at 3, and a fault at 4
+/// let mut tokens = lexer.tokens(alloc, "ab c!")?; // "ab" at 0, " " at 2, "c" at 3, and a fault at 4
 /// ```
 #[derive(Drop)]
 pub struct LexerTokens<'text> {

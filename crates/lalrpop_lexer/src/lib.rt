@@ -9,7 +9,6 @@ mod ahead;
 mod counting;
 mod cut;
 mod dfa_tokens;
-mod end_list;
 mod error;
 mod form;
 mod join_error;
@@ -24,7 +23,6 @@ mod patterns;
 mod remembering;
 mod terminal_line;
 mod terminals;
-mod token_list;
 mod visited_pairs;
 
 pub use bajofeki_rules::{
@@ -32,7 +30,6 @@ pub use bajofeki_rules::{
 };
 pub use cut::tokens;
 pub use dfa_tokens::Tokens;
-pub use end_list::EndList;
 pub use error::LexerError;
 pub use form::Form;
 pub use join_error::JoinError;
@@ -45,4 +42,3 @@ pub use longest::longest_match;
 pub use matches::Matches;
 pub use neighbours::Neighbours;
 pub use terminals::{Terminals, read_terminals};
-pub use token_list::{ListedTokens, TokenList};

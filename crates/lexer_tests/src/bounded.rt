@@ -25,7 +25,7 @@ fn way_of(lexer: &Lexer) -> &'static str {
 fn of(alloc: Global, argument: &str) -> Result<String, AllocError> {
     let (words, text) = halves(argument, " <- ");
     let lexer = lexer_of(alloc, words)?;
-    let tokens = lexer.tokens_linear(alloc, text)?;
+    let tokens = lexer.tokens(alloc, text)?;
     let mut line = String::from_str(alloc, way_of(&lexer))?;
     for item in tokens {
         let part = match item {

@@ -1,19 +1,9 @@
-//! Texts that are cut in linear time: the tokens are those of `tokens`.
+//! Long texts that are cut in linear time.
 
 use crate::built::expect;
 use crate::lookaheads::lexer_of;
 use lalrpop_lexer::LexerTokens;
 use std::alloc::{AllocError, Global};
-
-// Whether both return the same items.
-fn are_same(mut plain: LexerTokens, linear: LexerTokens) -> bool {
-    for item in linear {
-        if plain.next() != Some(item) {
-            return false;
-        }
-    }
-    plain.next().is_none()
-}
 
 // How many tokens of each pattern there are before the fault, and where the fault is, if there is one.
 fn told(alloc: Global, items: LexerTokens) -> Result<String, AllocError> {
@@ -49,10 +39,7 @@ fn of(
 ) -> Result<String, AllocError> {
     let lexer = lexer_of(alloc, words)?;
     let text = repeated(alloc, part, count, end)?;
-    if !are_same(lexer.tokens(&text), lexer.tokens_linear(alloc, &text)?) {
-        return String::from_str(alloc, "other tokens than `tokens`");
-    }
-    told(alloc, lexer.tokens_linear(alloc, &text)?)
+    told(alloc, lexer.tokens(alloc, &text)?)
 }
 
 #[test]

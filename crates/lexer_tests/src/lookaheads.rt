@@ -120,7 +120,7 @@ fn shown(alloc: Global, item: &Result<Token, TokenFault>) -> Result<String, Allo
 fn given(alloc: Global, words: &str, text: &str) -> Result<String, AllocError> {
     let lexer = lexer_of(alloc, words)?;
     let mut line = String::new(alloc);
-    let mut items = lexer.tokens(text);
+    let mut items = lexer.tokens(alloc, text)?;
     for item in items.by_ref() {
         line.push_str(&shown(alloc, &item)?)?;
     }

@@ -1,9 +1,9 @@
 //! Automata that are run by their tables.
 
-use crate::built::{built, built_with, expect, halves, has_table, trees_of};
-use lalrpop_lexer::lexer::dfa::{DenseDfa, Dfa, Precedence, TokenEnd, TokenEnds};
+use crate::built::{built, built_with, expect, halves, has_table};
+use crate::lookaheads::lexer_of;
+use lalrpop_lexer::lexer::dfa::{DenseDfa, Dfa, Precedence, TokenEnds};
 use lalrpop_lexer::lexer::nfa::Steps;
-use lalrpop_lexer::{Lexer, TokenList};
 use std::alloc::{AllocError, Global};
 use std::process::Abort;
 
@@ -100,65 +100,6 @@ fn nothing_by_a_table(rt: HostRuntime) {
     expect_rows(&rt, rt.alloc(), any, "b => b");
 }
 
-// The tokens, and what is left after them.
-fn told(alloc: Global, list: &TokenList, text: &str) -> Result<String, AllocError> {
-    let mut found = String::new(alloc);
-    let mut start = 0;
-    for number in 0..list.ends.len() {
-        let Some(TokenEnd { index, end }) = list.ends.get(number) else {
-            break;
-        };
-        let index = index.index();
-        let slice = text.get(start..end).unwrap_or("?");
-        let line = format!(in alloc; "{index} {slice}, ")?;
-        found.push_str(&line)?;
-        start = end;
-    }
-    if let Some(fault) = &list.fault {
-        found.push_str(text.get(fault.at..).unwrap_or(""))?;
-    }
-    Ok(found)
-}
-
-// The list has held the tokens of another text.
-fn list_by(alloc: Global, lexer: &Lexer, text: &str) -> Result<String, AllocError> {
-    let mut list = lexer.token_list(alloc, "class")?;
-    lexer.token_list_into(text, &mut list)?;
-    told(alloc, &list, text)
-}
-
-// The first pattern is stronger than the others.
-fn lexer_of(rt: &impl Abort, alloc: Global, words: &str) -> Lexer {
-    let trees = trees_of(alloc, words).expect(rt, "trees");
-    let mut precedences = vec![in alloc; WEAK; trees.len()].expect(rt, "memory");
-    if let Some(first) = precedences.first_mut() {
-        *first = Precedence(1);
-    }
-    assert!(rt; trees.len() == precedences.len());
-    Lexer::new(alloc, trees, precedences).expect(rt, "a lexer")
-}
-
-// The text of each row is cut into a list as the row says.
-fn expect_lists(rt: &impl Abort, alloc: Global, lexer: &Lexer, table: &str) {
-    for row in table.trim_matches('\n').lines() {
-        let (text, wanted) = halves(row, " => ");
-        expect(rt, list_by(alloc, lexer, text), wanted);
-    }
-}
-
-#[test]
-fn words_in_a_list(rt: HostRuntime) {
-    let lexer = lexer_of(&rt, rt.alloc(), WORDS);
-    expect_lists(&rt, rt.alloc(), &lexer, WORDS_CUT);
-    expect(&rt, list_by(rt.alloc(), &lexer, ""), "");
-}
-
-#[test]
-fn scripts_in_a_list(rt: HostRuntime) {
-    let lexer = lexer_of(&rt, rt.alloc(), SCRIPTS);
-    expect_lists(&rt, rt.alloc(), &lexer, SCRIPTS_CUT);
-}
-
 // A keyword and a space, six bytes, seven hundred times; a name of 5,000 letters, which doesn't fit a block; and a character
 // that no pattern begins with.
 fn long_text(alloc: Global) -> Result<String, AllocError> {
@@ -173,29 +114,27 @@ fn long_text(alloc: Global) -> Result<String, AllocError> {
     Ok(text)
 }
 
-// Where the token with this number ends, or 0 if there is none.
-fn end_at(list: &TokenList, number: usize) -> usize {
-    match list.ends.get(number) {
-        Some(found) => found.end,
-        None => 0,
-    }
-}
-
 // How many tokens there are, where the last one begins and how long it is, and where no pattern matches.
-fn long_list(alloc: Global, lexer: &Lexer) -> Result<String, AllocError> {
+fn cut_long(alloc: Global) -> Result<String, AllocError> {
     let text = long_text(alloc)?;
-    let list = lexer.token_list(alloc, &text)?;
-    let count = list.ends.len();
-    let start = end_at(&list, count.saturating_sub(2));
-    let length = end_at(&list, count.saturating_sub(1)).saturating_sub(start);
-    let at = list.fault.map_or(0, |fault| fault.at);
+    let lexer = lexer_of(alloc, WORDS)?;
+    let (mut count, mut start, mut length, mut at) = (0usize, 0, 0, 0);
+    for item in lexer.tokens(alloc, &text)? {
+        match item {
+            Ok(token) => {
+                count = count.wrapping_add(1);
+                start = token.start;
+                length = token.slice.len();
+            }
+            Err(fault) => at = fault.at,
+        }
+    }
     format!(in alloc; "{count} {start} {length} {at}")
 }
 
 #[test]
-fn a_list_of_many_blocks(rt: HostRuntime) {
-    let lexer = lexer_of(&rt, rt.alloc(), WORDS);
-    expect(&rt, long_list(rt.alloc(), &lexer), "1401 4200 5000 9200");
+fn tokens_of_many_blocks(rt: HostRuntime) {
+    expect(&rt, cut_long(rt.alloc()), "1401 4200 5000 9200");
 }
 
 // How many tokens are found at once.
