@@ -8,12 +8,8 @@ mod coming;
 #[cfg(test)]
 mod cutting;
 #[cfg(test)]
-mod files;
-#[cfg(test)]
 mod items;
 #[cfg(test)]
 mod messages;
 #[cfg(test)]
 mod program;
-#[cfg(test)]
-mod tokens;
