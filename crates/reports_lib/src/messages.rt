@@ -6,8 +6,8 @@ ghost use Rattle.reports_lib.specs.Reasons.{CanBeSaid, SaysBadLine, SaysRules};
 
 use crate::mode_file::ModeFile;
 use crate::rule_explain::{bad_line_explained, can_be_said, rules_explained};
-use lalrpop_rules::RulesError;
 use lalrpop_rule_file::{RuleFileError, without_mark};
+use lalrpop_rules::RulesError;
 use std::alloc::{AllocError, Global};
 
 /// A message about a file: its name, and then this.

@@ -4,10 +4,10 @@ ghost use Rattle.std.specs.Str.{IsCharBoundary};
 ghost use Rattle.bajofeki_rules.specs.Quoted.{quoted_word};
 ghost use Rattle.reports_lib.specs.Reasons.{bad_end_text, clash_advice, placed, refusal_text, syntax_text};
 
-use lalrpop_re::FromToError;
 use lalrpop_lexer::lexer::nfa::NfaConstructionError;
 use lalrpop_lexer::lexer::re::SyntaxKind;
 use lalrpop_lexer::{ShownWord, is_unseen};
+use lalrpop_re::FromToError;
 use std::alloc::{AllocError, Global};
 use unicode_width::UnicodeWidthChar;
 

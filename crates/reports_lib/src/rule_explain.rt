@@ -13,11 +13,10 @@ use crate::reasons::{
     bad_end_text, both_lines, characters_before, clash_advice, place_explained, quoted_word,
     refusal_text, syntax_text,
 };
-use lalrpop_lexer::lexer::re::SyntaxKind;
 use lalrpop_lexer::Position;
-use lalrpop_rules::{ModeRule, RulesError};
+use lalrpop_lexer::lexer::re::SyntaxKind;
 use lalrpop_rule_file::{LineFault, RuleFileError};
-use lalrpop_rules::RuleText;
+use lalrpop_rules::{ModeRule, RuleText, RulesError};
 use std::alloc::{AllocError, Global};
 
 // The text of the line with this number, from 1, without its end; nothing if it isn't UTF-8.

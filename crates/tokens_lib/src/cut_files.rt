@@ -68,9 +68,7 @@ fn end_message(
             Some(open) => open_message(alloc, mode_name(modes, open.mode), name, open.place),
             None => Ok(String::new(alloc)),
         },
-        CutEnd::Stopped { place, found } => {
-            fault_message(alloc, name, *place, *found)
-        }
+        CutEnd::Stopped { place, found } => { fault_message(alloc, name, *place, *found) }
         CutEnd::Broken(error) => lack_message(alloc, name, error),
     }
 }

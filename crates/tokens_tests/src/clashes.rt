@@ -6,7 +6,7 @@ use program_tests::failing::FailsAfter;
 use std::alloc::Global;
 use std::io;
 use std::io::Write;
-use tokens_lib::{ModeRule, RulesError, Rule, mode_clashes, write_rule_clashes};
+use tokens_lib::{ModeRule, Rule, RulesError, mode_clashes, write_rule_clashes};
 
 // The rule in the first mode, without actions.
 fn plain<'text>(rule: Rule<'text>) -> ModeRule<'text> {

@@ -8,7 +8,7 @@ use std::io;
 use std::io::{Read, Write};
 use std::process::Abort;
 use tokens_lib::{
-    CutEnd, Layout, LineForm, Markup, ModeAction, RuleLexer, ModeRule, OpenMode, Rule, TextError,
+    CutEnd, Layout, LineForm, Markup, ModeAction, ModeRule, OpenMode, Rule, RuleLexer, TextError,
     write_items, write_page,
 };
 

@@ -10,7 +10,7 @@ use program_tests::failing::FailsAfter;
 use std::alloc::Global;
 use std::io;
 use std::process::Abort;
-use tokens_lib::{CutEnd, Layout, LineForm, Markup, RuleLexer, OpenMode, write_items};
+use tokens_lib::{CutEnd, Layout, LineForm, Markup, OpenMode, RuleLexer, write_items};
 
 fn is_written(alloc: Global, lexer: &RuleLexer, job: &Job) -> bool {
     let reader = Fed::ending(job.text.as_bytes(), ALL);
