@@ -32,7 +32,7 @@ options_of (Check Plain) = codes "--check" ∷ []
 options_of (Check Json) = codes "--json" ∷ codes "--check" ∷ []
 options_of Difference = codes "--diff" ∷ []
 
--- how many names at most stand behind RULES where no FILE is read: a rule for --dot, the other rules for --diff, none for others
+-- how many names at most stand after RULES where no FILE is read: a rule for --dot, the other rules for --diff, none for others
 abbrev pub most_names : Action → Option ℕ
 most_names Clashes = Some 0
 most_names (Emit language) = Some 0
@@ -41,7 +41,7 @@ most_names (Check form) = Some 0
 most_names Difference = Some 1
 most_names action = None
 
--- these names may stand behind RULES: not more than there may be, and for --diff the other rules
+-- these names may stand after RULES: not more than there may be, and for --diff the other rules
 abbrev pub TakesNames : Action → List (List ℕ) → Type 0
 TakesNames action named = IfSome (most_names action) (λ most. length named ≤ most) × (action ≡ Difference → length named ≡ 1)
 
@@ -93,7 +93,7 @@ IsFilesError action named (NoFiles file) = (most : ℕ) × ((most_names action �
 IsFilesError Difference named NoOther = named ≡ []
 IsFilesError action named error = ⊥
 
--- RULES is missing, or the options don't go together, or the names behind RULES don't fit
+-- RULES is missing, or the options don't go together, or the names after RULES don't fit
 abbrev pub IsRunError : List (List ℕ) → List (List ℕ) → ArgumentsError → Type 0
 IsRunError options names NoRules = names ≡ []
 IsRunError options names (Apart apart) = (names ≢ []) × ((given options ≡ map (λ option. option.now) apart.items) × ((action : Action) → given options ≢ options_of action))

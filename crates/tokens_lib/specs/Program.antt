@@ -29,7 +29,7 @@ use Rattle.tokens_lib.specs.declared.command.Verbosity.{Verbosity}
 abbrev pub information : List ℕ → Answer
 information out = record { status = 0; out = out; err = [] }
 
--- the other file of rules: the first that is named behind RULES
+-- the other file of rules: the first that is named after RULES
 abbrev pub other_of : List (List ℕ) → List ℕ
 other_of files = unwrap_or (slice_get files 0) []
 

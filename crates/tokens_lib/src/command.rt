@@ -125,7 +125,7 @@ pub enum Command<'words> {
         /// What is said beside what is wrong.
         verbosity: Verbosity,
         rules: &'words str,
-        /// What stands behind RULES: the file of the other rules for `Action::Difference`, at most the name of a rule for
+        /// What stands after RULES: the file of the other rules for `Action::Difference`, at most the name of a rule for
         /// `Action::Picture`, and nothing for the other actions about rules alone.
         files: Vec<&'words str>,
     },
@@ -267,7 +267,7 @@ fn given<'words>(alloc: Global, options: &[&'words str]) -> Result<Vec<&'words s
 }
 
 impl Action<'_> {
-    // How many names at most stand behind RULES, if no FILE is read.
+    // How many names at most stand after RULES, if no FILE is read.
     fn most_names(&self) -> Option<usize>
         ensures { result ≡ most_names self.now }
     {
@@ -393,7 +393,7 @@ fn verbosity_of(options: &[&str]) -> Verbosity
     }
 }
 
-// This action, if these names may stand behind RULES.
+// This action, if these names may stand after RULES.
 fn run_by<'words>(
     action: Action<'words>,
     verbosity: Verbosity,

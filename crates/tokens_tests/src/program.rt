@@ -350,7 +350,7 @@ fn rules_are_compared(rt: HostRuntime) {
         (
             &["--diff", "r"],
             b"",
-            b"tokens: --diff compares two files of rules; name the other one behind RULES\n",
+            b"tokens: --diff compares two files of rules; name the other one after RULES\n",
             4,
         ),
         (
