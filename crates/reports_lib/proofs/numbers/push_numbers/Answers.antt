@@ -2,7 +2,7 @@ use Rattle.std.proofs.Common.{◌≡◌, ◌++◌, decimal, ℕ, ◌+◌, ◌-�
 use Rattle.std.proofs.lemmas.Fmt.{length-decimal-le}
 use Rattle.std.proofs.lemmas.List.{drop-set}
 use Rattle.std.proofs.Math.ListN.{length-set}
-use Rattle.lines_lib.proofs.numbers.push_numbers.Goals as goal
+use Rattle.reports_lib.proofs.numbers.push_numbers.Goals as goal
 
 pub write_digits-later-requires : goal.write_digits-later-requires
 write_digits-later-requires c = search (rules, length-decimal-le 20)

@@ -7,22 +7,15 @@ use std::alloc::AllocError;
 // The most digits of a number of 64 bits.
 const DIGITS: usize = 20;
 
-// Room for two numbers, each with a byte behind it.
+// Room for two numbers, each with a byte after it.
 const ROOM: usize = 2 * DIGITS + 2;
 
-/// Appends two numbers, each with a byte behind it.
-///
-/// ```
-/// use lines_lib::push_numbers;
-///
-/// let mut line = Vec::new(alloc);
-/// push_numbers(&mut line, 12, b':', 3, b' ')?; // `12:3 `
-/// ```
+/// Appends two numbers, each with a byte after it.
 ///
 /// # Errors
 ///
 /// `AllocError` if a request for memory was refused.
-pub fn push_numbers(
+pub(crate) fn push_numbers(
     line: &mut Vec<u8>,
     first: usize,
     between: u8,
