@@ -2,11 +2,10 @@
 #![tactic(auto)]
 
 use anyhow::{Context, Result, bail};
+use lalrpop_dense::{DenseDfa, Matcher};
 use lalrpop_edits::Chunks;
 use lalrpop_emit::LexerNumbers;
-use lalrpop_lexer::lexer::dfa::{
-    DenseDfa, Dfa, Matcher, NfaIndex, Precedence, build_dfa, clashes,
-};
+use lalrpop_lexer::lexer::dfa::{Dfa, NfaIndex, Precedence, build_dfa, clashes};
 use lalrpop_lexer::lexer::nfa::Steps;
 use lalrpop_lexer::lexer::re::Regex;
 use lalrpop_lexer::{Lexer, Terminals, read_terminals, tokens};

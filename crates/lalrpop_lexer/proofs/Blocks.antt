@@ -14,7 +14,7 @@ use Rattle.lalrpop_dfa.specs.Lookahead.{ReadsAtMost}
 use Rattle.lalrpop_dense.specs.Leading.{IsEnd}
 use Rattle.lalrpop_lexer.specs.Matching.{Matching, rest_of}
 use Rattle.lalrpop_lexer.specs.Internal.Memory.{Memory}
-use Rattle.lalrpop_lexer.specs.Internal.Standing.{IsReached, spare_of}
+use Rattle.lalrpop_lexer.specs.Internal.Standing.{spare_of}
 use Rattle.lalrpop_lexer.specs.Internal.Blocks.{Rest, bytes_of, chars_from, IsSettled, prepaid_of, IsNextMatch, IsPrepaid, IsPaidFor}
 use Rattle.lalrpop_lexer.proofs.Standings.{chars_behind, count_between}
 use Rattle.bajofeki_rules.proofs.Places.{few_chars}
@@ -45,12 +45,6 @@ ahead_prefix d text slice at index end u e is =
       (drop (end - at) (drop at text), (sym (take-append-drop (end - at) (drop at text)) ∙ ap (λ (p : List ℕ). p ++ drop (end - at) (drop at text)) (sym is), u)),
       λ none. omega (arith, ap length none, long, e.some),
     )
-
--- it ends there
-pub ahead_end : (d : List Row) (text slice : List ℕ) (at index end : ℕ) → IsEnd d text at index end → slice ≡ take (end - at) (drop at text) → at + length slice ≡ end
-ahead_end d text slice at index end e is =
-    let behind : at ≤ end = omega (arith, e.some) in
-    omega (arith, ap length is, length_between text at end behind e.boundary.0)
 
 -- ---- what is prepaid
 
@@ -301,15 +295,6 @@ pub linear_handed : (r r2 : Rest) (m : ℕ × Bor (List ℕ)) (credit credit2 co
 linear_handed r r2 m credit credit2 counted memo before after more out =
     let same : chars_from r2.text counted ≡ chars_from r.text counted = ap (λ (x : Rest). chars_from x.text counted) out.goes_on in
     (handed_next r r2 m _ _ before after out, handed_paid r r2 m _ _ before after (omega (arith, same)) out)
-
-pub handed_reached : (r r2 : Rest) (m : ℕ × Bor (List ℕ)) (counted index : ℕ) (memo : Memory) (before after : ℕ) → IsReached r.automaton r.text r.at counted index memo
-    → IsCharBoundary r2.text r2.at → IsHandedOut r r2 m before after → IsReached r2.automaton r2.text r2.at counted index memo
-handed_reached r r2 m counted index memo before after h b out =
-    let there : IsCharBoundary r.text (r.at + length m.1.now) = subst (λ (x : Rest). IsCharBoundary x.text x.at) out.goes_on b in
-    subst (λ (x : Rest). IsReached x.automaton x.text x.at counted index memo) (sym out.goes_on) (record { boundary = there; behind = omega (arith, h.behind); standing = h.standing })
-
-pub same_reached : (r r1 : Rest) (counted index : ℕ) (memo : Memory) → IsReached r.automaton r.text r.at counted index memo → r1 ≡ r → IsReached r1.automaton r1.text r1.at counted index memo
-same_reached r r1 counted index memo h same = subst (λ (x : Rest). IsReached x.automaton x.text x.at counted index memo) (sym same) h
 
 pub linear_block : (s s2 : Matching) (r r1 : Rest) (found : Option (ℕ × Bor (List ℕ))) (credit counted : ℕ) (memo : Memory) (vain before between after : ℕ) → remembering r credit counted memo ≡ s
     → r1 ≡ r → vain ≤ credit → between ≡ before + vain → IsLinear (remembering r1 (credit - vain) counted memo) s2 found between after → IsLinear s s2 found before after

@@ -30,12 +30,6 @@ set_cases marks s n h =
     inr (slice_get-get_or marks n false within ∙ ap (λ (b : Bool). Some b) value))
     (cases_eq n s)
 
-pub apart_set : (firsts : List (Option ℕ)) (places : ℕ) (marks : List Bool) (s : ℕ) → AreApart firsts places marks → AreApart firsts places (set marks s true)
-apart_set firsts places marks s h = record {
-  fits = λ p a b. omega (arith, h.fits p a b, length-set marks s true);
-  apart = h.apart;
-}
-
 -- no other pair is noted by it
 pub noted_only : (firsts : List (Option ℕ)) (places : ℕ) (marks : List Bool) (state place a : ℕ) → AreApart firsts places marks → BeginAt firsts state a → place < places
     → (p k : ℕ) → IsNoted (record { firsts = firsts; places = places; marks = set marks (a + place) true }) p k
@@ -66,15 +60,6 @@ pub record AreLaid (d : List Row) (n : ℕ) (firsts : List (Option ℕ)) (places
   pub apart : (p q a b i j : ℕ) → BeginAt firsts p a → BeginAt firsts q b → i < places → j < places → a + i ≡ b + j → p ≡ q
   pub each : (p : ℕ) → p < n → IsOpen d p → (a : ℕ) × BeginAt firsts p a
   pub count : end ≤ count_by (λ r. is_open_kind r.kind) (take n d) * places
-
-pub laid_start : (d : List Row) (places : ℕ) → AreLaid d 0 [] places 0
-laid_start d places = record {
-  same_length = refl;
-  fits = λ p a b. cc;
-  apart = λ p q a b i j x y. cc;
-  each = λ p l o. absurd (omega arith);
-  count = omega arith;
-}
 
 pushed_ways : (firsts : List (Option ℕ)) (o : Option ℕ) (p a : ℕ) → BeginAt (firsts ++ o ∷ []) p a → BeginAt firsts p a ⊎ ((p ≡ length firsts) × (o ≡ Some a))
 pushed_ways firsts o p a h =

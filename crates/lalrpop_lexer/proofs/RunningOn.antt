@@ -1,6 +1,6 @@
 -- Which tokens run on into which, as a table.
 use Rattle.std.proofs.Common.{◌≡◌, ℕ, ◌+◌, ◌<◌, ◌≤◌, ◌↔◌, inl, inr, Bool, true, false, not, List, [], ◌∷◌, ◌++◌, length, map, get_or, refl, sym, ap, subst, ◌∙◌, arith}
-use Rattle.std.specs.Prelude.{Some, None, IsTrue, slice_get}
+use Rattle.std.specs.Prelude.{Some, IsTrue, slice_get}
 use Rattle.std.proofs.lemmas.List.{length_push}
 use Rattle.std.specs.Option.{option_map}
 use Rattle.std.proofs.lemmas.Option.{slice_get_within, slice_get-map, slice_get_read}
@@ -52,9 +52,6 @@ marks_of_trees d rules n j marks built count size each = record {
 }
 
 -- ---- the table
-
-pub no_lists : (rules : Rules) → IsTableUpTo rules 0 []
-no_lists rules = record { same_length = refl; each = λ j marks e. let f : None ≡ Some marks = e in absurd (cc) }
 
 pub one_list_more : (rules : Rules) (n : ℕ) (lists : List (List Bool)) (marks : List Bool) → IsTableUpTo rules n lists → AreRunningOn rules n marks
     → IsTableUpTo rules (n + 1) (lists ++ marks ∷ [])

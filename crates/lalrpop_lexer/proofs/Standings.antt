@@ -5,7 +5,7 @@ use Rattle.std.specs.Str.{chars, IsUtf8, IsCharBoundary}
 use Rattle.std.proofs.Math.Nat.{mul-le-mul_left}
 use Rattle.std.proofs.Math.Seq.{drop-append_seam}
 use Rattle.std.proofs.lemmas.List.{take-append-drop, take_at, drop_at, drop-drop}
-use Rattle.std.proofs.lemmas.Str.{IsUtf8-append, drop_past_char, IsCharBoundary-start, IsCharBoundary-from_take, IsCharBoundary-from_rest, IsCharBoundary-past_char, chars-append}
+use Rattle.std.proofs.lemmas.Str.{IsUtf8-append, drop_past_char, IsCharBoundary-start, IsCharBoundary-from_take, IsCharBoundary-from_rest, chars-append}
 use Rattle.lalrpop_hir.specs.Prefix.{IsPrefix}
 use Rattle.lalrpop_dfa.specs.Dfa.{Row}
 use Rattle.lalrpop_lexer.specs.Internal.Memory.{Memory, IsFor, IsNoted, room}
@@ -136,15 +136,6 @@ pub split_past : (text rest rest2 : List ℕ) (at c : ℕ) → rest ≡ drop at 
 split_past text rest rest2 at c here e =
     let first : drop at text ≡ encode_utf8 c ++ rest2 = sym here ∙ e in
     first ∙ ap (λ (r : List ℕ). encode_utf8 c ++ r) (sym (drop_past_char text rest2 at c first))
-
--- after a character
-pub reached_past : (d : List Row) (text : List ℕ) (at counted index c : ℕ) (m : Memory) → IsUtf8 (drop at text) → drop at text ≡ encode_utf8 c ++ drop (at + len_utf8 c) text
-    → IsReached d text at counted index m → IsReached d text (at + len_utf8 c) counted index m
-reached_past d text at counted index c m u split h = record {
-  boundary = IsCharBoundary-past_char text (drop (at + len_utf8 c) text) at c h.boundary.0 u split;
-  behind = omega (arith, h.behind);
-  standing = h.standing;
-}
 
 -- ---- what pays
 

@@ -9,13 +9,21 @@ use Rattle.lalrpop_hir.specs.Tokens.{IsToken, AreTokens}
 use Rattle.lalrpop_hir.specs.declared.token.Token.{Token as Cut}
 use Rattle.lalrpop_hir.specs.declared.token.TokenFault.{TokenFault}
 use Rattle.lalrpop_hir.proofs.Chains.{chain_at}
+use Rattle.lalrpop_rules.specs.Modes.{ModeRules, kinds_of, mode_rules, trees_in}
 use Rattle.lalrpop_rules.specs.Pieces.{IsPiece, ArePieces, start_of}
+use Rattle.lalrpop_rules.proofs.KindLaws.{merged-few}
 use Rattle.lalrpop_rules.specs.declared.item.Item.{Item}
 use Rattle.lalrpop_rules.specs.declared.item.Item.TheVariants.{Token, Skipped, Fault}
 
 -- the pattern of a token is one of the list
 pub index_within : (ts : List Tree) (ps text : List ℕ) (at : ℕ) (token : Cut) → IsToken ts ps text at token → token.index < length ts
 index_within ts ps text at token is = slice_get_within ts token.index is.2.0.0.0 is.2.0.0.1.0
+
+-- and has a name, where each rule has one
+pub named_within : (r : ModeRules) (mode : ℕ) (text : List ℕ) (at : ℕ) (token : Cut) → length r.names ≡ length r.trees
+    → IsToken (trees_in r mode) r.precedences text at token → token.index < length r.names
+named_within r mode text at token named is =
+    omega (arith, index_within (trees_in r mode) r.precedences text at token is, merged-few (kinds_of (mode_rules r mode) r.kinds) r.trees, named)
 
 -- a lesser precedence never wins where a greater one matches as much
 pub lesser_never_wins : (ts : List Tree) (ps text : List ℕ) (at j : ℕ) (token : Cut) → IsToken ts ps text at token

@@ -17,8 +17,7 @@ use Rattle.lalrpop_rules.specs.Internal.Lexers.{IsClashesFault, in_mode, seen}
 use Rattle.bajofeki_rules.specs.declared.mode_rule.ModeRule.{ModeRule}
 use Rattle.lalrpop_rules.specs.declared.error.RulesError.{RulesError}
 use Rattle.lalrpop_rules.specs.declared.error.RulesError.TheVariants.{NoSuchMode, NotParsed, BadEnd, NotCompiled, Clash, OutOfMemory}
-use Rattle.lalrpop_rules.proofs.KindLaws.{no_fault_merged}
-use Rattle.lalrpop_rules.proofs.ModeByMode.{no_first_fault}
+use Rattle.lalrpop_rules.proofs.KindLaws.{no_fault_merged, no_first_fault}
 use Rattle.lalrpop_rules.proofs.ModeByMode.{slice_end}
 
 -- all clashes of the modes so far

@@ -9,24 +9,18 @@ use Rattle.lalrpop_hir.specs.Longest.{IsLongest}
 use Rattle.lalrpop_hir.specs.Prefix.{IsPrefix}
 use Rattle.lalrpop_hir.specs.Tree.{Tree}
 use Rattle.lalrpop_lexer.proofs.Cuttings.{some_char}
-use Rattle.lalrpop_lexer.proofs.Recognized.{on_words, matched_accepts, accepted_matched}
+use Rattle.lalrpop_lexer.proofs.Recognized.{on_words}
 use Rattle.lalrpop_lexer.specs.Dfa.{Row, Recognizes}
 use Rattle.lalrpop_lexer.specs.Matching.{Matching, rest_of}
 use Rattle.lalrpop_lexer.specs.Rules.{IsBuiltFrom}
-use Rattle.lalrpop_rules.specs.CutToEnd.{Memo, IsPaid}
+use Rattle.lalrpop_rules.specs.Internal.CutToEnd.{Memo, IsPaid}
 use Rattle.lalrpop_rules.specs.Internal.Finding.{Match, IsMatchOf, Passes, memo_of}
-use Rattle.lalrpop_rules.specs.declared.finder.Finder.TheVariants.{Remembering}
 use Rattle.lalrpop_rules.proofs.PieceLaws.{split_at}
 
 -- what an automaton finds is the longest match for any rules that it is built from
 pub found_for : (d : List Row) (rest : List ℕ) (found : Option Match)
     → ((ts : List Tree) (ps : List ℕ) → Recognizes d ts ps → IsLongest ts ps rest (option_map (λ m. (m.0, m.1.now)) found)) → IsMatchOf d rest found
 found_for d rest found answer = λ ts ps built. answer ts ps (on_words d ts ps built.stands)
-
--- and where nothing matches for some, nothing does for any others
-pub none_for : (ts : List Tree) (ps : List ℕ) (d : List Row) (rest : List ℕ) → IsBuiltFrom ts ps d → IsLongest ts ps rest None → IsMatchOf d rest None
-none_for ts ps d rest built none =
-    λ us qs other p m. none p (m.0, m.1, accepted_matched d ts ps built.stands (chars p) (matched_accepts d us qs other.stands (chars p) m.2))
 
 -- where nothing matches, the first character is passed
 pub char_passed : (m between n : Matching) (o : Option ℕ) → rest_of m ≢ [] → between ≡ record m { spare = between.spare }
@@ -41,11 +35,11 @@ char_passed m between n (Some c) some stays first passes end =
     ∙ ap (λ (u : ℕ). record m { at = m.at + length (encode_utf8 c); spare = u }) (sym same) in
     ((c, (rest, behind)), same)
 
--- ---- what it costs with a memo
+-- ---- what it costs
 
 -- a match pays for itself, and for 64 characters besides
 pub match_pays : (m n : Matching) (p : List ℕ) (before after : ℕ) → IsPrefix p (rest_of m) → p ≢ [] → n ≡ record m { at = m.at + length p; spare = n.spare }
-    → before ≤ after → after + n.spare ≤ before + length (chars p) + m.spare + 64 → IsPaid before (memo_of (Remembering m)) after (memo_of (Remembering n))
+    → before ≤ after → after + n.spare ≤ before + length (chars p) + m.spare + 64 → IsPaid before (memo_of m) after (memo_of n)
 match_pays m n p before after b some e grows paid =
     let later : rest_of n ≡ drop (m.at + length p) m.text = ap (λ (x : Matching). rest_of x) e in
     let parts : length (chars (rest_of m)) ≡ length (chars p) + length (chars (rest_of n)) =
@@ -55,16 +49,11 @@ match_pays m n p before after b some e grows paid =
 
 -- and so does a character that is passed
 pub char_pays : (m n : Matching) (between before after : ℕ) → IsUtf8 (rest_of m) → Passes m n None → n.spare ≡ between → before ≤ after
-    → after + between ≤ before + m.spare + 64 → IsPaid before (memo_of (Remembering m)) after (memo_of (Remembering n))
+    → after + between ≤ before + m.spare + 64 → IsPaid before (memo_of m) after (memo_of n)
 char_pays m n between before after u (c, (e, behind)) same grows paid =
     let count : length (chars (rest_of m)) ≡ suc (length (chars (rest_of n))) = ap (λ (w : List ℕ). length w) (chars_past_char (rest_of m) (rest_of n) c u e) in
     (grows, omega (arith, count, paid, same))
 
 -- what is paid for step by step is paid for
-pub paid_on : (a b c : ℕ) (l m n : Option Memo) → IsPaid a l b m → IsPaid b m c n → IsPaid a l c n
-paid_on a b c None None None first then = then ∙ first
-paid_on a b c None None (Some n) first then = then
-paid_on a b c None (Some m) n first then = absurd first
-paid_on a b c (Some l) None n first then = absurd first
-paid_on a b c (Some l) (Some m) None first then = then
-paid_on a b c (Some l) (Some m) (Some n) first then = (omega (arith, first.0, then.0), omega (arith, first.1, then.1))
+pub paid_on : (a b c : ℕ) (l m n : Memo) → IsPaid a l b m → IsPaid b m c n → IsPaid a l c n
+paid_on a b c l m n first then = (omega (arith, first.0, then.0), omega (arith, first.1, then.1))

@@ -1,17 +1,17 @@
 -- What cuts a text in each mode, at first.
 use Rattle.std.proofs.Common.{◌≡◌, ℕ, zero, suc, ◌+◌, ◌*◌, ◌<◌, ◌≤◌, inl, inr, List, [], ◌∷◌, ◌++◌, map, length, take, refl, sym, ap, subst, ◌∙◌, arith, length-append}
-use Rattle.std.specs.Prelude.{Option, Some, None, IsSome, IsSomeAnd, slice_get, sum_by}
+use Rattle.std.specs.Prelude.{Some, slice_get, sum_by}
 use Rattle.std.specs.Str.{chars, IsUtf8}
 use Rattle.std.proofs.Math.Nat.{mul-le-mul_right}
 use Rattle.std.proofs.lemmas.List.Sums.{sum_by-cons, sum_by_push, sum_by-take-le}
 use Rattle.std.proofs.lemmas.Str.{IsCharBoundary-start}
 use Rattle.lalrpop_lexer.specs.Matching.{open_states}
 use Rattle.lalrpop_lexer.specs.Rules.{Rules}
-use Rattle.lalrpop_rules.specs.CutToEnd.{CutToEnd, Memo, uncut}
+use Rattle.lalrpop_rules.specs.Internal.CutToEnd.{CutToEnd, uncut}
 use Rattle.bajofeki_rules.specs.declared.action.Action.{Action}
 use Rattle.lalrpop_rules.specs.Modes.{ModeRules, trees_in}
 use Rattle.lalrpop_rules.specs.ModeCut.{open_in_all}
-use Rattle.lalrpop_rules.specs.Internal.Cutting.{spare_in, spare_of, with_spare, memo_in, steps_in, IsCutIn, AreUncut, IsCutting, HasAtMost}
+use Rattle.lalrpop_rules.specs.Internal.Cutting.{spare_of, memo_in, steps_in, IsCutIn, AreUncut, IsCutting, HasAtMost}
 use Rattle.lalrpop_rules.proofs.ModeByMode.{slice_end}
 use Rattle.lalrpop_rules.proofs.ModeRuns.{no_actions}
 
@@ -44,42 +44,27 @@ more_spare count chars known new bytes spare one all few =
     let states : (known + new) * bytes ≡ known * bytes + new * bytes = grind arith in
     omega (arith, all, few, modes, states)
 
-some_memo : (P : Memo → Type 0) (m : Option Memo) → IsSomeAnd m P → IsSome m
-some_memo P None h = absurd h
-some_memo P (Some m) h = refl
-
-first_of_two : (P Q : Memo → Type 0) (m : Option Memo) → IsSomeAnd m (λ x. P x × Q x) → IsSomeAnd m P
-first_of_two P Q None h = absurd h
-first_of_two P Q (Some m) h = h.0
-
-spare_at_most : (P : Memo → Type 0) (most : ℕ) (m : Option Memo) → IsSomeAnd m (λ x. P x × (x.spare ≤ most)) → spare_in m ≤ most
-spare_at_most P most None h = absurd h
-spare_at_most P most (Some m) h = h.1
-
 -- what cuts the text in the next mode
 pub one_more : (r : ModeRules) (rules : Rules) (text : List ℕ) (count : ℕ) (cs new : List CutToEnd) (d : CutToEnd) → AreUncut r text count cs
     → d ≡ uncut rules r.skips text d.memo → rules.trees ≡ trees_in r count → rules.precedences ≡ r.precedences → slice_get r.automata count ≡ Some rules.automaton
-    → IsSomeAnd d.memo (λ m. (m.unsought ≡ length (chars text)) × (m.spare ≤ length (chars text) + length text + open_states rules.automaton * (length text + 64)))
+    → d.memo.unsought ≡ length (chars text) → d.memo.spare ≤ length (chars text) + length text + open_states rules.automaton * (length text + 64)
     → new ≡ cs ++ d ∷ [] → AreUncut r text (count + 1) new
-one_more r rules text count cs new d are e trees precedences automaton memo more =
+one_more r rules text count cs new d are e trees precedences automaton unsought few more =
     let size : length new ≡ count + 1 = omega (arith, ap length more, length-append cs (d ∷ []), are.many) in
     let here : IsCutIn r text 0 count d = record {
       trees = ap (λ (c : CutToEnd). c.rules.trees) e ∙ trees;
       precedences = ap (λ (c : CutToEnd). c.rules.precedences) e ∙ precedences;
       skips = ap (λ (c : CutToEnd). c.skips) e;
       same_text = ap (λ (c : CutToEnd). c.text) e;
-      memo = some_memo _ d.memo memo;
       behind = omega (arith, ap (λ (c : CutToEnd). c.at) e);
     } in
-    let unsought : IsSomeAnd d.memo (λ m. m.unsought ≡ length (chars text)) = first_of_two _ _ d.memo memo in
-    let few : spare_of d ≤ length (chars text) + length text + open_states rules.automaton * (length text + 64) = spare_at_most _ _ d.memo memo in
     record {
       many = size;
       each = λ m c at. elim (slice_end cs d c m (ap (λ (xs : List CutToEnd). slice_get xs m) (sym more) ∙ at)) [
         | inl h ↦ are.each m c h
         | inr p ↦
             let there : IsCutIn r text 0 m d = subst (λ (k : ℕ). IsCutIn r text 0 k d) (sym (p.0 ∙ are.many)) here in
-            subst (λ (w : CutToEnd). IsCutIn r text 0 m w × (w.at ≡ 0) × IsSomeAnd w.memo (λ x. x.unsought ≡ length (chars text))) p.1
+            subst (λ (w : CutToEnd). IsCutIn r text 0 m w × (w.at ≡ 0) × (w.memo.unsought ≡ length (chars text))) p.1
             (there, ap (λ (c : CutToEnd). c.at) e, unsought)
       ];
       unread =
@@ -95,42 +80,31 @@ one_more r rules text count cs new d are e trees precedences automaton memo more
 
 -- ---- all of them
 
-upper : (P Q : Memo → Type 0) (m : Option Memo) → ((x : Memo) → P x → Q x) → IsSomeAnd m P → IsSomeAnd m Q
-upper P Q None f h = absurd h
-upper P Q (Some m) f h = f m h
-
 pub cutting_at_first : (r : ModeRules) (text : List ℕ) (cs : List CutToEnd) → IsUtf8 text → 0 < r.modes → AreUncut r text r.modes cs → IsCutting r text 0 0 cs
 cutting_at_first r text cs u some are = record {
   utf8 = u;
   boundary = IsCharBoundary-start text u;
   there = some;
   cuts = record {
-    all = inr are.many;
+    all = are.many;
     each = λ m c is. (are.each m c is).0;
     here = λ c is. (are.each 0 c is).1;
-    others = λ m c is other.
-        upper _ _ c.memo (λ x e. omega (arith, e, ap (λ (t : List ℕ). length (chars t)) (are.each m c is).0.same_text)) (are.each m c is).2;
+    others = λ m c is other. omega (arith, (are.each m c is).2, ap (λ (t : List ℕ). length (chars t)) (are.each m c is).0.same_text);
   };
 }
 
 -- the memo that they have together
-pub memo_at_first : (r : ModeRules) (text : List ℕ) (cs : List CutToEnd) → 0 < r.modes → AreUncut r text r.modes cs
-    → IsSomeAnd (memo_in 0 cs) (λ m. (m.unsought ≡ length (chars text))
-    × (m.spare ≤ r.modes * (length (chars text) + length text) + open_in_all r * (length text + 64)))
-memo_at_first r text [] some are = absurd (none are.many)
+pub unsought_at_first : (r : ModeRules) (text : List ℕ) (cs : List CutToEnd) → 0 < r.modes → AreUncut r text r.modes cs
+    → (memo_in 0 cs).unsought ≡ length (chars text)
+unsought_at_first r text [] some are = absurd (none are.many)
   where
     none : 0 ≡ r.modes → ⊥
     none e = omega (arith, e, some)
-memo_at_first r text (c ∷ cs) some are = joint c.memo (are.each 0 c refl).2
-  where
-    all : sum_by spare_of (c ∷ cs) ≤ r.modes * (length (chars text) + length text) + open_in_all r * (length text + 64)
-    all = omega (arith, are.spare, mul-le-mul_right (length text + 64) (sum_by-take-le open_states r.automata r.modes))
+unsought_at_first r text (c ∷ cs) some are = (are.each 0 c refl).2
 
-    joint : (m : Option Memo) → IsSomeAnd m (λ x. x.unsought ≡ length (chars text))
-        → IsSomeAnd (with_spare m (sum_by spare_of (c ∷ cs))) (λ m. (m.unsought ≡ length (chars text))
-        × (m.spare ≤ r.modes * (length (chars text) + length text) + open_in_all r * (length text + 64)))
-    joint None h = absurd h
-    joint (Some m) h = (h, all)
+pub spare_at_first : (r : ModeRules) (text : List ℕ) (cs : List CutToEnd) → AreUncut r text r.modes cs
+    → sum_by spare_of cs ≤ r.modes * (length (chars text) + length text) + open_in_all r * (length text + 64)
+spare_at_first r text cs are = omega (arith, are.spare, mul-le-mul_right (length text + 64) (sum_by-take-le open_states r.automata r.modes))
 
 -- ---- the most actions of a rule
 

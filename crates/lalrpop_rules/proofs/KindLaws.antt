@@ -11,7 +11,8 @@ use Rattle.lalrpop_hir.specs.Winners.{TreeMatches}
 use Rattle.std.proofs.lemmas.Bool.{false≢true}
 use Rattle.std.proofs.lemmas.List.Folds.{list_any-append}
 use Rattle.std.proofs.lemmas.Bool.Decides.{Decides-eqb}
-use Rattle.lalrpop_hir.specs.Report.{NoFault}
+use Rattle.lalrpop_hir.specs.Report.{NoFault, FirstFault}
+use Rattle.lalrpop_hir.specs.declared.error.NfaConstructionError.{NfaConstructionError}
 use Rattle.lalrpop_hir.specs.Parts.{trees}
 use Rattle.lalrpop_rules.specs.Kinds.{IsFirstSame, is_kind, trees_of_kind, one_tree, gathered, merged_behind, merged}
 
@@ -153,6 +154,10 @@ fine_behind before (o ∷ os) (t ∷ ts) fine =
 -- where all trees can be compiled, so can the merged ones
 pub no_fault_merged : (os : List (Option ℕ)) (ts : List Tree) → NoFault ts → NoFault (merged os ts)
 no_fault_merged os ts none = no_fault (merged os ts) (fine_behind [] os ts (all_fine ts none))
+
+pub no_first_fault : (ts : List Tree) (i : ℕ) (e : NfaConstructionError) → NoFault ts → ¬ FirstFault ts i e
+no_first_fault ts i e none first =
+    let both : None ≡ Some e = sym (none i first.tree first.at) ∙ first.has in absurd (cc)
 
 -- ---- words
 
@@ -303,6 +308,15 @@ pub into_merged : (os : List (Option ℕ)) (ts : List Tree) (w : List ℕ) (j k 
 into_merged os ts w j k has matches = into_behind [] os ts w j k refl has matches
 
 -- ---- lengths
+
+few_behind : (before os : List (Option ℕ)) (ts : List Tree) → length (merged_behind before os ts) ≤ length ts
+few_behind before [] ts = omega arith
+few_behind before (o ∷ os) [] = omega arith
+few_behind before (o ∷ os) (t ∷ ts) = omega (arith, few_behind (before ++ o ∷ []) os ts)
+
+-- no more than before
+pub merged-few : (os : List (Option ℕ)) (ts : List Tree) → length (merged os ts) ≤ length ts
+merged-few os ts = few_behind [] os ts
 
 length_behind : (before os : List (Option ℕ)) (ts : List Tree) → length os ≡ length ts → length (merged_behind before os ts) ≡ length ts
 length_behind before [] [] same = refl

@@ -5,7 +5,6 @@ pub mod FirstMatches
 pub mod CallerLaws
 -- the pieces of a text
 pub mod Fronts
-pub mod FoundPieces
 pub mod PieceLaws
 pub mod UniquePieces
 pub mod FirstPieces
@@ -13,7 +12,6 @@ pub mod PiecesExist
 -- the match at the front of a rest, and what it costs
 pub mod Finding
 pub mod Waiting
-pub mod LinearPieces
 -- what holds of every error
 pub mod Results
 -- the trees of texts
@@ -38,5 +36,7 @@ pub mod ModeByMode
 pub mod ClashLists
 -- a lexer of a file
 pub mod FileLexers
+-- rules without modes
+pub mod OneMode
 -- stacks that are the same
 mod SameStacks

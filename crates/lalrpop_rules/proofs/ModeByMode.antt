@@ -1,19 +1,18 @@
 -- The lexers of modes, one after another.
 use Rattle.std.proofs.Common.{◌≡◌, ℕ, zero, suc, ◌+◌, ◌<◌, ◌≤◌, ◌⊎◌, ◌==◌, inl, inr, List, [], ◌∷◌, ◌++◌, length, map, refl, ap, sym, subst, ◌∙◌, arith, eq-or-lt_of_le}
-use Rattle.std.specs.Prelude.{Some, None, slice_get}
+use Rattle.std.specs.Prelude.{Some, slice_get}
 use Rattle.std.specs.List.{list_any}
 use Rattle.std.proofs.lemmas.List.{length-map}
 use Rattle.std.proofs.lemmas.Simd.{map-map}
 use Rattle.lalrpop_hir.specs.Tree.{Tree}
 use Rattle.lalrpop_hir.specs.Clash.{NoClash}
-use Rattle.lalrpop_hir.specs.Report.{NoFault, FirstFault, IsReport}
-use Rattle.lalrpop_hir.specs.declared.error.NfaConstructionError.{NfaConstructionError}
+use Rattle.lalrpop_hir.specs.Report.{NoFault, IsReport}
 use Rattle.lalrpop_hir.specs.declared.error.DfaConstructionError.{DfaConstructionError}
 use Rattle.lalrpop_hir.specs.declared.error.DfaConstructionError.TheVariants as report
 use Rattle.lalrpop_lexer.specs.Rules.{Rules}
 use Rattle.lalrpop_rules.specs.RuleSet.{AreTrees, IsTextError}
 use Rattle.lalrpop_rules.proofs.RuleTrees.{length-AreTrees}
-use Rattle.lalrpop_rules.proofs.KindLaws.{no_fault_merged}
+use Rattle.lalrpop_rules.proofs.KindLaws.{no_fault_merged, no_first_fault}
 use Rattle.lalrpop_rules.specs.declared.text_error.TextError.{TextError}
 use Rattle.lalrpop_rules.specs.declared.text_error.TextError.TheVariants as texts
 use Rattle.lalrpop_rules.specs.Modes.{ModeRules, kinds_of, mode_rules, trees_of, trees_in}
@@ -23,10 +22,6 @@ use Rattle.bajofeki_rules.specs.declared.mode_rule.ModeRule.{ModeRule}
 use Rattle.lalrpop_rules.specs.declared.error.RulesError.{RulesError}
 use Rattle.lalrpop_rules.specs.declared.error.RulesError.TheVariants.{NoSuchMode, NotParsed, BadEnd, NotCompiled, Clash, OutOfMemory}
 use Rattle.lalrpop_rules.specs.Internal.Lexers.{AreLexers, IsModeFault, in_mode, seen}
-
-pub no_first_fault : (ts : List Tree) (i : ℕ) (e : NfaConstructionError) → NoFault ts → ¬ FirstFault ts i e
-no_first_fault ts i e none first =
-    let both : None ≡ Some e = sym (none i first.tree first.at) ∙ first.has in absurd (cc)
 
 -- the trees of a mode, whether the modes of each rule are listed first or not
 pub same_trees : {K : Type 0} (f : K → List ℕ) (ks : List K) (ns : List ℕ) (ts : List Tree) (m : ℕ)

@@ -22,7 +22,6 @@ use Rattle.bajofeki_rules.specs.EnteredModes.{Belongs, OneLeadsInto, CanBeEntere
 use Rattle.lalrpop_hir.specs.Clash.{NoClash, IsClash}
 use Rattle.std.proofs.lemmas.Bool.{cases_order, eqb-true}
 use Rattle.std.proofs.lemmas.List.Folds.{Any-from_list_any}
-use Rattle.lalrpop_rules.proofs.ModePieces.{as-without-modes, with-modes}
 
 -- ---- the trees of a mode
 
@@ -49,31 +48,6 @@ kind_there (b ∷ bs) (n ∷ ks) (suc i) k belongs at = kind_there bs ks i k bel
 pub into-mode : (bs : List Bool) (ks : List ℕ) (ts : List Tree) (w : List ℕ) (j k : ℕ) → slice_get bs j ≡ Some true → slice_get ks j ≡ Some k → TreeMatches ts w j
     → (i : ℕ) × ((slice_get (kinds_of bs ks) i ≡ Some (Some k)) × TreeMatches (trees_of bs ks ts) w i)
 into-mode bs ks ts w j k belongs at matches = into_merged (kinds_of bs ks) ts w j k (kind_there bs ks j k belongs at) matches
-
--- rules with one mode, to which each belongs, and no action
-abbrev pub without_modes : List Tree → List ℕ → List Bool → List ℕ → ModeRules
-without_modes ts ps skips ks =
-    record { names = []; trees = ts; precedences = ps; skips = skips; actions = []; members = map (λ _. 0 ∷ []) ks; kinds = ks; modes = 1; automata = [] }
-
-all_kinds : (ks : List ℕ) → kinds_of (map (λ modes. list_any (λ n. n == 0) modes) (map (λ (_ : ℕ). 0 ∷ []) ks)) ks ≡ all_at_work ks
-all_kinds [] = refl
-all_kinds (k ∷ ks) = ap (λ (os : List (Option ℕ)). Some k ∷ os) (all_kinds ks)
-
-no_action : (i : ℕ) → actions_of [] i ≡ []
-no_action i = refl
-
--- their pieces are those of rules without modes
-pub one-mode : (ts : List Tree) (ps : List ℕ) (skips : List Bool) (ks text : List ℕ) (xs : List Item) (end : Stack)
-    → ArePiecesFrom (without_modes ts ps skips ks) text 0 start xs end → ArePieces (merged (all_at_work ks) ts) ps skips text 0 xs × (end ≡ start)
-one-mode ts ps skips ks text xs end are =
-    let same = as-without-modes (without_modes ts ps skips ks) text 0 start xs end no_action are in
-    (subst (λ (os : List (Option ℕ)). ArePieces (merged os ts) ps skips text 0 xs) (all_kinds ks) same.0, same.1)
-
-pub one-mode-too : (ts : List Tree) (ps : List ℕ) (skips : List Bool) (ks text : List ℕ) (xs : List Item)
-    → ArePieces (merged (all_at_work ks) ts) ps skips text 0 xs → ArePiecesFrom (without_modes ts ps skips ks) text 0 start xs start
-one-mode-too ts ps skips ks text xs are =
-    with-modes (without_modes ts ps skips ks) text 0 start xs no_action
-    (subst (λ (os : List (Option ℕ)). ArePieces (merged os ts) ps skips text 0 xs) (sym (all_kinds ks)) are)
 
 -- ---- the modes that are entered
 

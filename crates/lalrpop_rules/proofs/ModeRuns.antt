@@ -1,14 +1,14 @@
 -- What the calls of `next_item` give for a text that is cut by rules with modes.
-use Rattle.std.proofs.Common.{◌≡◌, ℕ, zero, suc, ◌+◌, ◌<◌, ◌≤◌, map, refl, arith, get_or, Bool, List, [], ◌∷◌, length, sym, ap, subst, ◌∙◌, Result, Ok, Err, OnOk}
+use Rattle.std.proofs.Common.{◌≡◌, ℕ, zero, suc, ◌+◌, ◌<◌, ◌≤◌, map, refl, arith, get_or, Bool, List, [], ◌∷◌, length, sym, ap, subst, ◌∙◌, ◌++◌, append_assoc, Result, Ok, Err, OnOk}
 use Rattle.std.specs.Str.{IsUtf8, IsCharBoundary}
 use Rattle.std.proofs.lemmas.Str.{IsUtf8-drop}
 use Rattle.lalrpop_hir.specs.Tree.{Tree}
-use Rattle.lalrpop_rules.specs.Pieces.{IsPiece, slice_of}
+use Rattle.lalrpop_rules.specs.Pieces.{IsPiece, joined, slice_of}
 use Rattle.lalrpop_rules.proofs.Fronts.{boundary_behind}
-use Rattle.lalrpop_rules.proofs.PieceLaws.{is_front}
+use Rattle.lalrpop_rules.proofs.PieceLaws.{is_front, split_at}
 use Rattle.lalrpop_rules.proofs.Finding.{paid_on}
-use Rattle.std.specs.Prelude.{Option, Some}
-use Rattle.lalrpop_rules.specs.CutToEnd.{Memo}
+use Rattle.std.specs.Prelude.{Some}
+use Rattle.lalrpop_rules.specs.Internal.CutToEnd.{steps_for}
 use Rattle.std.specs.Iterator.{Yields}
 use Rattle.lalrpop_rules.specs.declared.item.Item.{Item}
 use Rattle.bajofeki_rules.specs.declared.action.Action.{Action}
@@ -26,24 +26,42 @@ pieces-of-run s t [] y end = (ap (λ (w : ModeCut). left_text w) y ∙ end, sym 
 pieces-of-run s t (x ∷ xs) (j, g, y) end =
     (g.0, subst (λ (w : ModeCut). ArePiecesFrom w.rules w.text w.at w.stack xs t.stack) g.1 (pieces-of-run j t xs y end))
 
-pub pieces-from-first : (s : ModeCut) (r : ModeRules) (text : List ℕ) (memo : Option Memo) → s ≡ uncut r text memo → (xs : List Item) (t : ModeCut)
+pub pieces-from-first : (s : ModeCut) (r : ModeRules) (text : List ℕ) (most : ℕ) → s ≡ uncut r text most → (xs : List Item) (t : ModeCut)
     → Yields GivesModePiece s xs t → left_text t ≡ [] → ArePiecesFrom r text 0 start xs t.stack
-pieces-from-first s r text memo e xs t y end =
+pieces-from-first s r text most e xs t y end =
     subst (λ (w : ModeCut). ArePiecesFrom w.rules w.text w.at w.stack xs t.stack) e (pieces-of-run s t xs y end)
 
 -- a piece is cut in the mode on top, and the text is cut in the new one from then on
 pub piece-given : (old between new : Cutting) (s t : Stack) (x : Item) (mode : ℕ) (over : Bool) → old.mode ≡ s.mode → CutsPiece old x between → Follows between mode new
     → t ≡ after old.rules.actions x s
-    → GivesModePiece (record { rules = old.rules; text = old.text; at = old.at; stack = s; memo = old.memo; steps = old.steps; is_over = over }) (Some x)
-    (record { rules = new.rules; text = new.text; at = new.at; stack = t; memo = new.memo; steps = new.steps; is_over = over })
+    → GivesModePiece (record { rules = old.rules; text = old.text; at = old.at; stack = s; steps = old.steps; steps_left = steps_for old.memo; is_over = over }) (Some x)
+    (record { rules = new.rules; text = new.text; at = new.at; stack = t; steps = new.steps; steps_left = steps_for new.memo; is_over = over })
 piece-given old between new s t x mode over on_top cuts follows acted =
     let passed : new ≡ record old { at = old.at + length (slice_of x); mode = mode; memo = new.memo; steps = new.steps } =
     follows.enters ∙ ap (λ (c : Cutting). record c { mode = mode; memo = new.memo; steps = new.steps }) cuts.goes_on in
-    let there : ModeCut = record { rules = old.rules; text = old.text; at = old.at + length (slice_of x); stack = t; memo = new.memo; steps = new.steps; is_over = over } in (
+    let there : ModeCut = record { rules = old.rules; text = old.text; at = old.at + length (slice_of x); stack = t; steps = new.steps; steps_left = steps_for new.memo; is_over = over } in (
       subst (λ (m : ℕ). IsPiece (trees_in old.rules m) old.rules.precedences old.rules.skips old.text old.at x) on_top cuts.piece,
       ap (λ (c : Cutting). record there { rules = c.rules; text = c.text; at = c.at }) passed ∙ ap (λ (u : Stack). record there { stack = u }) acted,
       paid_on old.steps between.steps new.steps old.memo between.memo new.memo cuts.paid follows.paid,
     )
+
+-- ---- the pieces and the rest are the text
+
+step_splits : (s j : ModeCut) (x : Item) → GivesModePiece s (Some x) j → left_text s ≡ slice_of x ++ left_text j
+step_splits s j x g =
+    split_at s.text s.at (slice_of x) (is_front (trees_in s.rules s.stack.mode) s.rules.precedences s.rules.skips s.text s.at x g.0)
+    ∙ ap (λ (w : ModeCut). slice_of x ++ left_text w) (sym g.1)
+
+parts-of-run : (s t : ModeCut) (xs : List Item) → Yields GivesModePiece s xs t → left_text s ≡ joined xs ++ left_text t
+parts-of-run s t [] y = ap (λ (w : ModeCut). left_text w) y
+parts-of-run s t (x ∷ xs) (j, g, y) =
+    step_splits s j x g ∙ ap (λ (r : List ℕ). slice_of x ++ r) (parts-of-run j t xs y) ∙ sym (append_assoc (slice_of x) (joined xs) (left_text t))
+
+pub parts-from-first : (s : ModeCut) (r : ModeRules) (text : List ℕ) (most : ℕ) → s ≡ uncut r text most → (xs : List Item) (t : ModeCut)
+    → Yields GivesModePiece s xs t → text ≡ joined xs ++ left_text t
+parts-from-first s r text most e xs t y = sym (ap (λ (w : ModeCut). left_text w) e) ∙ parts-of-run s t xs y
+
+-- ---- actions
 
 -- actions that lead only into modes that are there keep to them
 pub act-within : (n : ℕ) (acts : List Action) (s t : Stack) → t ≡ act_all acts s → ((m : ℕ) → OneLeadsInto acts m → m < n) → EachMode (λ m. m < n) s

@@ -1,10 +1,12 @@
 -- What the calls of `next` give for a text that is cut by rules with modes.
-use Rattle.std.proofs.Common.{◌≡◌, ◌≢◌, ℕ, ◌<◌, ◌≤◌, map, true, false, List, [], ◌∷◌, length, arith, sym, ap, subst, ◌∙◌}
-use Rattle.std.specs.Prelude.{Option, Some, Ok}
+use Rattle.std.proofs.Common.{◌≡◌, ◌≢◌, ℕ, ◌<◌, ◌≤◌, map, true, false, inl, inr, List, [], ◌∷◌, ◌++◌, length, arith, refl, sym, ap, subst, ◌∙◌}
+use Rattle.std.proofs.iter.Next.{Yields-more}
+use Rattle.std.proofs.lemmas.List.{map-append}
+use Rattle.std.specs.Prelude.{Option, Some, None, Result, Ok}
+use Rattle.std.specs.declared.alloc.AllocError.{AllocError}
 use Rattle.std.specs.Iterator.{Yields}
 use Rattle.std.specs.Str.{chars, IsUtf8}
 use Rattle.lalrpop_lexer.proofs.Cuttings.{some_char}
-use Rattle.lalrpop_rules.specs.CutToEnd.{Memo}
 use Rattle.lalrpop_rules.specs.Pieces.{slice_of}
 use Rattle.lalrpop_rules.specs.declared.item.Item.{Item}
 use Rattle.lalrpop_rules.proofs.PieceLaws.{is_front, is_some, fewer_left, utf8_behind}
@@ -44,9 +46,9 @@ count_left s t (x ∷ xs) u (j, g, y) =
     let later : IsUtf8 (left_text j) = subst (λ (w : ModeCut). IsUtf8 (left_text w)) (sym g.1) (utf8_behind s.text s.at (slice_of x) u front) in
     omega (arith, fewer_chars s j x u g, count_left j t xs later y)
 
-pub count-from-first : (s : ModeCut) (r : ModeRules) (text : List ℕ) (memo : Option Memo) → s ≡ uncut r text memo → IsUtf8 text → (xs : List Item)
+pub count-from-first : (s : ModeCut) (r : ModeRules) (text : List ℕ) (most : ℕ) → s ≡ uncut r text most → IsUtf8 text → (xs : List Item)
     (t : ModeCut) → Yields GivesModePiece s xs t → length xs ≤ length (chars text)
-count-from-first s r text memo e u xs t y =
+count-from-first s r text most e u xs t y =
     let rest : left_text s ≡ text = ap (λ (w : ModeCut). left_text w) e in
     subst (λ (p : List ℕ). length xs ≤ length (chars p)) rest (count_left s t xs (subst IsUtf8 (sym rest) u) y)
 
@@ -60,6 +62,27 @@ pieces-of-next s t (x ∷ xs) on (j, g, y) =
     let later = pieces-of-next j t xs (ap (λ (w : ModeCut). w.is_over) g.1.1 ∙ on) y in
     ((j, g.1, later.0), later.1)
 
-pub next-from-first : (s : ModeCut) (r : ModeRules) (text : List ℕ) (memo : Option Memo) → s ≡ uncut r text memo → (xs : List Item) (t : ModeCut)
+pub next-from-first : (s : ModeCut) (r : ModeRules) (text : List ℕ) (most : ℕ) → s ≡ uncut r text most → (xs : List Item) (t : ModeCut)
     → Yields GivesPieceOrError s (map Ok xs) t → Yields GivesModePiece s xs t × (t.is_over ≡ false)
-next-from-first s r text memo e xs t y = pieces-of-next s t xs (ap (λ (w : ModeCut). w.is_over) e) y
+next-from-first s r text most e xs t y = pieces-of-next s t xs (ap (λ (w : ModeCut). w.is_over) e) y
+
+-- ---- a loop over the pieces
+
+-- one piece more
+pub piece_more : (s t u : ModeCut) (o : Option (Result Item AllocError)) (item : Result Item AllocError) (xs : List Item) (x : Item)
+    → Yields GivesPieceOrError s (map Ok xs) t → o ≡ Some item → GivesPieceOrError t o u → item ≡ Ok x → Yields GivesPieceOrError s (map Ok (xs ++ x ∷ [])) u
+piece_more s t u o item xs x y is gives ok =
+    let longer : Yields GivesPieceOrError s (map Ok xs ++ item ∷ []) u =
+    Yields-more GivesPieceOrError s (map Ok xs) t item u y (subst (λ (p : Option (Result Item AllocError)). GivesPieceOrError t p u) is gives) in
+    let same : map Ok xs ++ item ∷ [] ≡ map Ok (xs ++ x ∷ []) = rw (ok, map-append) refl in
+    subst (λ (ys : List (Result Item AllocError)). Yields GivesPieceOrError s ys u) same longer
+
+-- no piece after those that there are
+pub all_pieces : (s r t u : ModeCut) (o : Option (Result Item AllocError)) (xs : List Item) → r ≡ s → Yields GivesPieceOrError r (map Ok xs) t → o ≡ None
+    → GivesPieceOrError t o u
+    → ((ys : List Item) (w : ModeCut) → Yields GivesPieceOrError s (map Ok ys) w → Yields GivesModePiece s ys w × (w.is_over ≡ false))
+    → Yields GivesModePiece s xs t × (left_text t ≡ [])
+all_pieces s r t u o xs same y is gives next =
+    let given = next xs t (subst (λ (w : ModeCut). Yields GivesPieceOrError w (map Ok xs) t) same y) in
+    let end = subst (λ (p : Option (Result Item AllocError)). GivesPieceOrError t p u) is gives in
+    (given.0, elim end.1 [ inl over ↦ cc (over, given.1) | inr none ↦ none ])

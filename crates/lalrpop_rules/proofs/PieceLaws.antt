@@ -1,18 +1,14 @@
--- What the calls of `next` give for a text that is cut to its end.
+-- What holds of the pieces of a text.
 use Rattle.std.proofs.Common.{◌≡◌, ◌≢◌, ℕ, ◌+◌, ◌<◌, ◌≤◌, Bool, inl, inr, List, [], ◌∷◌, ◌++◌, length, drop, arith, refl, sym, ap, subst, ◌∙◌, append_assoc, length-append}
-use Rattle.std.specs.Prelude.{Option, Some, None}
-use Rattle.std.specs.Iterator.{Yields, Drains}
 use Rattle.std.specs.Str.{chars, IsUtf8}
 use Rattle.std.proofs.lemmas.Str.{IsUtf8-drop, chars-append}
 use Rattle.std.proofs.lemmas.List.{append-nil, drop_at, drop-drop}
 use Rattle.lalrpop_hir.specs.Tree.{Tree}
 use Rattle.lalrpop_hir.specs.Prefix.{IsPrefix}
-use Rattle.lalrpop_lexer.specs.Rules.{Rules}
 use Rattle.lalrpop_hir.specs.Tokens.{AreTokens}
 use Rattle.lalrpop_hir.proofs.LastFaults.{tokens_to_fault}
 use Rattle.lalrpop_rules.specs.Found.{MatchesAt}
-use Rattle.lalrpop_rules.specs.Pieces.{IsFault, IsPiece, ArePieces, AreApart, slice_of, joined, up_to_fault}
-use Rattle.lalrpop_rules.specs.CutToEnd.{CutToEnd, Memo, uncut, left_text, pieces_left, GivesPiece}
+use Rattle.lalrpop_rules.specs.Pieces.{IsFault, IsPiece, ArePieces, AreApart, slice_of, up_to_fault}
 use Rattle.lalrpop_rules.specs.declared.item.Item.{Item}
 use Rattle.lalrpop_rules.specs.declared.item.Item.TheVariants.{Token, Skipped, Fault}
 use Rattle.lalrpop_lexer.proofs.Cuttings.{cut_behind, some_char}
@@ -54,48 +50,6 @@ fewer_left text at p u b some =
     ∙ length-append (chars p) (chars (drop (at + length p) text)) in
     omega (arith, count, some_char p b.1.1 some)
 
--- and so it is behind a piece that is given
-pub fewer_behind : (s t : CutToEnd) (x : Item) → IsUtf8 (left_text s) → GivesPiece s (Some x) t → pieces_left t < pieces_left s
-fewer_behind s t x u g =
-    let front = is_front s.rules.trees s.rules.precedences s.skips s.text s.at x g.0 in
-    let some = is_some s.rules.trees s.rules.precedences s.skips s.text s.at x g.0 in
-    subst (λ (w : CutToEnd). pieces_left w < pieces_left s) (sym g.1) (fewer_left s.text s.at (slice_of x) u front some)
-
--- ---- all pieces
-
--- the pieces, up to the first `None`
-pub pieces_of : (s t u : CutToEnd) (xs : List Item) → Yields GivesPiece s xs t → GivesPiece t None u
-    → ArePieces s.rules.trees s.rules.precedences s.skips s.text s.at xs
-pieces_of s t u [] y (same, end) = ap (λ (w : CutToEnd). left_text w) y ∙ end
-pieces_of s t u (x ∷ xs) (j, g, y) last =
-    (g.0, subst (λ (w : CutToEnd). ArePieces w.rules.trees w.rules.precedences w.skips w.text w.at xs) g.1 (pieces_of j t u xs y last))
-
-step_splits : (s j : CutToEnd) (x : Item) → GivesPiece s (Some x) j → left_text s ≡ slice_of x ++ left_text j
-step_splits s j x g =
-    split_at s.text s.at (slice_of x) (is_front s.rules.trees s.rules.precedences s.skips s.text s.at x g.0)
-    ∙ ap (λ (w : CutToEnd). slice_of x ++ left_text w) (sym g.1)
-
--- the slices and the rest are what was left
-pub parts_of : (s t : CutToEnd) (xs : List Item) → Yields GivesPiece s xs t → left_text s ≡ joined xs ++ left_text t
-parts_of s t [] y = ap (λ (w : CutToEnd). left_text w) y
-parts_of s t (x ∷ xs) (j, g, y) =
-    step_splits s j x g ∙ ap (λ (r : List ℕ). slice_of x ++ r) (parts_of j t xs y) ∙ sym (append_assoc (slice_of x) (joined xs) (left_text t))
-
-pub count_of : (s t : CutToEnd) (xs : List Item) → IsUtf8 (left_text s) → Yields GivesPiece s xs t → length xs ≤ pieces_left s
-count_of s t [] u y = omega arith
-count_of s t (x ∷ xs) u (j, g, y) =
-    let front = is_front s.rules.trees s.rules.precedences s.skips s.text s.at x g.0 in
-    let later : IsUtf8 (left_text j) = subst (λ (w : CutToEnd). IsUtf8 (left_text w)) (sym g.1) (utf8_behind s.text s.at (slice_of x) u front) in
-    omega (arith, fewer_behind s j x u g, count_of j t xs later y)
-
--- behind the first `None` there is `None` for good
-pub none_for_good : (s t u : CutToEnd) (x : Option Item) → GivesPiece s None t → GivesPiece t x u → x ≡ None
-none_for_good s t u None end g = refl
-none_for_good s t u (Some x) (same, end) g =
-    let front = is_front t.rules.trees t.rules.precedences t.skips t.text t.at x g.0 in
-    let some = is_some t.rules.trees t.rules.precedences t.skips t.text t.at x g.0 in
-    absurd (rest_some (slice_of x) (left_text t) front some (ap (λ (w : CutToEnd). left_text w) same ∙ end))
-
 -- ---- what holds of the pieces of a text
 
 -- no fault stands right behind a fault
@@ -129,25 +83,3 @@ tokens_of ts ps skips text at (Fault start slice ∷ xs) are =
     let fault = are.0.1 in
     tokens_to_fault ts ps text at (record { at = start })
     (rest_some slice.now (drop at text) fault.front fault.some, (λ p m. fault.nothing 0 (some_length slice.now fault.some) (p, m)), are.0.0)
-
--- ---- from the start
-
-pub pieces_from_start : (s : CutToEnd) (rules : Rules) (skips : List Bool) (text : List ℕ) (memo : Option Memo) → s ≡ uncut rules skips text memo → (xs : List Item)
-    → Drains GivesPiece s xs → ArePieces rules.trees rules.precedences skips text 0 xs
-pieces_from_start s rules skips text memo e xs (u, (t, y, last)) =
-    subst (λ (w : CutToEnd). ArePieces w.rules.trees w.rules.precedences w.skips w.text w.at xs) e (pieces_of s t u xs y last)
-
-pub parts_from_start : (s : CutToEnd) (rules : Rules) (skips : List Bool) (text : List ℕ) (memo : Option Memo) → s ≡ uncut rules skips text memo → (xs : List Item) (t : CutToEnd)
-    → Yields GivesPiece s xs t → text ≡ joined xs ++ left_text t
-parts_from_start s rules skips text memo e xs t y = sym (ap (λ (w : CutToEnd). left_text w) e) ∙ parts_of s t xs y
-
-pub whole_from_start : (s : CutToEnd) (rules : Rules) (skips : List Bool) (text : List ℕ) (memo : Option Memo) → s ≡ uncut rules skips text memo → (xs : List Item)
-    → Drains GivesPiece s xs → joined xs ≡ text
-whole_from_start s rules skips text memo e xs (u, (t, y, last)) =
-    sym (append-nil (joined xs)) ∙ ap (λ (r : List ℕ). joined xs ++ r) (sym last.1) ∙ sym (parts_from_start s rules skips text memo e xs t y)
-
-pub count_from_start : (s : CutToEnd) (rules : Rules) (skips : List Bool) (text : List ℕ) (memo : Option Memo) → s ≡ uncut rules skips text memo → IsUtf8 text → (xs : List Item)
-    (t : CutToEnd) → Yields GivesPiece s xs t → length xs ≤ length (chars text)
-count_from_start s rules skips text memo e u xs t y =
-    let left : pieces_left s ≡ length (chars text) = ap (λ (w : CutToEnd). pieces_left w) e in
-    omega (arith, left, count_of s t xs (subst (λ (w : CutToEnd). IsUtf8 (left_text w)) (sym e) u) y)

@@ -1,6 +1,6 @@
 -- A text that is cut to its end, between two calls of `next`, and within a fault.
 use Rattle.std.proofs.Common.{◌≡◌, ◌≢◌, ℕ, ◌+◌, ◌-◌, ◌<◌, ◌≤◌, ◌⊎◌, inl, inr, List, [], ◌++◌, length, take, drop, arith, refl, sym, ap, subst, ◌∙◌, length-drop, length-take}
-use Rattle.std.specs.Prelude.{Option, Some, None, IfSome, IsSome, IsSomeAnd}
+use Rattle.std.specs.Prelude.{Option, Some, None}
 use Rattle.std.specs.Char.{encode_utf8}
 use Rattle.std.specs.Str.{chars, IsUtf8, IsCharBoundary}
 use Rattle.std.proofs.lemmas.Str.{IsUtf8-drop, IsUtf8-take, IsUtf8-past_char, IsCharBoundary-at_seam, IsCharBoundary-from_drop, IsCharBoundary-from_rest, length-encode, len_utf8_bounds}
@@ -18,12 +18,10 @@ use Rattle.lalrpop_lexer.specs.Rules.{IsBuiltFrom}
 use Rattle.lalrpop_hir.proofs.Cuts.{IsCut}
 use Rattle.lalrpop_rules.specs.Pieces.{IsFault}
 use Rattle.std.proofs.lemmas.Bool.{cases_order}
-use Rattle.lalrpop_rules.specs.CutToEnd.{CutToEnd, IsSoughtFromRest, IsSoughtBehind}
+use Rattle.lalrpop_rules.specs.Internal.CutToEnd.{CutToEnd, IsSoughtFromRest, IsSoughtAfterPiece}
 use Rattle.lalrpop_rules.specs.declared.item.Item.{Item}
 use Rattle.lalrpop_rules.specs.declared.item.Item.TheVariants.{Token, Skipped, Fault}
-use Rattle.lalrpop_rules.specs.declared.finder.Finder.{Finder}
-use Rattle.lalrpop_rules.specs.declared.finder.Finder.TheVariants.{Plain, Remembering}
-use Rattle.lalrpop_rules.specs.Internal.Finding.{matching_of, memo_of, Match, ForRules, IsSomeText, IsMatchOf, Passes, IsSoughtFrom, IsWaiting, IsPassing, IsAtFront}
+use Rattle.lalrpop_rules.specs.Internal.Finding.{Match, ForRules, IsSomeText, IsMatchOf, Passes, IsSoughtFrom, IsWaiting, IsPassing, IsAtFront}
 use Rattle.lalrpop_rules.proofs.FirstMatches.{before_start, before_next, nothing_found}
 use Rattle.lalrpop_rules.proofs.Fronts.{boundary_behind, fault_to_end, fault_to_match}
 
@@ -194,10 +192,9 @@ later_place text place later u b c before =
     omega (arith, count_between text p place later (omega (arith, before)) refl v, some_char p v some)
 
 -- a place after which no more characters come than after the last match isn't before its end
-pub place_behind : (f : Finder) (text : List ℕ) (found place : ℕ) → IsUtf8 text → IsSoughtFrom text found (matching_of f) → IsCharBoundary text place
-    → IsSomeAnd (memo_of f) (λ m. length (chars (drop place text)) ≤ m.unsought) → IsSome (memo_of f) × ((matching_of f).at ≤ place)
-place_behind (Plain m) text found place u s b few = absurd few
-place_behind (Remembering m) text found place u s b few = (refl, by_order (cases_order place found))
+pub place_behind : (m : Matching) (text : List ℕ) (found place : ℕ) → IsUtf8 text → IsSoughtFrom text found m → IsCharBoundary text place
+    → length (chars (drop place text)) ≤ length (chars (rest_of m)) → m.at ≤ place
+place_behind m text found place u s b few = by_order (cases_order place found)
   where
     by_order : (place ≡ found) ⊎ ((place < found) ⊎ (found < place)) → m.at ≤ place
     by_order (inl same) = omega (arith, same, s.here)
@@ -209,12 +206,10 @@ place_behind (Remembering m) text found place u s b few = (refl, by_order (cases
     by_order (inr (inr after)) = omega (arith, after, s.here)
 
 -- where none is kept, matches are sought from the beginning of the rest on
-pub sought_rest : (f : Finder) (text : List ℕ) (at : ℕ) → IsWaiting text at None (matching_of f) → IfSome (memo_of f) (λ m. m.unsought ≡ length (chars (drop at text)))
-sought_rest (Plain m) text at w = tt
-sought_rest (Remembering m) text at w =
-    ap (λ (t : List ℕ). length (chars t)) (rest_there text at m (sought_at text _ at m (omega arith) w.sought))
+pub sought_rest : (m : Matching) (text : List ℕ) (at : ℕ) → IsWaiting text at None m → length (chars (rest_of m)) ≡ length (chars (drop at text))
+sought_rest m text at w = ap (λ (t : List ℕ). length (chars t)) (rest_there text at m (sought_at text _ at m (omega arith) w.sought))
 
-pub sought_behind_piece : (x : Item) (s : CutToEnd) → IsSoughtFromRest s → IsSoughtBehind x s
+pub sought_behind_piece : (x : Item) (s : CutToEnd) → IsSoughtFromRest s → IsSoughtAfterPiece x s
 sought_behind_piece (Token token) s h = h
 sought_behind_piece (Skipped token) s h = h
 sought_behind_piece (Fault start slice) s h = tt

@@ -1,3 +1,4 @@
+pub mod CutToEnd
 pub mod Code
 pub mod Finding
 pub mod TextFaults

@@ -14,7 +14,6 @@ pub mod FileLexer
 -- the pieces of a text
 pub mod Found
 pub mod Pieces
-pub mod CutToEnd
 pub mod ModeCut
 -- used by proofs only
 pub mod Internal

@@ -1,30 +1,29 @@
 -- cases: proofs/Cases/ModeCut.antt
--- What one call gives while a text is cut by rules with modes, and what it costs with a memo for each mode.
-use Rattle.std.specs.Prelude.{◌≡◌, ◌≢◌, ℕ, ◌+◌, ◌⊎◌, Bool, true, false, List, [], length, drop, if◌then◌else◌, Option, Some, None, Result, Ok, Err, sum_by}
+-- What one call gives while a text is cut by rules with modes, and what it costs.
+use Rattle.std.specs.Prelude.{◌≡◌, ◌≢◌, ℕ, ◌+◌, ◌≤◌, ◌⊎◌, Bool, true, false, List, [], length, drop, if◌then◌else◌, Option, Some, None, Result, Ok, Err, sum_by}
 use Rattle.std.specs.Str.{chars}
 use Rattle.std.specs.declared.alloc.AllocError.{AllocError}
 use Rattle.lalrpop_lexer.specs.Matching.{open_states}
-use Rattle.lalrpop_rules.specs.CutToEnd.{Memo, IsPaid}
 use Rattle.lalrpop_rules.specs.Pieces.{IsPiece, slice_of}
 use Rattle.lalrpop_rules.specs.declared.item.Item.{Item}
 use Rattle.bajofeki_rules.specs.Stack.{Stack, start}
 use Rattle.lalrpop_rules.specs.Modes.{ModeRules, trees_in, after}
 
--- a text that is cut: by which rules, where its rest begins, in bytes, and the stack of modes there; with memos or without; and how
--- many characters have been read with the memos so far, each counted as often as it was read. What the memos of all modes have to
--- spare is told as one number. It is over for `next`, but not for `next_item`, once `next` has returned an error.
+-- a text that is cut: by which rules, where its rest begins, in bytes, and the stack of modes there; how many characters have been read so
+-- far, each counted as often as it was read, and how many may still be read up to the end of the text. It is over for `next`, but not for
+-- `next_item`, once `next` has returned an error.
 pub record ModeCut : Type 0 where
   pub rules : ModeRules
   pub text : List ℕ
   pub at : ℕ
   pub stack : Stack
-  pub memo : Option Memo
   pub steps : ℕ
+  pub steps_left : ℕ
   pub is_over : Bool
 
 -- nothing is cut yet
-abbrev pub uncut : ModeRules → List ℕ → Option Memo → ModeCut
-uncut rules text memo = record { rules = rules; text = text; at = 0; stack = start; memo = memo; steps = 0; is_over = false }
+abbrev pub uncut : ModeRules → List ℕ → ℕ → ModeCut
+uncut rules text most = record { rules = rules; text = text; at = 0; stack = start; steps = 0; steps_left = most; is_over = false }
 
 -- the rest of the text
 abbrev pub left_text : ModeCut → List ℕ
@@ -34,14 +33,18 @@ left_text s = drop s.at s.text
 abbrev pub open_in_all : ModeRules → ℕ
 open_in_all r = sum_by open_states r.automata
 
+-- the count never falls, and no more characters are read than were left
+abbrev pub IsCounted : ModeCut → ModeCut → Type 0
+IsCounted old new = (old.steps ≤ new.steps) × (new.steps + new.steps_left ≤ old.steps + old.steps_left)
+
 -- what one call of `next_item` gives: nothing, and nothing changes, if no rest is left; otherwise the piece at the front of the rest by the rules of the
--- mode on top, which is paid for; the new rest begins after it, and the stack is the one after it
+-- mode on top, whose steps are counted; the new rest begins after it, and the stack is the one after it
 abbrev pub GivesModePiece : ModeCut → Option Item → ModeCut → Type 0
 GivesModePiece old None new = (new ≡ old) × (left_text old ≡ [])
 GivesModePiece old (Some item) new =
     IsPiece (trees_in old.rules old.stack.mode) old.rules.precedences old.rules.skips old.text old.at item
-    × (new ≡ record old { at = old.at + length (slice_of item); stack = after old.rules.actions item old.stack; memo = new.memo; steps = new.steps })
-    × IsPaid old.steps old.memo new.steps new.memo
+    × (new ≡ record old { at = old.at + length (slice_of item); stack = after old.rules.actions item old.stack; steps = new.steps; steps_left = new.steps_left })
+    × IsCounted old new
 
 -- what one call of `next` gives: nothing, and nothing changes, after an error or if no rest is left; a piece as `next_item` gives it; or an
 -- error where a rest is left, and nothing changes but that it is over

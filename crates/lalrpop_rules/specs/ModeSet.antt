@@ -1,6 +1,6 @@
 -- cases: proofs/Cases/ModeSet.antt
 -- What rules with modes say, as a user gives them.
-use Rattle.std.specs.Prelude.{◌≡◌, ℕ, ◌<◌, ◌≤◌, ◌⊎◌, List, length, map, slice_get, Some, Contains}
+use Rattle.std.specs.Prelude.{◌≡◌, ℕ, ◌<◌, ◌≤◌, ◌⊎◌, List, [], ◌∷◌, length, map, slice_get, Some, Contains}
 use Rattle.lalrpop_hir.specs.Tree.{Tree}
 use Rattle.lalrpop_hir.specs.Report.{NoFault, FirstFault}
 use Rattle.lalrpop_rules.specs.Kinds.{AreKinds, AreOneKind}
@@ -32,6 +32,12 @@ pub record AreModeRules (rs : List ModeRule) (modes : ℕ) (r : ModeRules) : Typ
   pub members : r.members ≡ map (λ q. q.modes.now) rs
   pub kinds : AreKinds AreOneModeKind rs r.kinds
   pub count : r.modes ≡ modes
+
+-- these are the rules, all of them in mode 0 and without actions
+pub record AreInOneMode (rs : List Rule) (qs : List ModeRule) : Type 0 where
+  pub rules : rules_of qs ≡ rs
+  pub modes : map (λ q. q.modes.now) qs ≡ map (λ _. 0 ∷ []) rs
+  pub actions : map (λ q. q.actions.now) qs ≡ map (λ _. []) rs
 
 -- the rule belongs to the mode, or leads into it
 abbrev pub NamesMode : ModeRule → ℕ → Type 0

@@ -77,8 +77,7 @@ fn clash_lists(
 /// belongs to the mode. All lists are empty if the rules make a lexer.
 ///
 /// ```
-/// use lalrpop_rules::{ModeRule, mode_clashes};
-/// use lalrpop_rules::Rule;
+/// use lalrpop_rules::{ModeRule, Rule, mode_clashes};
 ///
 /// let rules = [
 ///     ModeRule { rule: Rule::literal("A", "a"), modes: &[0, 1], actions: &[] },

@@ -1,11 +1,9 @@
 //! Cutting a text in one mode at a time.
 
-ghost use Rattle.std.specs.Prelude.{◌≡◌, ℕ, ◌<◌, ◌⊎◌, ◌≢◌, [], drop};
+ghost use Rattle.std.specs.Prelude.{◌≡◌, ℕ, ◌<◌, ◌⊎◌, ◌≢◌, drop};
 ghost use Rattle.lalrpop_rules.specs.Internal.Cutting.{CutsNext, IsSoughtHere, IsSoughtNext, Follows, actions_after};
 ghost use Rattle.bajofeki_rules.specs.EnteredModes.{OneLeadsInto};
 
-use crate::cut::items_linear;
-use crate::front::piece_at;
 use crate::item::Item;
 use crate::pieces::Items;
 use crate::rule_lexer::RuleLexer;
@@ -22,8 +20,8 @@ pub(crate) struct Cutter<'text> {
     at: usize,
     // The mode in which the next piece is cut.
     mode: usize,
-    // What cuts the text in each mode, with a memo; or nothing, without memos. That of the mode goes along. Another is passed
-    // on to the rest when the text is cut in its mode again.
+    // What cuts the text in each mode. That of the mode goes along. Another is passed on to the rest when the text is cut in its
+    // mode again.
     cuts: Vec<Items<'text>>,
 }
 
@@ -48,33 +46,12 @@ impl<'text> Model for Cutter<'text> {
 }
 
 impl<'text> Cutter<'text> {
-    ghost use Rattle.std.specs.Prelude.{◌≤◌, ◌+◌, ◌*◌, None, length, IfOk, IsSomeAnd};
+    ghost use Rattle.std.specs.Prelude.{◌≤◌, ◌+◌, ◌*◌, length, IfOk};
     ghost use Rattle.std.specs.Str.{chars};
     ghost use Rattle.lalrpop_rules.specs.ModeCut.{open_in_all};
 
-    /// The whole text, in mode 0, without memos.
-    pub(crate) fn new(alloc: Global, lexer: &'text RuleLexer, text: &'text str) -> Cutter<'text>
-        requires some { 0 < lexer.now.modes }
-        ensures start { result ≡ record {
-          rules = lexer.now;
-          text = text.now;
-          at = 0;
-          mode = 0;
-          memo = None;
-          steps = 0;
-        } }
-    {
-        Cutter {
-            lexer,
-            text,
-            at: 0,
-            mode: 0,
-            cuts: Vec::new(alloc),
-        }
-    }
-
-    /// The same with a memo for each mode.
-    pub(crate) fn with_memos(
+    /// The whole text, in mode 0.
+    pub(crate) fn new(
         alloc: Global,
         lexer: &'text RuleLexer,
         text: &'text str,
@@ -88,14 +65,14 @@ impl<'text> Cutter<'text> {
           memo = c.memo;
           steps = 0;
         }) }
-        ensures memo { IfOk result (λ c. IsSomeAnd c.memo (λ m.
-            (m.unsought ≡ length (chars text.now))
-            × (m.spare ≤ lexer.now.modes * (length (chars text.now) + length text.now)
-            + open_in_all lexer.now * (length text.now + 64)))) }
+        ensures unsought { IfOk result (λ c. c.memo.unsought ≡ length (chars text.now)) }
+        ensures spare { IfOk result (λ c. c.memo.spare
+            ≤ lexer.now.modes * (length (chars text.now) + length text.now)
+            + open_in_all lexer.now * (length text.now + 64)) }
     {
         let mut cuts = Vec::new(alloc);
         for mode in 0..lexer.modes() {
-            let cut = items_linear(alloc, lexer.lexer(mode), lexer.skips(), text)?;
+            let cut = Items::new(alloc, lexer.lexer(mode), lexer.skips(), text)?;
             // A refused `push` hands the cut back, which `?` would have to convert.
             match cuts.push(cut) {
                 Ok(()) => {}
@@ -125,9 +102,6 @@ impl<'text> Cutter<'text> {
         ensures cuts { CutsNext self.old result self.new }
         ensures sought { IsSoughtNext result self.new }
     {
-        if self.mode >= self.cuts.len() {
-            return self.next_alone();
-        }
         match self.cuts[self.mode].next_item() {
             Some(item) => {
                 self.at += item.slice().len();
@@ -137,23 +111,7 @@ impl<'text> Cutter<'text> {
         }
     }
 
-    // The same without memos.
-    #[inline(never)]
-    fn next_alone(&mut self) -> Option<Item<'text>>
-        requires none { self.old.memo ≡ None }
-        ensures cuts { CutsNext self.old result self.new }
-        ensures sought { IsSoughtNext result self.new }
-    {
-        if self.at == self.text.len() {
-            return None;
-        }
-        let lexer = self.lexer.lexer(self.mode);
-        let item = piece_at(lexer, self.lexer.skips(), self.text, self.at);
-        self.at += item.slice().len();
-        Some(item)
-    }
-
-    /// From now on the text is cut in this mode. If it is another one, no match behind the beginning of the rest is found yet.
+    /// From now on the text is cut in this mode. If it is another one, no match after the beginning of the rest is found yet.
     #[inline(always)]
     pub(crate) fn follow(&mut self, mode: usize)
         requires there { mode < self.old.rules.modes }
@@ -173,9 +131,7 @@ impl<'text> Cutter<'text> {
         ensures follows { Follows self.old mode self.new }
     {
         self.mode = mode;
-        if mode < self.cuts.len() {
-            self.cuts[mode].pass_to(self.at);
-        }
+        self.cuts[mode].pass_to(self.at);
     }
 
     /// What the rule of the piece does to the stack.

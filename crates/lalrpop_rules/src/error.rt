@@ -14,8 +14,7 @@ use thiserror::Error;
 /// Why rules with modes can't be made into a lexer. Rules and modes are numbered from 0.
 ///
 /// ```
-/// use lalrpop_rules::{RuleLexer, ModeRule, RulesError};
-/// use lalrpop_rules::Rule;
+/// use lalrpop_rules::{ModeRule, Rule, RuleLexer, RulesError};
 ///
 /// let rules = [ModeRule { rule: Rule::literal("A", "a"), modes: &[2], actions: &[] }];
 /// let missing = match RuleLexer::from_rules(alloc, &rules, 1) {

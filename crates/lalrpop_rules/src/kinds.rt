@@ -10,13 +10,7 @@ use lalrpop_lexer::lexer::re::{Hir, Regex};
 use std::alloc::{AllocError, Global};
 
 /// Whether the rules are of one kind: they have one name and one precedence, and are both skipped or both not.
-///
-/// ```
-/// use lalrpop_rules::{Rule, are_one_kind};
-///
-/// let is_kind = are_one_kind(&Rule::pattern("NUMBER", "[0-9]+"), &Rule::pattern("NUMBER", "0x[0-9a-f]+")); // true
-/// ```
-pub fn are_one_kind(rule: &Rule, other: &Rule) -> bool
+pub(crate) fn are_one_kind(rule: &Rule, other: &Rule) -> bool
     ensures { MatchBool result (AreOneKind rule.now other.now) (¬ AreOneKind rule.now other.now) }
 {
     rule.name == other.name
@@ -101,19 +95,7 @@ fn gathered(
 
 /// The trees of rules that are merged by their kinds: the first rule of each kind has what some rule of its kind has, and the others match
 /// nothing. The kind of a rule is a number, or `None` for a rule that is left out.
-///
-/// ```
-/// use lalrpop_rules::{Rule, merged_trees, trees_of};
-///
-/// let rules = [Rule::pattern("NUMBER", "[0-9]+"), Rule::pattern("NUMBER", "0x[0-9a-f]+")];
-/// let trees = trees_of(alloc, &rules)?;
-/// let merged = merged_trees(alloc, &[Some(0), Some(0)], &trees)?; // `[0-9]+|0x[0-9a-f]+`, and nothing
-/// ```
-///
-/// # Errors
-///
-/// `AllocError` if a request for memory was refused.
-pub fn merged_trees(
+pub(crate) fn merged_trees(
     alloc: Global,
     kinds: &[Option<usize>],
     trees: &[Regex],

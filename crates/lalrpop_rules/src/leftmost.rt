@@ -10,7 +10,7 @@ use lalrpop_lexer::{Lexer, Token};
 ///
 /// It takes no memory. From each place before the match it reads as far as some pattern could still match, so the cost is at
 /// most quadratic in the length of the text.
-pub fn find<'text>(lexer: &Lexer, text: &'text str) -> Option<Token<'text>>
+pub(crate) fn find<'text>(lexer: &Lexer, text: &'text str) -> Option<Token<'text>>
     ensures found { IfSome result (λ token.
         IsFound lexer.now.trees lexer.now.precedences text.now token) }
     ensures none { IfNone result (NothingFound lexer.now.trees text.now) }

@@ -7,11 +7,9 @@
 #![tactic(auto)]
 
 mod clashes;
-mod cut;
 mod cutter;
 mod error;
 mod faults;
-mod finder;
 mod from_file;
 mod front;
 mod item;
@@ -24,6 +22,7 @@ mod missing;
 mod mode_kinds;
 mod mode_stack;
 mod mode_trees;
+mod one_mode;
 mod pieces;
 mod rule_items;
 mod rule_lexer;
@@ -36,11 +35,8 @@ pub use bajofeki_rules::{Action, ModeRule, Rule, RuleText, entered_modes};
 pub use clashes::mode_clashes;
 pub use error::RulesError;
 pub use from_file::FileError;
-pub use front::piece_at;
 pub use item::Item;
 pub use lalrpop_re::FromToError;
-pub use leftmost::find;
 pub use mode_stack::ModeStack;
 pub use rule_items::RuleItems;
 pub use rule_lexer::RuleLexer;
-pub use text_error::TextError;

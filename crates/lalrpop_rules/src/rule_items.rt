@@ -1,6 +1,7 @@
 //! Cutting a text to its end by rules with modes.
 
 ghost use Rattle.std.specs.Prelude.{◌≡◌, ◌<◌, IfOk, OnErr, OnSome};
+ghost use Rattle.lalrpop_rules.specs.Internal.CutToEnd.{steps_for};
 ghost use Rattle.lalrpop_rules.specs.Internal.Cutting.{HasAtMost};
 ghost use Rattle.lalrpop_rules.specs.ModeCut.{uncut, left_text, items_left, GivesModePiece, GivesPieceOrError};
 ghost use Rattle.bajofeki_rules.specs.Stack.{start};
@@ -17,11 +18,11 @@ use std::marker::Model;
 /// As an iterator it returns each piece as `Ok`. Where a request for memory was refused it returns one `Err`, and from then on
 /// `None`, so that a `for` ends. `next_item` can still be asked for that piece.
 ///
-/// With memos, by `items_linear`, this takes linear time. Then a step is counted for each character the automaton reads, as
-/// often as it reads it. Only contracts see the steps.
+/// This takes linear time. A step is counted for each character an automaton reads, as often as it reads it. Only contracts see the
+/// steps.
 ///
 /// ```
-/// for item in lexer.items(alloc, "a /* b */") {
+/// for item in lexer.items(alloc, "a /* b */")? {
 ///     match item {
 ///         Ok(Item::Token(token)) => println!(rt; "{}", token.slice)?,
 ///         Ok(_) => {}
@@ -43,6 +44,7 @@ impl<'text> Model for RuleItems<'text> {
     ghost use Rattle.lalrpop_rules.specs.ModeCut.{ModeCut};
     ghost use Rattle.lalrpop_rules.specs.Internal.ModeCode.{cut_code};
     ghost use Rattle.lalrpop_rules.specs.Internal.Cutting.{IsGoing};
+    ghost use Rattle.lalrpop_rules.specs.Internal.CutToEnd.{steps_for};
 
     ghost Value = { ModeCut };
 
@@ -53,8 +55,8 @@ impl<'text> Model for RuleItems<'text> {
       text = t.cutter.text;
       at = t.cutter.at;
       stack = t.stack;
-      memo = t.cutter.memo;
       steps = t.cutter.steps;
+      steps_left = steps_for t.cutter.memo;
       is_over = t.is_over;
     } };
 
@@ -68,7 +70,8 @@ impl<'text> RuleItems<'text> {
         requires some { 0 < cutter.rules.modes }
         requires most { HasAtMost most cutter.rules.actions }
         requires uncut { (cutter.at ≡ 0) × (cutter.mode ≡ 0) × (cutter.steps ≡ 0) }
-        ensures start { result ≡ uncut cutter.entry.rules cutter.entry.text cutter.entry.memo }
+        ensures start { result ≡ uncut cutter.entry.rules cutter.entry.text
+            (steps_for cutter.entry.memo) }
     {
         RuleItems {
             cutter,

@@ -1,14 +1,17 @@
 //! A lexer of rules with modes.
 
-ghost use Rattle.std.specs.Prelude.{◌≡◌, ◌<◌, ◌≤◌, ◌+◌, ◌*◌, [], ℕ, List, length, option_map, slice_get, Some, None, Ok, map, string_bytes, false, IfOk, OnOk, IfErr, IsSome};
+ghost use Rattle.std.specs.Prelude.{◌≡◌, ◌<◌, ◌≤◌, ◌+◌, ◌*◌, ◌++◌, ◌↔◌, [], ℕ, List, length, option_map, slice_get, Some, Ok, map, string_bytes, false, IfOk, OnOk, IfErr, IfSome, IfNone, IsSome, IsTrue};
 ghost use Rattle.std.specs.Str.{chars};
 ghost use Rattle.lalrpop_rules.specs.Modes.{trees_in, ArePiecesFrom, NoModeClash};
 ghost use Rattle.bajofeki_rules.specs.EnteredModes.{OneLeadsInto};
-ghost use Rattle.lalrpop_rules.specs.ModeSet.{AreModeRules, NamesMode, IsRulesError};
+ghost use Rattle.lalrpop_rules.specs.ModeSet.{AreModeRules, AreInOneMode, NamesMode, IsRulesError};
 ghost use Rattle.bajofeki_rules.specs.declared.mode_rule.ModeRule.{ModeRule as RuleValue};
 ghost use Rattle.lalrpop_rules.specs.ModeCut.{ModeCut, uncut, left_text, open_in_all, GivesModePiece, GivesPieceOrError};
 ghost use Rattle.lalrpop_rules.specs.Internal.Cutting.{HasAtMost};
-ghost use Rattle.lalrpop_rules.specs.Pieces.{AreApart, joined};
+ghost use Rattle.lalrpop_hir.specs.Tokens.{IsToken};
+ghost use Rattle.lalrpop_hir.specs.declared.token.Token.{Token as TokenValue};
+ghost use Rattle.lalrpop_rules.specs.Found.{IsFound, NothingFound};
+ghost use Rattle.lalrpop_rules.specs.Pieces.{AreApart, IsSkipped, joined};
 ghost use Rattle.lalrpop_rules.specs.declared.item.Item.{Item as ItemValue};
 ghost use Rattle.std.specs.Iterator.{Yields};
 ghost use Rattle.bajofeki_rules.specs.Stack.{Stack, start, actions_of};
@@ -21,19 +24,20 @@ use crate::missing::all_there;
 use crate::mode_kinds::kind_list;
 use crate::mode_stack::ModeStack;
 use crate::mode_trees::rule_trees;
+use crate::one_mode::in_one_mode;
 use crate::rule_items::RuleItems;
-use bajofeki_rules::{Action, ModeRule};
-use lalrpop_lexer::Lexer;
+use crate::{front, leftmost};
+use bajofeki_rules::{Action, ModeRule, Rule};
 use lalrpop_lexer::lexer::dfa::{NfaIndex, Precedence};
 use lalrpop_lexer::lexer::re::Regex;
+use lalrpop_lexer::{Lexer, Token};
 use std::alloc::{AllocError, Global};
 use std::marker::Model;
 
 /// Named rules with modes, and one lexer for each mode. An index names the same rule in each of them.
 ///
 /// ```
-/// use lalrpop_rules::{Action, RuleLexer, ModeRule};
-/// use lalrpop_rules::Rule;
+/// use lalrpop_rules::{Action, ModeRule, Rule, RuleLexer};
 ///
 /// let rules = [
 ///     ModeRule { rule: Rule::literal("OPEN", "/*"), modes: &[0, 1], actions: &[Action::Push(1)] },
@@ -42,7 +46,7 @@ use std::marker::Model;
 ///     ModeRule { rule: Rule::pattern("NAME", "[a-z]+"), modes: &[0], actions: &[] },
 /// ];
 /// let lexer = RuleLexer::from_rules(alloc, &rules, 2)?;
-/// let mut items = lexer.items(alloc, "a/*b/*c*/d*/e");
+/// let mut items = lexer.items(alloc, "a/*b/*c*/d*/e")?;
 /// let first = items.next_item()?; // the NAME "a"
 /// ```
 #[derive(Debug, Drop)]
@@ -154,6 +158,29 @@ impl RuleLexer {
         })
     }
 
+    /// Builds the lexer of rules without modes: all of them are in mode 0, the only one, and have no actions.
+    ///
+    /// ```
+    /// use lalrpop_rules::{Rule, RuleLexer};
+    ///
+    /// let rules = [Rule::pattern("NUMBER", "[0-9]+"), Rule::pattern("NUMBER", "[0-9a-f]+h?")];
+    /// let lexer = RuleLexer::of_one_mode(alloc, &rules)?; // all its tokens have the index 0
+    /// ```
+    ///
+    /// # Errors
+    ///
+    /// As `from_rules`, but never `NoSuchMode`.
+    pub fn of_one_mode(alloc: Global, rules: &[Rule]) -> Result<RuleLexer, RulesError>
+        ensures rules { IfOk result (λ lexer. (qs : List RuleValue)
+            × (AreInOneMode rules.now qs × AreModeRules qs 1 lexer)) }
+        ensures no_clash { IfOk result NoModeClash }
+        ensures error { IfErr result (λ e. (qs : List RuleValue)
+            × (AreInOneMode rules.now qs × IsRulesError qs 1 e)) }
+    {
+        let all = in_one_mode(alloc, rules)?;
+        RuleLexer::from_rules(alloc, &all, 1)
+    }
+
     /// How many modes there are.
     pub fn modes(&self) -> usize
         ensures count { result ≡ self.now.modes }
@@ -174,11 +201,9 @@ impl RuleLexer {
     /// The names of the rules, in order.
     ///
     /// ```
-    /// use lalrpop_rules::{RuleLexer, ModeRule};
-    /// use lalrpop_rules::Rule;
+    /// use lalrpop_rules::{Rule, RuleLexer};
     ///
-    /// let rules = [ModeRule { rule: Rule::literal("IF", "if"), modes: &[0], actions: &[] }];
-    /// let lexer = RuleLexer::from_rules(alloc, &rules, 1)?;
+    /// let lexer = RuleLexer::of_one_mode(alloc, &[Rule::literal("IF", "if")])?;
     /// let first = &lexer.names()[0]; // "IF"
     /// ```
     pub fn names(&self) -> &[String]
@@ -187,9 +212,12 @@ impl RuleLexer {
         &self.names
     }
 
-    /// The name of the rule with this index, or `None` if no rule has this index.
+    /// The name of the rule with this index, or `None` if no rule has this index. The rule of a token always has a name.
     pub fn name(&self, index: NfaIndex) -> Option<&str>
         ensures name { option_map (λ s. s.now) result ≡ slice_get self.now.names index }
+        ensures token { (mode : ℕ) (text : List ℕ) (at : ℕ) (token : TokenValue)
+            → IsToken (trees_in self.now mode) self.now.precedences text at token
+            → token.index ≡ index → IsSome result }
     {
         match self.names.get(index.index()) {
             Some(name) => Some(name.as_str()),
@@ -240,67 +268,75 @@ impl RuleLexer {
         &self.lexers[mode]
     }
 
+    /// Whether the rule with this index is skipped. If no rule has this index, it isn't.
+    pub fn is_skipped(&self, index: NfaIndex) -> bool
+        ensures skipped { IsTrue result ↔ IsSkipped self.now.skips index }
+    {
+        front::is_skipped(&self.skips, index)
+    }
+
+    /// The token at the first place of the text where a rule of mode 0 matches, skipped or not: the longest nonempty match there,
+    /// with the one rule of the greatest precedence that matches it, which has a name. `None` if no rule of mode 0 matches
+    /// anywhere.
+    ///
+    /// It takes no memory. From each place before the match it reads as far as some rule could still match, so the cost is at most
+    /// quadratic in the length of the text.
+    ///
+    /// ```
+    /// use lalrpop_rules::{Rule, RuleLexer};
+    ///
+    /// let lexer = RuleLexer::of_one_mode(alloc, &[Rule::pattern("NUMBER", "[0-9]+")])?;
+    /// let start = lexer.find("no 12 3").map(|token| token.start); // Some(3)
+    /// ```
+    pub fn find<'text>(&self, text: &'text str) -> Option<Token<'text>>
+        ensures found { IfSome result (λ token.
+            IsFound (trees_in self.now 0) self.now.precedences text.now token) }
+        ensures none { IfNone result (NothingFound (trees_in self.now 0) text.now) }
+        ensures named { IfSome result (λ token. token.index < length self.now.names) }
+    {
+        // What is known of the lexer.
+        let _ = &self.lexers;
+        leftmost::find(self.lexer(0), text)
+    }
+
     /// The pieces of any text, from its beginning to its end, each by the rules of the mode that is on top there. A text begins
     /// in mode 0. Where a rule of that mode matches, the piece is the token there, skipped if its rule is, and its rule's
     /// actions are done. Elsewhere it is a fault: the characters up to the next place where a rule of that mode matches, or to
     /// the end of the text.
     ///
-    /// From each place it reads as far as some rule could still match, so the cost is at most quadratic in the length of the
-    /// text.
+    /// This takes time linear in the length of the text, whatever the rules are, however many faults there are and however often
+    /// the mode changes. A state of an automaton is open if it neither accepts a pattern nor rejects. A whole text costs at most 65
+    /// steps a character; for each mode one a character and one a byte; and for each open state of each mode one a byte and 64
+    /// more. A step is counted each time an automaton reads a character.
+    ///
+    /// All memory but that of the stack is taken by this call: for each mode a byte for each open state and each 64 bytes of
+    /// the text.
     ///
     /// ```
-    /// for item in lexer.items(alloc, text) {
+    /// for item in lexer.items(alloc, text)? {
     ///     match item {
     ///         Ok(item) => println!(rt; "{:?}", item.slice())?,
     ///         Err(error) => return Err(error.into()), // no memory for the stack
     ///     }
     /// }
     /// ```
-    pub fn items<'text>(&'text self, alloc: Global, text: &'text str) -> RuleItems<'text>
-        ensures start { result ≡ uncut self.now text.now None }
-        ensures items { (xs : List ItemValue) (s : ModeCut) → Yields GivesModePiece result xs s
-            → left_text s ≡ [] → ArePiecesFrom self.now text.now 0 start xs s.stack }
-        ensures whole { (xs : List ItemValue) (s : ModeCut) → Yields GivesModePiece result xs s
-            → left_text s ≡ [] → joined xs ≡ text.now }
-        ensures apart { (xs : List ItemValue) (s : ModeCut) → Yields GivesModePiece result xs s
-            → left_text s ≡ [] → AreApart xs }
-        ensures next { (xs : List ItemValue) (s : ModeCut)
-            → Yields GivesPieceOrError result (map Ok xs) s
-            → Yields GivesModePiece result xs s × (s.is_over ≡ false) }
-        ensures count { (xs : List ItemValue) (s : ModeCut) → Yields GivesModePiece result xs s
-            → length xs ≤ length (chars text.now) }
-        ensures exist { (xs : List ItemValue) × ((end : Stack)
-            × ArePiecesFrom self.now text.now 0 start xs end) }
-    {
-        // What is known of the lexer.
-        let _ = &self.lexers;
-        let cutter = Cutter::new(alloc, self, text);
-        RuleItems::new(cutter, ModeStack::new(alloc), most_actions(&self.known))
-    }
-
-    /// The same pieces as `items`, in time linear in the length of the text, whatever the rules are, however many faults there
-    /// are and however often the mode changes. A state of an automaton is open if it neither accepts a pattern nor rejects. A
-    /// whole text costs at most 65 steps a character; for each mode one a character and one a byte; and for each open state of
-    /// each mode one a byte and 64 more. A step is counted each time an automaton reads a character.
-    ///
-    /// All memory but that of the stack is taken by this call: for each mode a byte for each open state and each 64 bytes of
-    /// the text.
     ///
     /// # Errors
     ///
     /// `AllocError` if a request for memory was refused.
-    pub fn items_linear<'text>(
+    pub fn items<'text>(
         &'text self,
         alloc: Global,
         text: &'text str,
     ) -> Result<RuleItems<'text>, AllocError>
-        ensures start { IfOk result (λ c. c ≡ uncut self.now text.now c.memo) }
-        ensures memo { IfOk result (λ c. IsSome c.memo) }
+        ensures start { IfOk result (λ c. c ≡ uncut self.now text.now c.steps_left) }
         ensures items { IfOk result (λ c. (xs : List ItemValue) (s : ModeCut)
             → Yields GivesModePiece c xs s → left_text s ≡ []
             → ArePiecesFrom self.now text.now 0 start xs s.stack) }
         ensures whole { IfOk result (λ c. (xs : List ItemValue) (s : ModeCut)
             → Yields GivesModePiece c xs s → left_text s ≡ [] → joined xs ≡ text.now) }
+        ensures parts { IfOk result (λ c. (xs : List ItemValue) (s : ModeCut)
+            → Yields GivesModePiece c xs s → text.now ≡ joined xs ++ left_text s) }
         ensures apart { IfOk result (λ c. (xs : List ItemValue) (s : ModeCut)
             → Yields GivesModePiece c xs s → left_text s ≡ [] → AreApart xs) }
         ensures next { IfOk result (λ c. (xs : List ItemValue) (s : ModeCut)
@@ -314,10 +350,11 @@ impl RuleLexer {
             + open_in_all self.now * (length text.now + 64))) }
         ensures exist { (xs : List ItemValue) × ((end : Stack)
             × ArePiecesFrom self.now text.now 0 start xs end) }
+        ensures no_clash { NoModeClash self.now }
     {
         // What is known of the lexer.
         let _ = &self.lexers;
-        match Cutter::with_memos(alloc, self, text) {
+        match Cutter::new(alloc, self, text) {
             Ok(cutter) => {
                 let most = most_actions(&self.known);
                 Ok(RuleItems::new(cutter, ModeStack::new(alloc), most))

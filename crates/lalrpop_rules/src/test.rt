@@ -21,7 +21,7 @@ fn modes_are_put_on_and_taken_away(rt: HostRuntime) {
     assert!(rt; stack.act(&Action::Pop).is_ok() && stack.top() == 0);
 }
 
-// Whether the pieces that are left are these, with the last mode alone on the stack behind them.
+// Whether the pieces that are left are these, with mode 0 on top of the stack after them.
 fn gives(items: &mut RuleItems<'_>, pieces: &[&str]) -> bool {
     for piece in pieces {
         match items.next_item() {
@@ -66,7 +66,10 @@ fn a_kind_begins_with_its_first_rule_of_the_mode(rt: HostRuntime) {
     ];
     match RuleLexer::from_rules(rt.alloc(), &rules, 2) {
         Ok(lexer) => {
-            let mut items = lexer.items(rt.alloc(), "abc<abc12");
+            let Ok(mut items) = lexer.items(rt.alloc(), "abc<abc12") else {
+                assert!(rt; false);
+                return;
+            };
             for index in [2, 1, 0, 0] {
                 match items.next_item() {
                     Ok(Some(Item::Token(token))) => {
@@ -112,19 +115,41 @@ fn nested_comments_are_cut(rt: HostRuntime) {
     ];
     match RuleLexer::from_rules(rt.alloc(), &rules, 2) {
         Ok(lexer) => {
-            let mut items = lexer.items(rt.alloc(), text);
-            assert!(rt; gives(&mut items, &pieces));
-            assert!(rt; items.next().is_none() && items.next().is_none());
-            assert!(rt; goes_over(lexer.items(rt.alloc(), text), &pieces));
-            match lexer.items_linear(rt.alloc(), text) {
-                Ok(mut items) => assert!(rt; gives(&mut items, &pieces)),
+            match lexer.items(rt.alloc(), text) {
+                Ok(mut items) => {
+                    assert!(rt; gives(&mut items, &pieces));
+                    assert!(rt; items.next().is_none() && items.next().is_none());
+                }
                 Err(_) => assert!(rt; false),
             }
-            match lexer.items_linear(rt.alloc(), text) {
+            match lexer.items(rt.alloc(), text) {
                 Ok(items) => assert!(rt; goes_over(items, &pieces)),
                 Err(_) => assert!(rt; false),
             }
         }
+        Err(_) => assert!(rt; false),
+    }
+}
+
+#[test]
+fn first_match_is_found_by_rules_of_one_mode(rt: HostRuntime) {
+    let rules = [
+        Rule::pattern("NUMBER", "[0-9]+"),
+        Rule::literal("SPACE", " ").skipped(),
+        Rule::pattern("NUMBER", "[0-9a-f]+h"),
+    ];
+    match RuleLexer::of_one_mode(rt.alloc(), &rules) {
+        Ok(lexer) => match lexer.find("!? 1ah") {
+            Some(space) => {
+                assert!(rt; space.start == 2 && lexer.is_skipped(space.index));
+                let number = lexer.find("!?1ah");
+                assert!(rt;
+                    number.is_some_and(|token| { token.index.index() == 0 && token.slice == "1ah" })
+                );
+                assert!(rt; lexer.find("!?").is_none());
+            }
+            None => assert!(rt; false),
+        },
         Err(_) => assert!(rt; false),
     }
 }

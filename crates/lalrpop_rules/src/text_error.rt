@@ -9,17 +9,8 @@ use std::alloc::{AllocError, AllocFailed};
 use thiserror::Error;
 
 /// Why rules have no trees, or trees that can't be compiled. Rules are numbered from 0.
-///
-/// ```
-/// use lalrpop_rules::{Rule, TextError, trees_of};
-///
-/// let place = match trees_of(alloc, &[Rule::pattern("A", "a)")]) {
-///     Err(TextError::NotParsed { rule, position, .. }) => Some((rule, position)), // (0, 1)
-///     _ => None,
-/// };
-/// ```
 #[derive(Debug, Drop, Error)]
-pub enum TextError {
+pub(crate) enum TextError {
     /// The text of this rule does not parse: `kind` says why, and `position` where, as an offset in bytes.
     #[error("the text of rule {rule} does not parse: {kind:?} at byte {position}")]
     NotParsed {

@@ -95,18 +95,11 @@ fn text_trees(alloc: Global, rules: &[Rule]) -> Result<Vec<Regex>, TextError>
 
 /// The tree of each rule's text, in the order of the rules. All of them can be compiled.
 ///
-/// ```
-/// use lalrpop_rules::{Rule, trees_of};
-///
-/// let trees = trees_of(alloc, &[Rule::literal("IF", "if"), Rule::from_to("COMMENT", "/*", "*/")])?;
-/// ```
-///
 /// # Errors
 ///
 /// The first rule whose text has no tree, and why: its pattern or an escape does not parse, or its end is empty or has more than 64
-/// characters;
-/// otherwise the first that can't be compiled; or out of memory.
-pub fn trees_of(alloc: Global, rules: &[Rule]) -> Result<Vec<Regex>, TextError>
+/// characters; otherwise the first that can't be compiled; or out of memory.
+pub(crate) fn trees_of(alloc: Global, rules: &[Rule]) -> Result<Vec<Regex>, TextError>
     ensures trees { IfOk result (λ trees. AreTrees rules.now trees.items) }
     ensures no_fault { IfOk result (λ trees. NoFault trees.items) }
     ensures error { IfErr result (λ e. IsTextError rules.now e) }

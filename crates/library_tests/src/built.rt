@@ -1,6 +1,7 @@
 //! Automata of patterns that are given in one text, and what is expected of them.
 
-use lalrpop_lexer::lexer::dfa::{DenseDfa, Dfa, DfaConstructionError, Precedence, build_dfa};
+use lalrpop_dense::DenseDfa;
+use lalrpop_lexer::lexer::dfa::{Dfa, DfaConstructionError, Precedence, build_dfa};
 use lalrpop_lexer::lexer::nfa::{Nfa, NfaConstructionError, Steps};
 use lalrpop_lexer::lexer::re::{Hir, RegexError, parse_literal, parse_regex};
 use std::alloc::{AllocError, Global};

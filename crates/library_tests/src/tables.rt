@@ -1,7 +1,8 @@
 //! Which automata are run by a table: no clause says it.
 
 use crate::built::{built, built_from, built_with, expect, has_table};
-use lalrpop_lexer::lexer::dfa::{DenseDfa, Dfa, Precedence, TokenEnds};
+use lalrpop_dense::{DenseDfa, TokenEnds};
+use lalrpop_lexer::lexer::dfa::{Dfa, Precedence};
 use lalrpop_lexer::lexer::nfa::Steps;
 use lalrpop_lexer::{Terminals, read_terminals};
 use std::alloc::{AllocError, Global};

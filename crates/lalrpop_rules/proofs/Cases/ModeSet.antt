@@ -1,5 +1,5 @@
 -- Cases of specs/ModeSet.antt.
-use Rattle.std.proofs.Common.{◌≡◌, ◌<◌, ℕ, inl, inr, List, [], ◌∷◌, length, Contains, refl, ap, sym, subst, arith}
+use Rattle.std.proofs.Common.{◌≡◌, ◌<◌, ℕ, inl, inr, List, [], ◌∷◌, length, get_or, Contains, refl, ap, sym, subst, ◌∙◌, arith}
 use Rattle.bajofeki_rules.specs.declared.action.Action.{Action}
 use Rattle.bajofeki_rules.specs.declared.action.Action.TheVariants.{Push, Pop}
 use Rattle.bajofeki_rules.specs.declared.mode_rule.ModeRule.{ModeRule}
@@ -7,7 +7,7 @@ use Rattle.lalrpop_rules.specs.declared.error.RulesError.TheVariants.{NoSuchMode
 use Rattle.lalrpop_re.specs.declared.from_to_error.FromToError.{FromToError}
 use Rattle.lalrpop_rules.specs.Modes.{ModeRules}
 use Rattle.bajofeki_rules.specs.EnteredModes.{OneLeadsInto}
-use Rattle.lalrpop_rules.specs.ModeSet.{rules_of, AllThere, AreModeRules, AreOneModeKind, NamesMode, IsRulesError}
+use Rattle.lalrpop_rules.specs.ModeSet.{rules_of, AllThere, AreInOneMode, AreModeRules, AreOneModeKind, NamesMode, IsRulesError}
 
 rules_in_their_order : (p q : ModeRule) → rules_of (p ∷ q ∷ []) ≡ p.rule ∷ q.rule ∷ []
 rules_in_their_order p q = refl
@@ -24,6 +24,18 @@ no_rules_in_one_mode = record {
   kinds = record { one_each = refl; first = λ i k x at. absurd (cc) };
   count = refl;
 }
+
+-- a rule of mode 0 that pops is no rule without modes
+pop_without_modes : (q : ModeRule) → q.actions.now ≡ Pop ∷ [] → ¬ AreInOneMode (q.rule ∷ []) (q ∷ [])
+pop_without_modes q pop are = let no : Pop ∷ [] ≡ [] = sym pop ∙ cc (are.actions) in omega (arith, ap length no)
+
+other_mode_without_modes : (q : ModeRule) → q.modes.now ≡ 1 ∷ [] → ¬ AreInOneMode (q.rule ∷ []) (q ∷ [])
+other_mode_without_modes q one are =
+    let no : 1 ∷ [] ≡ 0 ∷ [] = sym one ∙ cc (are.modes) in
+    let same : 1 ≡ 0 = ap (λ (ms : List ℕ). get_or ms 0 0) no in omega (arith, same)
+
+rule_left_out : (q : ModeRule) → ¬ AreInOneMode (q.rule ∷ []) []
+rule_left_out q are = omega (arith, ap length are.rules)
 
 one_mode_too_many : (rs : List ModeRule) (r : ModeRules) → r.modes ≡ 2 → ¬ AreModeRules rs 1 r
 one_mode_too_many rs r two are = omega (arith, two, are.count)

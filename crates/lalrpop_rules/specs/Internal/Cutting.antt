@@ -1,8 +1,8 @@
 -- A text that is cut in one mode at a time, and what cuts it in each mode.
-use Rattle.std.specs.Prelude.{◌≡◌, ◌≢◌, ℕ, ◌+◌, ◌*◌, ◌<◌, ◌≤◌, ◌⊎◌, List, [], length, take, drop, slice_get, Option, Some, None, IfSome, IsSome, IsSomeAnd, sum_by}
+use Rattle.std.specs.Prelude.{◌≡◌, ◌≢◌, ℕ, ◌+◌, ◌*◌, ◌<◌, ◌≤◌, List, [], length, take, drop, slice_get, Option, Some, None, sum_by}
 use Rattle.std.specs.Str.{chars, IsUtf8, IsCharBoundary}
 use Rattle.lalrpop_lexer.specs.Matching.{open_states}
-use Rattle.lalrpop_rules.specs.CutToEnd.{CutToEnd, Memo, IsPaid}
+use Rattle.lalrpop_rules.specs.Internal.CutToEnd.{CutToEnd, Memo, IsPaid}
 use Rattle.lalrpop_rules.specs.Pieces.{IsPiece, slice_of}
 use Rattle.lalrpop_rules.specs.declared.item.Item.{Item}
 use Rattle.lalrpop_rules.specs.declared.item.Item.TheVariants.{Token, Skipped, Fault}
@@ -16,50 +16,40 @@ pub record Cutting : Type 0 where
   pub text : List ℕ
   pub at : ℕ
   pub mode : ℕ
-  pub memo : Option Memo
+  pub memo : Memo
   pub steps : ℕ
 
 -- ---- what cuts it in each mode
 
--- what a memo has to spare, if there is one
-abbrev pub spare_in : Option Memo → ℕ
-spare_in None = 0
-spare_in (Some m) = m.spare
-
 abbrev pub spare_of : CutToEnd → ℕ
-spare_of c = spare_in c.memo
+spare_of c = c.memo.spare
 
-abbrev pub with_spare : Option Memo → ℕ → Option Memo
-with_spare None spare = None
-with_spare (Some m) spare = Some (record { unsought = m.unsought; spare = spare })
+abbrev pub unsought_in : Option CutToEnd → ℕ
+unsought_in None = 0
+unsought_in (Some c) = c.memo.unsought
 
--- the memo that they have together, where the one of the mode is this
-abbrev pub joint_memo : Option CutToEnd → ℕ → Option Memo
-joint_memo None spare = None
-joint_memo (Some c) spare = with_spare c.memo spare
-
-abbrev pub memo_in : ℕ → List CutToEnd → Option Memo
-memo_in mode cs = joint_memo (slice_get cs mode) (sum_by spare_of cs)
+-- the memo that they have together: that of the mode says how much of the text it has not sought
+abbrev pub memo_in : ℕ → List CutToEnd → Memo
+memo_in mode cs = record { unsought = unsought_in (slice_get cs mode); spare = sum_by spare_of cs }
 
 abbrev pub steps_in : List CutToEnd → ℕ
 steps_in cs = sum_by (λ c. c.steps) cs
 
--- this cuts the text in the mode m, with a memo, and has come no further than the place
+-- this cuts the text in the mode m, and has come no further than the place
 pub record IsCutIn (r : ModeRules) (text : List ℕ) (at m : ℕ) (c : CutToEnd) : Type 0 where
   pub trees : c.rules.trees ≡ trees_in r m
   pub precedences : c.rules.precedences ≡ r.precedences
   pub skips : c.skips ≡ r.skips
   pub same_text : c.text ≡ text
-  pub memo : IsSome c.memo
   pub behind : c.at ≤ at
 
 -- it has found no match that ends behind the place
 abbrev pub HasSoughtUpTo : ℕ → CutToEnd → Type 0
-HasSoughtUpTo at c = IsSomeAnd c.memo (λ m. length (chars (drop at c.text)) ≤ m.unsought)
+HasSoughtUpTo at c = length (chars (drop at c.text)) ≤ c.memo.unsought
 
--- there is one for each mode, or none; that of the mode in which the text is cut goes along
+-- there is one for each mode; that of the mode in which the text is cut goes along
 pub record AreCuts (r : ModeRules) (text : List ℕ) (at mode : ℕ) (cs : List CutToEnd) : Type 0 where
-  pub all : (cs ≡ []) ⊎ (length cs ≡ r.modes)
+  pub all : length cs ≡ r.modes
   pub each : (m : ℕ) (c : CutToEnd) → slice_get cs m ≡ Some c → IsCutIn r text at m c
   pub here : (c : CutToEnd) → slice_get cs mode ≡ Some c → c.at ≡ at
   pub others : (m : ℕ) (c : CutToEnd) → slice_get cs m ≡ Some c → m ≢ mode → HasSoughtUpTo at c
@@ -68,7 +58,7 @@ pub record AreCuts (r : ModeRules) (text : List ℕ) (at mode : ℕ) (cs : List 
 pub record AreUncut (r : ModeRules) (text : List ℕ) (count : ℕ) (cs : List CutToEnd) : Type 0 where
   pub many : length cs ≡ count
   pub each : (m : ℕ) (c : CutToEnd) → slice_get cs m ≡ Some c
-      → IsCutIn r text 0 m c × (c.at ≡ 0) × IsSomeAnd c.memo (λ x. x.unsought ≡ length (chars text))
+      → IsCutIn r text 0 m c × (c.at ≡ 0) × (c.memo.unsought ≡ length (chars text))
   pub unread : steps_in cs ≡ 0
   pub spare : sum_by spare_of cs ≤ count * (length (chars text) + length text) + sum_by open_states (take count r.automata) * (length text + 64)
 
@@ -92,9 +82,9 @@ abbrev pub CutsNext : Cutting → Option Item → Cutting → Type 0
 CutsNext old None new = (new ≡ old) × (drop old.at old.text ≡ [])
 CutsNext old (Some item) new = CutsPiece old item new
 
--- no match behind the beginning of the rest is found yet, if there is a memo
+-- no match after the beginning of the rest is found yet
 abbrev pub IsSoughtHere : Cutting → Type 0
-IsSoughtHere s = IfSome s.memo (λ m. m.unsought ≡ length (chars (drop s.at s.text)))
+IsSoughtHere s = s.memo.unsought ≡ length (chars (drop s.at s.text))
 
 -- so it is after a token that was cut
 abbrev pub IsSoughtAfter : Item → Cutting → Type 0

@@ -1,4 +1,4 @@
--- The match at the front of a rest, and the place from which the next ones are sought, with a memo or without.
+-- The match at the front of a rest, and the place from which the next ones are sought.
 use Rattle.std.specs.Prelude.{◌≡◌, ◌≢◌, ℕ, ◌+◌, ◌<◌, List, [], ◌++◌, length, drop, Option, Some, None, IfSome}
 use Rattle.std.specs.Option.{option_map}
 use Rattle.std.specs.Borrow.{Bor}
@@ -11,23 +11,15 @@ use Rattle.lalrpop_lexer.specs.Dfa.{Row}
 use Rattle.lalrpop_lexer.specs.Matching.{Matching, rest_of}
 use Rattle.lalrpop_lexer.specs.Rules.{IsBuiltFrom}
 use Rattle.lalrpop_rules.specs.Found.{NoMatchBefore}
-use Rattle.lalrpop_rules.specs.CutToEnd.{Memo}
-use Rattle.lalrpop_rules.specs.declared.finder.Finder.{Finder}
-use Rattle.lalrpop_rules.specs.declared.finder.Finder.TheVariants.{Plain, Remembering}
+use Rattle.lalrpop_rules.specs.Internal.CutToEnd.{Memo}
 
 -- a match: the index of its pattern, and its slice
 abbrev pub Match : Type 0
 Match = ℕ × Bor (List ℕ)
 
--- the text, and the place from which its matches are sought
-abbrev pub matching_of : Finder → Matching
-matching_of (Plain m) = m
-matching_of (Remembering m) = m
-
--- what a memo has left, if there is one
-abbrev pub memo_of : Finder → Option Memo
-memo_of (Plain m) = None
-memo_of (Remembering m) = Some (record { unsought = length (chars (rest_of m)); spare = m.spare })
+-- what a memo has left
+abbrev pub memo_of : Matching → Memo
+memo_of m = record { unsought = length (chars (rest_of m)); spare = m.spare }
 
 -- a text with something left in it
 abbrev pub IsSomeText : List ℕ → Type 0

@@ -6,7 +6,7 @@ use Rattle.lalrpop_hir.specs.Internal.Code.{tree_code}
 use Rattle.lalrpop_lexer.specs.Internal.Code.{row_code}
 use Rattle.lalrpop_lexer.specs.Dfa.{Row}
 use Rattle.lalrpop_rules.specs.Internal.Code.{memo_code}
-use Rattle.lalrpop_rules.specs.CutToEnd.{Memo}
+use Rattle.lalrpop_rules.specs.Internal.CutToEnd.{Memo}
 use Rattle.lalrpop_hir.specs.Tree.{Tree}
 use Rattle.bajofeki_rules.specs.declared.action.Action.{Action}
 use Rattle.bajofeki_rules.specs.declared.action.Action.TheVariants.{Mode, Push, Pop}
@@ -48,15 +48,15 @@ modes_code =
 
 abbrev pub cut_code : Coded ModeCut
 cut_code =
-    code_by (ModeRules × (List ℕ × (ℕ × (Stack × (Option Memo × (ℕ × Bool))))))
-    (coded× modes_code (coded× (coded_list coded_ℕ) (coded× coded_ℕ (coded× stack_code (coded× (coded_option memo_code) (coded× coded_ℕ coded_bool))))))
-    (λ c. (c.rules, (c.text, (c.at, (c.stack, (c.memo, (c.steps, c.is_over)))))))
-    (λ p. record { rules = p.0; text = p.1.0; at = p.1.1.0; stack = p.1.1.1.0; memo = p.1.1.1.1.0; steps = p.1.1.1.1.1.0; is_over = p.1.1.1.1.1.1 })
+    code_by (ModeRules × (List ℕ × (ℕ × (Stack × (ℕ × (ℕ × Bool))))))
+    (coded× modes_code (coded× (coded_list coded_ℕ) (coded× coded_ℕ (coded× stack_code (coded× coded_ℕ (coded× coded_ℕ coded_bool))))))
+    (λ c. (c.rules, (c.text, (c.at, (c.stack, (c.steps, (c.steps_left, c.is_over)))))))
+    (λ p. record { rules = p.0; text = p.1.0; at = p.1.1.0; stack = p.1.1.1.0; steps = p.1.1.1.1.0; steps_left = p.1.1.1.1.1.0; is_over = p.1.1.1.1.1.1 })
     (λ _. refl)
 
 abbrev pub cutting_code : Coded Cutting
 cutting_code =
-    code_by (ModeRules × (List ℕ × (ℕ × (ℕ × (Option Memo × ℕ)))))
-    (coded× modes_code (coded× (coded_list coded_ℕ) (coded× coded_ℕ (coded× coded_ℕ (coded× (coded_option memo_code) coded_ℕ)))))
+    code_by (ModeRules × (List ℕ × (ℕ × (ℕ × (Memo × ℕ)))))
+    (coded× modes_code (coded× (coded_list coded_ℕ) (coded× coded_ℕ (coded× coded_ℕ (coded× memo_code coded_ℕ)))))
     (λ c. (c.rules, (c.text, (c.at, (c.mode, (c.memo, c.steps))))))
     (λ p. record { rules = p.0; text = p.1.0; at = p.1.1.0; mode = p.1.1.1.0; memo = p.1.1.1.1.0; steps = p.1.1.1.1.1 }) (λ _. refl)

@@ -1,18 +1,20 @@
-use Rattle.std.proofs.Common.{◌≡◌, ◌<◌, length, drop, get_or, arith, refl, sym, subst}
-use Rattle.std.specs.Prelude.{Some, IfSome, slice_get}
+use Rattle.std.proofs.Common.{◌≡◌, ◌<◌, length, drop, arith, refl, sym, subst}
+use Rattle.std.specs.Prelude.{Some, slice_get}
 use Rattle.std.specs.Str.{chars, IsCharBoundary}
-use Rattle.std.proofs.lemmas.Option.{slice_get_read, slice_get-get_or}
-use Rattle.lalrpop_rules.specs.CutToEnd.{CutToEnd}
+use Rattle.std.proofs.lemmas.Option.{slice_get_read}
 use Rattle.lalrpop_rules.specs.Internal.Cutting.{Cutting, IsSoughtHere, memo_in}
-use Rattle.lalrpop_rules.proofs.Cuts.{may_pass, one_for_each, cuts_entered, enter_paid}
+use Rattle.lalrpop_rules.proofs.Cuts.{cuts_entered, enter_paid}
 use Rattle.lalrpop_rules.proofs.cutter.Cutter.enter.Goals as goal
+
+pub index_mut-requires : goal.index_mut-requires
+index_mut-requires c = omega (arith, c.self.invariant.cuts.all, subst (λ (s : Cutting). c.args.mode < s.rules.modes) (sym c.self.view_is) c.requires.there)
 
 pub pass_to-requires-clause-behind : goal.pass_to-requires-clause-behind
 pass_to-requires-clause-behind c =
     let i = c.self.inside in
     let old = c.index_mut.result.now in
     let is : slice_get i.cuts.items c.args.mode ≡ Some old =
-    slice_get_read i.cuts.items (length i.cuts.items) c.args.mode old refl (omega (arith, c.len.ensures, c.if-mode-len.true)) c.index_mut.ensures.value in
+    slice_get_read i.cuts.items (length i.cuts.items) c.args.mode old refl (omega (arith, c.self.invariant.cuts.all, subst (λ (s : Cutting). c.args.mode < s.rules.modes) (sym c.self.view_is) c.requires.there)) c.index_mut.ensures.value in
     (c.self.invariant.cuts.each c.args.mode old is).behind
 
 pub pass_to-requires-clause-boundary : goal.pass_to-requires-clause-boundary
@@ -20,7 +22,7 @@ pass_to-requires-clause-boundary c =
     let i = c.self.inside in
     let old = c.index_mut.result.now in
     let is : slice_get i.cuts.items c.args.mode ≡ Some old =
-    slice_get_read i.cuts.items (length i.cuts.items) c.args.mode old refl (omega (arith, c.len.ensures, c.if-mode-len.true)) c.index_mut.ensures.value in
+    slice_get_read i.cuts.items (length i.cuts.items) c.args.mode old refl (omega (arith, c.self.invariant.cuts.all, subst (λ (s : Cutting). c.args.mode < s.rules.modes) (sym c.self.view_is) c.requires.there)) c.index_mut.ensures.value in
     subst (λ t. IsCharBoundary t i.at) (sym (c.self.invariant.cuts.each c.args.mode old is).same_text) c.self.invariant.boundary
 
 pub pass_to-requires-clause-sought : goal.pass_to-requires-clause-sought
@@ -29,18 +31,18 @@ pass_to-requires-clause-sought c =
     let h = c.self.invariant in
     let old = c.index_mut.result.now in
     let is : slice_get i.cuts.items c.args.mode ≡ Some old =
-    slice_get_read i.cuts.items (length i.cuts.items) c.args.mode old refl (omega (arith, c.len.ensures, c.if-mode-len.true)) c.index_mut.ensures.value in
+    slice_get_read i.cuts.items (length i.cuts.items) c.args.mode old refl (omega (arith, c.self.invariant.cuts.all, subst (λ (s : Cutting). c.args.mode < s.rules.modes) (sym c.self.view_is) c.requires.there)) c.index_mut.ensures.value in
     let other = rw (← c.self.view_is) at c.requires.other in
-    may_pass i.lexer.now i.text.now i.at i.mode c.args.mode i.cuts.items old h.cuts is other
+    h.cuts.others c.args.mode old is other
 
 pub invariant_of-self : goal.invariant_of-self
 invariant_of-self c =
     let i = c.self.inside in
     let h = c.self.invariant in
     let old = c.index_mut.result.now in
-    let within : c.args.mode < length i.cuts.items = omega (arith, c.len.ensures, c.if-mode-len.true) in
+    let within : c.args.mode < length i.cuts.items = omega (arith, c.self.invariant.cuts.all, subst (λ (s : Cutting). c.args.mode < s.rules.modes) (sym c.self.view_is) c.requires.there) in
     let is : slice_get i.cuts.items c.args.mode ≡ Some old = slice_get_read i.cuts.items (length i.cuts.items) c.args.mode old refl within c.index_mut.ensures.value in
-    let sought : IfSome (memo_in i.mode i.cuts.items) (λ m. m.unsought ≡ length (chars (drop i.at i.text.now))) =
+    let sought : (memo_in i.mode i.cuts.items).unsought ≡ length (chars (drop i.at i.text.now)) =
     subst (λ (s : Cutting). IsSoughtHere s) (sym c.self.view_is) c.requires.sought in
     record {
       utf8 = h.utf8;
@@ -49,22 +51,19 @@ invariant_of-self c =
       cuts = cuts_entered i.lexer.now i.text.now i.at i.mode c.args.mode i.cuts.items old c.pass_to.new.self h.cuts is within sought c.pass_to.ensures.passes;
     }
 
-pub returns-then-mode-len : goal.returns-then-mode-len
-returns-then-mode-len c =
+pub returns : goal.returns
+returns c =
     let i = c.self.inside in
     let h = c.self.invariant in
     let old = c.index_mut.result.now in
-    let within : c.args.mode < length i.cuts.items = omega (arith, c.len.ensures, c.if-mode-len.true) in
+    let within : c.args.mode < length i.cuts.items = omega (arith, c.self.invariant.cuts.all, subst (λ (s : Cutting). c.args.mode < s.rules.modes) (sym c.self.view_is) c.requires.there) in
     let is : slice_get i.cuts.items c.args.mode ≡ Some old = slice_get_read i.cuts.items (length i.cuts.items) c.args.mode old refl within c.index_mut.ensures.value in
-    let sought : IfSome (memo_in i.mode i.cuts.items) (λ m. m.unsought ≡ length (chars (drop i.at i.text.now))) =
+    let sought : (memo_in i.mode i.cuts.items).unsought ≡ length (chars (drop i.at i.text.now)) =
     subst (λ (s : Cutting). IsSoughtHere s) (sym c.self.view_is) c.requires.sought in
-    let before : CutToEnd = get_or i.cuts.items i.mode old in
-    let was : slice_get i.cuts.items i.mode ≡ Some before =
-    slice_get-get_or i.cuts.items i.mode old (one_for_each i.lexer.now i.text.now i.at i.mode i.mode c.args.mode i.cuts.items h.cuts within h.there) in
     rw (← c.self.view_is)
     record {
       follows = record {
         enters = refl;
-        paid = enter_paid i.lexer.now i.text.now i.at i.mode c.args.mode i.cuts.items before old c.pass_to.new.self h.cuts was is within sought c.pass_to.ensures.passes;
+        paid = enter_paid i.lexer.now i.text.now i.at i.mode c.args.mode i.cuts.items old c.pass_to.new.self h.cuts is within sought c.pass_to.ensures.passes;
       };
     }
