@@ -96,6 +96,15 @@ pub(crate) fn built(alloc: Global, words: &str) -> Result<Dfa, AllocError> {
     given(made(alloc, words)?)
 }
 
+/// The automaton of trees with these precedences.
+pub(crate) fn built_from(
+    alloc: Global,
+    trees: &[Hir],
+    precedences: &[Precedence],
+) -> Result<Dfa, AllocError> {
+    given(build(alloc, trees, precedences))
+}
+
 /// The automaton of the patterns, which are separated by spaces, with these precedences.
 pub(crate) fn built_with(
     alloc: Global,
@@ -103,7 +112,7 @@ pub(crate) fn built_with(
     precedences: &[Precedence],
 ) -> Result<Dfa, AllocError> {
     let trees = trees_of(alloc, words)?;
-    given(build(alloc, &trees, precedences))
+    built_from(alloc, &trees, precedences)
 }
 
 /// What one tree is compiled to.
