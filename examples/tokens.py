@@ -4,15 +4,10 @@ made with it:
 
     cd examples/c && ../tokens.py $(cat args) > stdout
 
-Usage: tokens.py [--places] RULES FILE ...
-       tokens.py --named RULES FILE ...
+Usage: tokens.py RULES FILE ...
 
-Each line of RULES is a terminal, `P l TEXT` for a literal or `P r PATTERN` for a pattern, with the precedence P. At
-each place the longest match wins; among terminals with a match of that length, the one with the greatest precedence.
-Each token is a line `TERMINAL BYTES "SLICE"`, which --places begins with `FILE:LINE:COLUMN: `. The last line of a text
-is `end`, or `none N` if no terminal matches at byte N. The exit status is 0, or 1 if there was a `none`.
-
-With --named RULES is a file of named rules, as docs/PROGRAMS.md has it: rules, parts, sections, blank lines and comments. A token is a line
+RULES is a file of rules, as docs/PROGRAMS.md has it: rules, parts, sections, blank lines and comments. At each place the longest
+match wins; among rules with a match of that length, the one with the greatest precedence. A token is a line
 `LINE:COLUMN NAME "SLICE"`, begun by `FILE:` if there are several files, and skipped ones are left out. Where no rule matches, the
 file is cut no further, and the exit status is 1; so it is where a text ends in a deeper mode."""
 import functools
@@ -66,13 +61,6 @@ def translated(pattern):
     return re.sub(r"\\(?:p\{(?P<name>\w+)\}|x\{(?P<number>\w+)\}|.)", escape, pattern)
 
 
-def terminals(rules):
-    """The precedence and the pattern of each terminal."""
-    for line in rules.removesuffix("\n").split("\n"):
-        precedence, kind, text = line.split(" ", 2)
-        yield int(precedence), {"l": re.escape, "r": translated}[kind](text)
-
-
 SECTION = re.compile(r"[ \t]*\[[ \t]*(\*|\w+(?:[ \t]+\w+)*)[ \t]*\][ \t]*", re.ASCII)
 RULE = re.compile(r"[ \t]*([A-Za-z_]\w*)([ \t]+skip)?((?:[ \t]+(?:pop|(?:mode|push)[ \t]+\w+))*)[ \t]*=[ \t]*([0-9]+)?[ \t]*(.*?)[ \t]*", re.ASCII)
 PART = re.compile(r"[ \t]*([A-Za-z_]\w*)[ \t]+part[ \t]*=[ \t]*/(.*)/[ \t]*", re.ASCII)
@@ -107,7 +95,7 @@ def pattern_of(text, parts):
     return f"{start}(?s:(?!{end}).)*{end}", 0
 
 
-def named_rules(rules):
+def rules_of(rules):
     """Each rule: its name, whether it is skipped, its actions, precedence and pattern, and its modes; and the modes of the file."""
     found, parts, modes, here = [], {}, [], ["INITIAL"]
     for line in rules.split("\n"):
@@ -143,25 +131,17 @@ def longest(pattern, rest):
 
 
 def token_at(rules, rest):
-    """The index of the strongest of the terminals with the longest match at the start of `rest`, and the match; None without a match."""
+    """The index of the strongest of the rules with the longest match at the start of `rest`, and the match; None without a match."""
     matches = [(longest(pattern, rest), precedence) for precedence, pattern in rules]
     best = max(matches)
     if best[0] == 0:
         return None
     if matches.count(best) > 1:
-        raise ValueError(f"two terminals tie on {rest[:best[0]]!r}")
+        raise ValueError(f"two rules tie on {rest[:best[0]]!r}")
     return matches.index(best), rest[: best[0]]
 
 
-def cut(rules, text):
-    """The terminal and the slice of each token, up to the first place where no terminal matches."""
-    at = 0
-    while at < len(text) and (found := token_at(rules, text[at:])):
-        yield found
-        at += len(found[1])
-
-
-def cut_by_modes(rules, modes, text):
+def cut(rules, modes, text):
     """The name of each token, or None if it is skipped, and its slice, up to the first place where no rule of the mode on top
     matches; and the stack of modes there, whose last is on top."""
     tokens, at, stack = [], 0, modes[:1]
@@ -189,47 +169,24 @@ def quoted(token):
     return '"' + "".join(map(shown, token)) + '"'
 
 
-def place_behind(before):
+def place_after(before):
     return f"{before.count(chr(10)) + 1}:{len(before) - (before.rfind(chr(10)) + 1) + 1}"
 
 
-def named(rules_file, *files):
-    rules, modes = named_rules(Path(rules_file).read_bytes().decode("utf-8-sig"))
+def main(rules_file, *files):
+    rules, modes = rules_of(Path(rules_file).read_bytes().decode("utf-8-sig"))
     status = 0
     for file in files:
         text, before = Path(file).read_bytes().decode(), ""
-        tokens, stack = cut_by_modes(rules, modes, text)
+        tokens, stack = cut(rules, modes, text)
         for name, token in tokens:
             if name:
-                print(f"{file + ':' if len(files) > 1 else ''}{place_behind(before)} {name} {quoted(token)}")
+                print(f"{file + ':' if len(files) > 1 else ''}{place_after(before)} {name} {quoted(token)}")
             before += token
         status |= before != text or len(stack) > 1
     return status
 
 
-def main(words):
-    if words[:1] == ["--named"]:
-        return named(*words[1:])
-    places = words[:1] == ["--places"]
-    rules_file, *files = words[places:]
-    rules = list(terminals(Path(rules_file).read_bytes().decode()))
-    status = 0
-    for file in files:
-        text = Path(file).read_bytes().decode()
-        before = ""
-        for terminal, token in cut(rules, text):
-            place = f"{file}:{place_behind(before)}: " if places else ""
-            print(f"{place}{terminal} {len(token.encode())} {quoted(token)}")
-            before += token
-        if before == text:
-            print("end")
-        else:
-            print(f"none {len(before.encode())}")
-            status = 1
-    return status
-
-
 if __name__ == "__main__":
     sys.stdout.reconfigure(encoding="utf-8", newline="\n")
-    # The program wants `--lines` before terminals; here it says nothing.
-    sys.exit(main([word for word in sys.argv[1:] if word != "--lines"]))
+    sys.exit(main(*sys.argv[1:]))

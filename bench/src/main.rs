@@ -2,12 +2,14 @@
 #![tactic(auto)]
 
 use anyhow::{Context, Result, bail};
-use lalrpop_lexer::lexer::dfa::{
-    DenseDfa, Dfa, Matcher, NfaIndex, Precedence, build_dfa, clashes,
-};
+use lalrpop_dense::{DenseDfa, Matcher};
+use lalrpop_edits::Chunks;
+use lalrpop_emit::LexerNumbers;
+use lalrpop_lexer::lexer::dfa::{Dfa, NfaIndex, Precedence, build_dfa, clashes};
 use lalrpop_lexer::lexer::nfa::Steps;
 use lalrpop_lexer::lexer::re::Regex;
 use lalrpop_lexer::{Lexer, Terminals, read_terminals, tokens};
+use lalrpop_rules::{Item, RuleLexer};
 use lalrpop_verdicts::{minimized, verdicts};
 use std::alloc::{AllocError, Global};
 use std::time::{CpuClock, Duration};
@@ -220,6 +222,87 @@ fn by_tokens(alloc: Global, lexer: &Lexer, text: &str) -> Result<Found, AllocErr
     Ok(found)
 }
 
+#[derive(Drop)]
+struct Ruled {
+    lexer: RuleLexer,
+    numbers: LexerNumbers,
+}
+
+fn ruled_of(alloc: Global, bytes: &[u8]) -> Option<Ruled> {
+    let lexer = RuleLexer::from_file(alloc, bytes).ok()?;
+    let numbers = LexerNumbers::new(alloc, &lexer).ok()?;
+    Some(Ruled { lexer, numbers })
+}
+
+impl Work for Ruled {
+    fn round(&mut self, alloc: Global, call: &str, text: &str) -> Result<Found, AllocError> {
+        match call {
+            "items" => by_items(alloc, &self.lexer, text),
+            "chunks" => by_chunks(alloc, &self.lexer, text),
+            _ => by_numbers(alloc, &self.numbers, text.as_bytes()),
+        }
+    }
+}
+
+fn add_item(found: &mut Found, item: &Item<'_>) {
+    match item {
+        Item::Token(token) | Item::Skipped(token) => found.add(token.index, token.slice.len()),
+        Item::Fault { .. } => found.add_fault(),
+    }
+}
+
+fn by_items(alloc: Global, lexer: &RuleLexer, text: &str) -> Result<Found, AllocError> {
+    let mut found = Found::none();
+    for item in lexer.items(alloc, text)? {
+        match item {
+            Ok(item) => add_item(&mut found, &item),
+            Err(error) => return Err(error),
+        }
+    }
+    Ok(found)
+}
+
+// The pieces that no later chunk can change.
+fn add_pieces(found: &mut Found, chunks: &mut Chunks<'_>) -> Result<(), AllocError> {
+    // A piece has one byte at least.
+    for _ in 0..chunks.rest().len() {
+        match chunks.next_piece() {
+            Ok(Some(piece)) => add_item(found, &piece.item(chunks.slice())),
+            Ok(None) => break,
+            Err(error) => return Err(error),
+        }
+    }
+    Ok(())
+}
+
+// A chunk is a line.
+fn by_chunks(alloc: Global, lexer: &RuleLexer, text: &str) -> Result<Found, AllocError> {
+    let mut found = Found::none();
+    let mut chunks = Chunks::new(alloc, lexer);
+    for line in text.split_inclusive('\n') {
+        // Nothing ends the text before the last chunk.
+        if chunks.is_ended() {
+            break;
+        }
+        chunks.feed(line)?;
+        add_pieces(&mut found, &mut chunks)?;
+    }
+    chunks.finish();
+    add_pieces(&mut found, &mut chunks)?;
+    Ok(found)
+}
+
+fn by_numbers(alloc: Global, numbers: &LexerNumbers, text: &[u8]) -> Result<Found, AllocError> {
+    let mut found = Found::none();
+    for piece in &numbers.pieces(alloc, text)?.pieces {
+        match piece.kind {
+            Some(_) => found.add(NfaIndex::new(piece.rule), piece.length),
+            None => found.add_fault(),
+        }
+    }
+    Ok(found)
+}
+
 // The least time of the rounds, and what each of them found.
 fn tell<R: CpuClock + Print + AllocGlobal, W: Work>(
     rt: &R,
@@ -274,6 +357,10 @@ fn main(rt: HostRuntime) -> Result<()> {
                 None => bail!("no automaton of these terminals"),
             }
         }
+        "items" | "chunks" | "bytes" => match ruled_of(alloc, bytes) {
+            Some(mut ruled) => tell(&rt, &mut ruled, &call, &text, rounds),
+            None => bail!("no lexer of these rules"),
+        },
         _ => match list_of(alloc, bytes).and_then(|list| cutters_of(alloc, list)) {
             Some(mut cutters) => tell(&rt, &mut cutters, &call, &text, rounds),
             None => bail!("no lexer of these terminals"),

@@ -3,9 +3,7 @@
 
 use anyhow::{Context, Result, bail};
 use lalrpop_lexer::Position;
-use lalrpop_rules::RuleLexer;
-use lalrpop_rule_file::read_rules;
-use lalrpop_rules::Item;
+use lalrpop_rules::{Item, RuleLexer};
 use std::alloc::Global;
 use std::io::Print;
 use std::{env, fs};
@@ -65,9 +63,7 @@ pub fn main(rt: HostRuntime) -> Result<()> {
         bail!("usage: config_reader RULES TEXT");
     };
     let bytes = fs::read_to_string(&rt, &rules_name).context(format_args!("{rules_name:?}"))?;
-    let file = read_rules(alloc, bytes.as_bytes()).context(format_args!("{rules_name:?}"))?;
-    let rules = file.mode_rules(alloc)?;
-    let made = RuleLexer::from_rules(alloc, &rules, file.modes.len());
+    let made = RuleLexer::from_file(alloc, bytes.as_bytes());
     let lexer = made.context(format_args!("{rules_name:?}"))?;
     let text = fs::read_to_string(&rt, &text_name).context(format_args!("{text_name:?}"))?;
     show(&rt, alloc, &lexer, &text)

@@ -6,7 +6,6 @@ use anyhow::{Context, Result, bail};
 use lalrpop_edits::{Chunks, TextDecoder};
 use lalrpop_markup::Painter;
 use lalrpop_rules::RuleLexer;
-use lalrpop_rule_file::read_rules;
 use std::alloc::Global;
 use std::env;
 use std::fs::{self, File};
@@ -72,9 +71,7 @@ pub fn main(rt: HostRuntime) -> Result<()> {
         bail!("usage: log_highlighter RULES [LOG]");
     };
     let bytes = fs::read_to_string(&rt, &rules_name).context(format_args!("{rules_name:?}"))?;
-    let file = read_rules(alloc, bytes.as_bytes()).context(format_args!("{rules_name:?}"))?;
-    let rules = file.mode_rules(alloc)?;
-    let made = RuleLexer::from_rules(alloc, &rules, file.modes.len());
+    let made = RuleLexer::from_file(alloc, bytes.as_bytes());
     let lexer = made.context(format_args!("{rules_name:?}"))?;
     match words.next() {
         Some(name) => {

@@ -17,7 +17,8 @@ use lalrpop_nfa::Steps;
 /// What finds the longest match at the start of a text by an automaton.
 ///
 /// ```
-/// use lalrpop_lexer::lexer::dfa::{Matcher, NfaIndex};
+/// use lalrpop_dense::Matcher;
+/// use lalrpop_lexer::lexer::dfa::NfaIndex;
 /// use lalrpop_lexer::lexer::nfa::Steps;
 ///
 /// fn first<'text, M: Matcher>(matcher: &M, text: &'text str) -> Option<(NfaIndex, &'text str)> {

@@ -27,9 +27,10 @@ pub struct Token<'text> {
 /// ```
 /// use lalrpop_lexer::TokenFault;
 ///
-/// let list = lexer.token_list(alloc, "let!")?;
-/// if let Some(TokenFault { at }) = list.fault {
-///     let rest = "let!".get(at..); // Some("!")
+/// for item in lexer.tokens(alloc, "let!")? {
+///     if let Err(TokenFault { at }) = item {
+///         let rest = "let!".get(at..); // Some("!")
+///     }
 /// }
 /// ```
 #[derive(Clone, Copy, Debug, PartialEq, Eq, Error)]

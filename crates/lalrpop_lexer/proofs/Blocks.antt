@@ -1,11 +1,11 @@
 -- Matches that are found ahead, and what is prepaid.
-use Rattle.std.proofs.Common.{◌≡◌, ◌≢◌, ℕ, zero, suc, ◌+◌, ◌*◌, ◌<◌, ◌≤◌, ◌-◌, List, [], ◌∷◌, ◌++◌, length, take, drop, refl, sym, ap, subst, ◌∙◌, arith, length-drop, length-take, Bor}
+use Rattle.std.proofs.Common.{◌≡◌, ◌≢◌, ℕ, zero, suc, ◌+◌, ◌*◌, ◌<◌, ◌≤◌, ◌-◌, List, [], ◌++◌, length, take, drop, refl, sym, ap, subst, ◌∙◌, arith, length-drop, length-take, Bor}
 use Rattle.std.specs.Prelude.{Option, Some, None, IfSome}
 use Rattle.std.specs.Option.{option_map}
 use Rattle.std.specs.Str.{chars, IsUtf8, IsCharBoundary}
 use Rattle.std.specs.Char.{encode_utf8}
-use Rattle.std.proofs.lemmas.List.{take-append-drop, take_at, append-nil}
-use Rattle.std.proofs.lemmas.Str.{IsUtf8-past_char, IsCharBoundary-at_seam, chars_past_char, chars-nil}
+use Rattle.std.proofs.lemmas.List.{take-append-drop, take_at}
+use Rattle.std.proofs.lemmas.Str.{IsUtf8-past_char, IsCharBoundary-at_seam}
 use Rattle.lalrpop_hir.specs.Tree.{Tree}
 use Rattle.lalrpop_hir.specs.Prefix.{IsPrefix}
 use Rattle.lalrpop_hir.specs.Longest.{IsLongest}
@@ -27,9 +27,6 @@ first_char rest r a c size u same e long =
       subst (λ (n : ℕ). IsCharBoundary rest n) (sym long) (IsCharBoundary-at_seam rest (encode_utf8 c) a split (IsUtf8-past_char rest a c u split)),
       ap (take size) split ∙ take_at (encode_utf8 c) a size (sym long),
     )
-
-pub one_char : (p : List ℕ) (c : ℕ) → IsUtf8 p → p ≡ encode_utf8 c → length (chars p) ≡ 1
-one_char p c u e = ap length (chars_past_char p [] c u (e ∙ sym (append-nil (encode_utf8 c))) ∙ ap (λ (w : List ℕ). c ∷ w) chars-nil)
 
 -- ---- what is handed out
 
@@ -113,7 +110,6 @@ handed_prepaid r r2 m credit settled before after b h =
           let e : (n + 2) * length (chars m.1.now) ≡ n * length (chars m.1.now) + 2 * length (chars m.1.now) = grind arith in
           omega arith;
       cost = tt;
-      read = omega arith;
     }
 
 -- with a memo nothing is prepaid
@@ -137,22 +133,20 @@ next_through s0 s1 s2 None e h = record {
 }
 
 pub prepaid_through : (s0 s1 s2 : Matching) (found : Option (ℕ × Bor (List ℕ))) (before between after : ℕ) → s1 ≡ record s0 { spare = s1.spare }
-    → between + s1.spare ≡ before + s0.spare → before ≤ between → IsPrepaid s1 s2 found between after → IsPrepaid s0 s2 found before after
-prepaid_through s0 s1 s2 (Some m) before between after e same grows h =
+    → between + s1.spare ≡ before + s0.spare → IsPrepaid s1 s2 found between after → IsPrepaid s0 s2 found before after
+prepaid_through s0 s1 s2 (Some m) before between after e same h =
     let d : s1.automaton ≡ s0.automaton = ap (λ (x : Matching). x.automaton) e in
     record {
       never_falls = omega (arith, same, h.never_falls);
       paid = λ n most. omega (arith, same, h.paid n (subst (λ (x : List Row). ReadsAtMost x n) (sym d) most));
       cost = tt;
-      read = omega (arith, grows, h.read);
     }
-prepaid_through s0 s1 s2 None before between after e same grows h =
+prepaid_through s0 s1 s2 None before between after e same h =
     let rest : length (chars (rest_of s1)) ≡ length (chars (rest_of s0)) = ap (λ (x : Matching). length (chars (rest_of x))) e in
     record {
       never_falls = omega (arith, same, h.never_falls);
       paid = λ n most. tt;
       cost = omega (arith, same, rest, h.cost);
-      read = omega (arith, grows, h.read);
     }
 
 pub paid_through : (s0 s1 s2 : Matching) (found : Option (ℕ × Bor (List ℕ))) (before between after : ℕ) → between + s1.spare ≡ before + s0.spare → before ≤ between
@@ -195,7 +189,7 @@ plain_block s s2 r r1 found credit settled vain before between after is same few
     let s1 : Matching = plain r (credit - vain) settled in
     let s0 : Matching = plain r credit settled in
     subst (λ (x : Matching). IsMatch x s2 found before after) is
-    (next_through s0 s1 s2 found refl c.0, prepaid_through s0 s1 s2 found before between after refl (omega arith) (omega arith) c.1)
+    (next_through s0 s1 s2 found refl c.0, prepaid_through s0 s1 s2 found before between after refl (omega arith) c.1)
 
 -- a match that is found alone
 pub alone_some : (s s2 : Matching) (d : List Row) (rest : List ℕ) (m : ℕ × Bor (List ℕ)) (before after : ℕ) → d ≡ s.automaton → rest ≡ rest_of s
@@ -214,7 +208,6 @@ alone_some s s2 d rest m before after same e answer prefix goes more looked read
         never_falls = omega (arith, more, read, some);
         paid = λ n most. pays n (length (chars m.1.now)) before after s.spare s2.spare some more (looked n (subst (λ (x : List Row). ReadsAtMost x n) (sym same) most));
         cost = tt;
-        read = read;
       },
     )
   where
@@ -234,7 +227,7 @@ alone_none s d rest before after same e answer never cost =
         goes_on = tt;
         stays = refl;
       },
-      record { never_falls = omega arith; paid = λ n most. tt; cost = omega arith; read = omega arith },
+      record { never_falls = omega arith; paid = λ n most. tt; cost = omega arith },
     )
 
 pub record IsPassed (r2 : Rest) (s : Matching) (p : List ℕ) (credit count at : ℕ) : Type 0 where

@@ -1,6 +1,6 @@
 -- What the calls of `next` return for a text that is being cut.
 use Rattle.std.proofs.Common.{◌≡◌, ◌≢◌, ℕ, ◌+◌, ◌<◌, ◌≤◌, true, false, inl, inr, List, [], ◌∷◌, ◌++◌, length, take, drop, arith, refl, sym, ap, subst, ◌∙◌, length-append, append_assoc}
-use Rattle.std.specs.Prelude.{Some, None, Ok, Err}
+use Rattle.std.specs.Prelude.{Option, Some, None, Ok, Err}
 use Rattle.std.specs.Iterator.{Yields, Drains}
 use Rattle.std.specs.Str.{chars, IsUtf8, IsCharBoundary, encode_utf8_all}
 use Rattle.std.proofs.lemmas.Str.{IsCharBoundary-from_take, IsUtf8-drop, encodes-chars, chars-append}
@@ -95,6 +95,22 @@ items_of ts ps s t u (Err f ∷ xs) r on (j, g, y) last =
     let over : j.is_over ≡ true = ap (λ (x : Cutting). x.is_over) g.4 in
     subst (λ (ys : List Item). AreItems ts ps s.text s.at (Err f ∷ ys)) (sym (none_over j t xs over y))
     (items_to_fault ts ps s.text s.at f (g.1, g.3 ts ps r, g.2))
+
+-- after the first `None` every call returns `None`
+pub none_for_good : (s t u : Cutting) (x : Option Item) → GivesItem s None t → GivesItem t x u → x ≡ None
+none_for_good s t u None (same, end) g = refl
+none_for_good s t u (Some (Ok m)) (same, end) g = elim end [
+  | inl over ↦ (let on : s.is_over ≡ false = sym (ap (λ (x : Cutting). x.is_over) same) ∙ g.0 in absurd (cc (over, on)))
+  | inr none ↦ absurd (g.2 (nothing_before m.1.now g.1.0 (sym none ∙ sym (ap (λ (x : Cutting). rest_of x) same) ∙ g.1.1.0)))
+]
+  where
+    nothing_before : (p q : List ℕ) → [] ≡ p ++ q → p ≡ []
+    nothing_before [] q e = refl
+    nothing_before (b ∷ p) q e = absurd (cc)
+none_for_good s t u (Some (Err f)) (same, end) g = elim end [
+  | inl over ↦ (let on : s.is_over ≡ false = sym (ap (λ (x : Cutting). x.is_over) same) ∙ g.0 in absurd (cc (over, on)))
+  | inr none ↦ absurd (g.1 (ap (λ (x : Cutting). rest_of x) same ∙ none))
+]
 
 -- ---- from the start
 

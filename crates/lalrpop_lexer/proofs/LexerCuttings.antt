@@ -1,6 +1,6 @@
 -- What the calls of `next` cut off a text.
 use Rattle.std.proofs.Common.{◌≡◌, ℕ, ◌+◌, ◌≤◌, List, [], ◌∷◌, ◌++◌, length, map, arith, refl, sym, ap, subst, ◌∙◌}
-use Rattle.std.specs.Prelude.{Some, Result, Ok, Err}
+use Rattle.std.specs.Prelude.{Option, Some, None, Result, Ok, Err}
 use Rattle.std.specs.Iterator.{Yields, Drains}
 use Rattle.std.specs.Str.{chars, IsUtf8}
 use Rattle.std.proofs.lemmas.List.{length-map}
@@ -16,7 +16,7 @@ use Rattle.lalrpop_lexer.specs.LexerTokens.{CutsToken}
 use Rattle.lalrpop_lexer.specs.Rules.{IsBuiltFrom}
 use Rattle.lalrpop_hir.specs.declared.token.Token.{Token}
 use Rattle.lalrpop_hir.specs.declared.token.TokenFault.{TokenFault}
-use Rattle.lalrpop_lexer.proofs.Cuttings.{items_from_start, parts_from_start, count_from_start}
+use Rattle.lalrpop_lexer.proofs.Cuttings.{items_from_start, parts_from_start, count_from_start, none_for_good}
 
 -- the automaton returned the same, without the places
 bare_step : (s t : Cutting) (x : Result Token TokenFault) → CutsToken s (Some x) t → GivesItem s (Some (bare x)) t
@@ -64,3 +64,7 @@ pub token_count_from_start : (s : Cutting) (d : List Row) (text : List ℕ) → 
 token_count_from_start s d text e u xs t y =
     let n : length (map bare xs) ≡ length xs = length-map xs bare in
     omega (arith, n, count_from_start s d text e u (map bare xs) t (bare_steps s t xs y))
+
+pub no_token_for_good : (s t u : Cutting) (x : Option (Result Token TokenFault)) → CutsToken s None t → CutsToken t x u → x ≡ None
+no_token_for_good s t u None same g = refl
+no_token_for_good s t u (Some x) same g = let e = none_for_good s t u (Some (bare x)) same (bare_step t u x g) in absurd (cc)

@@ -16,8 +16,16 @@ pub use Rattle.lalrpop_hir.proofs.ClashLaws
 pub use Rattle.lalrpop_build.proofs.ClashListLaws
 pub use Rattle.lalrpop_hir.proofs.Longests
 -- what follows from the clauses, for callers
+pub use Rattle.lalrpop_nfa.proofs.PartitionLaws
+pub use Rattle.lalrpop_hir.proofs.Chains
 pub use Rattle.lalrpop_hir.proofs.Strongest
+pub use Rattle.lalrpop_build.proofs.Agreeing
+pub use Rattle.lalrpop_build.proofs.AfterLaws
 pub use Rattle.lalrpop_dfa.proofs.Recognized
+pub use Rattle.lalrpop_dfa.proofs.WitnessLaws
+-- how many characters a text has, and the place after it
+pub use Rattle.bajofeki_rules.proofs.StartLaws
+pub use Rattle.bajofeki_rules.proofs.PlaceLaws
 -- states from which no match comes, and what a run knows of those that are noted
 pub mod Hopes
 pub mod Kept

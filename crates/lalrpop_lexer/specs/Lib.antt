@@ -2,35 +2,74 @@ pub mod Matching
 pub mod Cutting
 pub mod LexerTokens
 pub mod LeadingTokens
+pub use Rattle.bajofeki_rules.specs.Position
+pub use Rattle.bajofeki_rules.specs.Quoted
 pub mod Rules
 pub mod LexerErrors
 pub mod Spelled
+pub use Rattle.bajofeki_rules.specs.Lines
 pub mod Line
 pub mod Terminals
 pub mod SameTokens
 pub mod Renumbered
 pub mod Neighbours
 pub mod Joined
--- what callers name of the crates below: of patterns,
+-- what the public contracts of the crates below name: from the book,
+pub use Rattle.lalrpop_hir.specs.Word
+pub use Rattle.lalrpop_hir.specs.Range
 pub use Rattle.lalrpop_hir.specs.Tree
+pub use Rattle.lalrpop_hir.specs.Language
 pub use Rattle.lalrpop_hir.specs.Fault
+pub use Rattle.lalrpop_hir.specs.Prefix
 pub use Rattle.lalrpop_hir.specs.Winners
 pub use Rattle.lalrpop_hir.specs.Longest
 pub use Rattle.lalrpop_hir.specs.Clash
 pub use Rattle.lalrpop_hir.specs.Clashes
 pub use Rattle.lalrpop_hir.specs.Report
+pub use Rattle.lalrpop_hir.specs.Chain
 pub use Rattle.lalrpop_hir.specs.Tokens
+-- from patterns,
+pub use Rattle.lalrpop_hir.specs.Runs
+pub use Rattle.lalrpop_hir.specs.Counts
 pub use Rattle.lalrpop_hir.specs.Parts
+pub use Rattle.lalrpop_hir.specs.Size
+pub use Rattle.lalrpop_hir.specs.Level
+-- from patterns as texts,
+pub use Rattle.lalrpop_re.specs.CharacterSet
+pub use Rattle.lalrpop_re.specs.NamedSet
+pub use Rattle.lalrpop_re.specs.PosixSet
+pub use Rattle.lalrpop_re.specs.Text
+pub use Rattle.lalrpop_re.specs.Flag
+pub use Rattle.lalrpop_re.specs.GroupName
+pub use Rattle.lalrpop_re.specs.Escape
+pub use Rattle.lalrpop_re.specs.Bracket
+pub use Rattle.lalrpop_re.specs.Operator
 pub use Rattle.lalrpop_re.specs.Pattern
+pub use Rattle.lalrpop_re.specs.Escaped
 pub use Rattle.lalrpop_re.specs.Refusal
--- of ranges and the automaton of one pattern,
+-- from ranges and the automaton of one pattern,
+pub use Rattle.lalrpop_nfa.specs.Meet
 pub use Rattle.lalrpop_nfa.specs.Partition
+pub use Rattle.lalrpop_nfa.specs.Graph
+pub use Rattle.lalrpop_nfa.specs.Path
 pub use Rattle.lalrpop_nfa.specs.Compiled
--- and of the automaton of a list of patterns
+pub use Rattle.lalrpop_nfa.specs.Walk
+pub use Rattle.lalrpop_nfa.specs.Firsts
+pub use Rattle.lalrpop_nfa.specs.StateView
+pub use Rattle.lalrpop_nfa.specs.Lending
+pub use Rattle.lalrpop_nfa.specs.Contiguous
+-- and from the automaton of a list of patterns; the name `Counts` is taken by the one for trees
 pub use Rattle.lalrpop_dfa.specs.Kernels
+pub use Rattle.lalrpop_dfa.specs.Automata
 pub use Rattle.lalrpop_dfa.specs.Dfa
 pub use Rattle.lalrpop_dfa.specs.Counts as StateCounts
 pub use Rattle.lalrpop_dfa.specs.Lookahead
+pub use Rattle.lalrpop_dfa.specs.Follow
 pub use Rattle.lalrpop_dfa.specs.Witness
+pub use Rattle.lalrpop_dfa.specs.SameAutomata
+pub use Rattle.lalrpop_dense.specs.DenseTable
+pub use Rattle.lalrpop_dense.specs.Leading
+pub use Rattle.lalrpop_build.specs.Items
+pub use Rattle.lalrpop_build.specs.Agree
 -- used by proofs only
 pub mod Internal

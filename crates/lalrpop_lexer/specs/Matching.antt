@@ -7,7 +7,7 @@ use Rattle.lalrpop_dfa.specs.declared.Kind.{Kind}
 use Rattle.lalrpop_dfa.specs.declared.Kind.TheVariants.{Accepts, Reject, Neither}
 
 -- a text in which an automaton finds matches: where its rest begins, in bytes, and how many characters may still be read besides those
--- that a call may read at any rate: those of the match and 64 more with a memo, and without one as many as its clauses tell
+-- that a call may read at any rate, which are those of the match and 64 more; without a memo, how many steps are prepaid
 pub record Matching : Type 0 where
   pub automaton : List Row
   pub text : List ℕ

@@ -194,23 +194,8 @@ impl Lexer {
             let plain = Matches::new(&self.dense, text);
             return Ok(LexerTokens::new(&self.dense, text, Finder::Plain(plain)));
         }
-        let matches = self.matches_linear(alloc, text)?;
+        let matches = self.matches(alloc, text)?;
         Ok(LexerTokens::new(&self.dense, text, Finder::Remembering(matches)))
-    }
-
-    /// The longest matches of the text, one after another, for a caller that goes on where nothing matches. It starts with all
-    /// of the text left. It takes no memory, and reads from each place as far as `tokens` does.
-    pub fn matches<'text>(&'text self, text: &'text str) -> Matches<'text>
-        ensures start { result ≡ record {
-          automaton = self.now.automaton;
-          text = text.now;
-          at = 0;
-          spare = 0;
-        } }
-        ensures built { IsBuiltFrom self.now.trees self.now.precedences result.automaton }
-        ensures no_clash { NoClash self.now.trees self.now.precedences }
-    {
-        Matches::new(&self.dense, text)
     }
 
     /// The longest matches of the text, one after another, for a caller that goes on where nothing matches. It starts with all
@@ -219,7 +204,7 @@ impl Lexer {
     /// # Errors
     ///
     /// `AllocError` if a request for memory was refused.
-    pub fn matches_linear<'text>(
+    pub fn matches<'text>(
         &'text self,
         alloc: Global,
         text: &'text str,

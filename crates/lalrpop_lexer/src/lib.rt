@@ -39,6 +39,5 @@ pub use lexer::Lexer;
 pub use lexer_tokens::LexerTokens;
 pub use linear_matches::LinearMatches;
 pub use longest::longest_match;
-pub use matches::Matches;
 pub use neighbours::Neighbours;
 pub use terminals::{Terminals, read_terminals};

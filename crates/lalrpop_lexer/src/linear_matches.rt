@@ -24,7 +24,7 @@ const ALLOWED: usize = 16;
 /// ```
 /// use lalrpop_lexer::lexer::nfa::Steps;
 ///
-/// let mut matches = lexer.matches_linear(alloc, "let x")?;
+/// let mut matches = lexer.matches(alloc, "let x")?;
 /// let first = matches.next_match(&mut Steps::new()); // the index of a pattern, and "let"
 /// ```
 #[derive(Debug, Drop)]

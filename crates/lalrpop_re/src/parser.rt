@@ -66,7 +66,7 @@ impl Row {
     }
 }
 
-/// The tree of a pattern, by the grammar in the files of `specs/` of the crate `lalrpop_grammar`.
+/// The tree of a pattern, by the grammar in the files of `specs/`.
 ///
 /// # Errors
 ///

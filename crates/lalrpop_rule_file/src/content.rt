@@ -1,7 +1,6 @@
 //! The lines of a file.
-ghost use Rattle.std.specs.Prelude.{◌≡◌, ◌==◌, ◌<◌, ◌≤◌, ◌-◌, ℕ, List, [], ◌∷◌, ◌++◌, length, take, position, Option, IfSome, IfNone, IfOk, IfErr};
+ghost use Rattle.std.specs.Prelude.{◌≡◌, ◌≤◌, ◌-◌, ℕ, List, ◌++◌, length, take, IfOk, IfErr};
 ghost use Rattle.std.specs.Str.{IsUtf8};
-ghost use Rattle.bajofeki_rules.specs.Lines.{lines};
 ghost use Rattle.bajofeki_rules.specs.Position.{position_of};
 ghost use Rattle.lalrpop_rule_file.specs.RuleFile.{LineSays, without_return as without_return_of};
 ghost use Rattle.lalrpop_rule_file.specs.Internal.Values.{KeepsPlaces, said_of};
@@ -19,28 +18,6 @@ use std::alloc::Global;
 pub(crate) struct FileLine<'text> {
     pub content: &'text str,
     pub said: Said<'text>,
-}
-
-// The place of the first line feed.
-fn line_feed(bytes: &[u8]) -> Option<usize>
-    ensures { result ≡ position (λ b. b == 10) bytes.now }
-{
-    bytes.iter().position(|byte| *byte == b'\n')
-}
-
-/// The first line without its line feed, and the bytes after it; `None` if there are no bytes.
-pub(crate) fn split_line(bytes: &[u8]) -> Option<(&[u8], &[u8])>
-    ensures none { IfNone result (bytes.now ≡ []) }
-    ensures lines { IfSome result (λ parts. lines bytes.now ≡ parts.0.now ∷ lines parts.1.now) }
-    ensures shorter { IfSome result (λ parts. length parts.1.now < length bytes.now) }
-{
-    if bytes.is_empty() {
-        return None;
-    }
-    match line_feed(bytes) {
-        Some(at) => Some((&bytes[..at], &bytes[at + 1..])),
-        None => Some((bytes, &[])),
-    }
 }
 
 // The line without the carriage return at its end.

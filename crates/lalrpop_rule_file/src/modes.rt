@@ -6,10 +6,11 @@ ghost use Rattle.lalrpop_rule_file.specs.RuleFile.{IsRuleFileError};
 ghost use Rattle.lalrpop_rule_file.specs.Internal.Values.{said_of, section_of};
 ghost use Rattle.lalrpop_rule_file.specs.Internal.Lines.{HasModes, add_name as with_name, add_names as with_names, named_at, names_in, section_after};
 
-use crate::content::{read_line, split_line};
+use crate::content::read_line;
 use crate::error::RuleFileError;
 use crate::numbers::number_of;
 use crate::written::{Said, Section};
+use bajofeki_rules::split_line;
 use std::alloc::{AllocError, Global};
 
 /// The mode of the rules above the first section.

@@ -11,12 +11,12 @@ ghost use Rattle.lalrpop_rule_file.specs.Internal.Values.{HasPattern, IsNameIn, 
 ghost use Rattle.lalrpop_rule_file.specs.Internal.Lines.{IsErrorOfPart, names_in};
 ghost use Rattle.lalrpop_rule_file.specs.declared.written.Said.TheVariants.{Define};
 
-use crate::content::{FileLine, column_of, read_line, split_line};
+use crate::content::{FileLine, column_of, read_line};
 use crate::error::RuleFileError;
 use crate::numbers::number_of;
 use crate::part_line::PartLine;
 use crate::written::{LinePart, Said};
-use bajofeki_rules::Position;
+use bajofeki_rules::{Position, split_line};
 use lalrpop_re::{Part, RegexError};
 use std::alloc::Global;
 

@@ -8,13 +8,13 @@ ghost use Rattle.lalrpop_rule_file.specs.RuleFile.{AreFileParts, AreRules, ArePl
 ghost use Rattle.lalrpop_rule_file.specs.Internal.Values.{ArePlacedIn, HasText, rule_of, text_of, written_of};
 ghost use Rattle.lalrpop_rule_file.specs.Internal.Lines.{HasModes, IsErrorOfRule, names_in};
 
-use crate::content::{FileLine, column_of, read_line, split_line};
+use crate::content::{FileLine, column_of, read_line};
 use crate::error::RuleFileError;
 use crate::file_rule::FileRule;
 use crate::modes::INITIAL;
 use crate::numbers::{actions_with_numbers, missing_mode, numbers_of, section_numbers};
 use crate::written::{Form, LineRule, Said, WrittenText};
-use bajofeki_rules::{Action, Position, Rule, RuleText};
+use bajofeki_rules::{Action, Position, Rule, RuleText, split_line};
 use lalrpop_hir::Precedence;
 use std::alloc::Global;
 

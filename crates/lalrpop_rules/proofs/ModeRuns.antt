@@ -5,9 +5,9 @@ use Rattle.std.proofs.lemmas.Str.{IsUtf8-drop}
 use Rattle.lalrpop_hir.specs.Tree.{Tree}
 use Rattle.lalrpop_rules.specs.Pieces.{IsPiece, joined, slice_of}
 use Rattle.lalrpop_rules.proofs.Fronts.{boundary_behind}
-use Rattle.lalrpop_rules.proofs.PieceLaws.{is_front, split_at}
+use Rattle.lalrpop_rules.proofs.PieceLaws.{is_front, is_some, rest_some, split_at}
 use Rattle.lalrpop_rules.proofs.Finding.{paid_on}
-use Rattle.std.specs.Prelude.{Some}
+use Rattle.std.specs.Prelude.{Option, Some, None}
 use Rattle.lalrpop_rules.specs.Internal.CutToEnd.{steps_for}
 use Rattle.std.specs.Iterator.{Yields}
 use Rattle.lalrpop_rules.specs.declared.item.Item.{Item}
@@ -30,6 +30,14 @@ pub pieces-from-first : (s : ModeCut) (r : ModeRules) (text : List ℕ) (most : 
     → Yields GivesModePiece s xs t → left_text t ≡ [] → ArePiecesFrom r text 0 start xs t.stack
 pieces-from-first s r text most e xs t y end =
     subst (λ (w : ModeCut). ArePiecesFrom w.rules w.text w.at w.stack xs t.stack) e (pieces-of-run s t xs y end)
+
+-- after the first `None` every call gives `None`
+pub none_for_good : (s t u : ModeCut) (x : Option Item) → GivesModePiece s None t → GivesModePiece t x u → x ≡ None
+none_for_good s t u None end g = refl
+none_for_good s t u (Some x) (same, end) g =
+    let front = is_front (trees_in t.rules t.stack.mode) t.rules.precedences t.rules.skips t.text t.at x g.0 in
+    let some = is_some (trees_in t.rules t.stack.mode) t.rules.precedences t.rules.skips t.text t.at x g.0 in
+    absurd (rest_some (slice_of x) (left_text t) front some (ap (λ (w : ModeCut). left_text w) same ∙ end))
 
 -- a piece is cut in the mode on top, and the text is cut in the new one from then on
 pub piece-given : (old between new : Cutting) (s t : Stack) (x : Item) (mode : ℕ) (over : Bool) → old.mode ≡ s.mode → CutsPiece old x between → Follows between mode new

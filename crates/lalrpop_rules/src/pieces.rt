@@ -73,7 +73,7 @@ impl<'text> Items<'text> {
         ensures spare { IfOk result (λ s. s.memo.spare ≤ length (chars text.now)
             + length text.now + open_states lexer.now.automaton * (length text.now + 64)) }
     {
-        let matches = lexer.matches_linear(alloc, text)?;
+        let matches = lexer.matches(alloc, text)?;
         Ok(Items {
             lexer,
             skips,

@@ -48,7 +48,7 @@ fn cut(alloc: Global, lexer: &Lexer, text: &str) -> Result<Answers, AllocError>
 {
     let mut lines = String::new(alloc);
     let mut count = 0;
-    let mut items = lexer.tokens_linear(alloc, text)?;
+    let mut items = lexer.tokens(alloc, text)?;
     while let Some(item) = items.next() {
         match item {
             Ok(token) => {

@@ -1,6 +1,7 @@
 //! Automata of patterns that are given in one text, and what is expected of them.
 
-use lalrpop_lexer::lexer::dfa::{DenseDfa, Dfa, DfaConstructionError, Precedence, build_dfa};
+use lalrpop_dense::DenseDfa;
+use lalrpop_lexer::lexer::dfa::{Dfa, DfaConstructionError, Precedence, build_dfa};
 use lalrpop_lexer::lexer::nfa::{Nfa, NfaConstructionError, Steps};
 use lalrpop_lexer::lexer::re::{Hir, RegexError, parse_literal, parse_regex};
 use std::alloc::{AllocError, Global};
@@ -95,6 +96,15 @@ pub(crate) fn built(alloc: Global, words: &str) -> Result<Dfa, AllocError> {
     given(made(alloc, words)?)
 }
 
+/// The automaton of trees with these precedences.
+pub(crate) fn built_from(
+    alloc: Global,
+    trees: &[Hir],
+    precedences: &[Precedence],
+) -> Result<Dfa, AllocError> {
+    given(build(alloc, trees, precedences))
+}
+
 /// The automaton of the patterns, which are separated by spaces, with these precedences.
 pub(crate) fn built_with(
     alloc: Global,
@@ -102,7 +112,7 @@ pub(crate) fn built_with(
     precedences: &[Precedence],
 ) -> Result<Dfa, AllocError> {
     let trees = trees_of(alloc, words)?;
-    given(build(alloc, &trees, precedences))
+    built_from(alloc, &trees, precedences)
 }
 
 /// What one tree is compiled to.

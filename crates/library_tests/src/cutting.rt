@@ -2,7 +2,7 @@
 
 use crate::built::{expect, halves};
 use crate::lookaheads::lexer_of;
-use lalrpop_lexer::{Lexer, Token, TokenFault};
+use lalrpop_lexer::{Lexer, LexerTokens, Token, TokenFault};
 use std::alloc::{AllocError, Global};
 
 fn shown(alloc: Global, item: &Result<Token, TokenFault>) -> Result<String, AllocError> {
@@ -24,31 +24,51 @@ fn way_of(lexer: &Lexer) -> &'static str {
     }
 }
 
-// The way, what the calls of `next` return, and the first two `None`.
-fn cut(alloc: Global, argument: &str) -> Result<String, AllocError> {
-    let (words, text) = halves(argument, " <- ");
-    let lexer = lexer_of(alloc, words)?;
-    let mut line = String::from_str(alloc, way_of(&lexer))?;
-    let mut items = lexer.tokens(alloc, text)?;
+// The one call of `tokens`, whose clauses make each caller long to prove.
+fn tokens_of<'text>(
+    alloc: Global,
+    lexer: &'text Lexer,
+    text: &'text str,
+) -> Result<LexerTokens<'text>, AllocError> {
+    lexer.tokens(alloc, text)
+}
+
+// Adds what the calls of `next` return, and whether the one after the first `None` returns it too.
+fn add_all(alloc: Global, line: &mut String, mut items: LexerTokens<'_>) -> Result<(), AllocError> {
     for item in items.by_ref() {
         line.push_str(&shown(alloc, &item)?)?;
     }
-    line.push_str(&format!(in alloc; "None, {:?}", items.next())?)?;
+    line.push_str(if items.next().is_none() {
+        "None"
+    } else {
+        "more"
+    })
+}
+
+fn cut_by(alloc: Global, lexer: &Lexer, text: &str) -> Result<String, AllocError> {
+    let mut line = String::from_str(alloc, way_of(lexer))?;
+    add_all(alloc, &mut line, tokens_of(alloc, lexer, text)?)?;
     Ok(line)
+}
+
+fn cut(alloc: Global, argument: &str) -> Result<String, AllocError> {
+    let (words, text) = halves(argument, " <- ");
+    let lexer = lexer_of(alloc, words)?;
+    cut_by(alloc, &lexer, text)
 }
 
 // Patterns, the stronger before the weaker, a text, whether anything bounds the lookahead, and what the text is cut into.
 const CUT: &str = r"
-'class' [a-zA-Z_]+ \x20+ '>>' '>' <- class Foo>>> => looking: 0 class 0, 2   5, 1 Foo 6, 3 >> 9, 4 > 11, None, None
-'class' [a-zA-Z_]+ <- é => looking: no pattern matches at byte 0, None, None
-'a' ab <-  => looking: None, None
-a* <- b => looking: no pattern matches at byte 0, None, None
- <- b => looking: no pattern matches at byte 0, None, None
-'a' 'abcd' <- aabcdabc => looking: 0 a 0, 1 abcd 1, 0 a 5, no pattern matches at byte 6, None, None
-'m' ma*[a&&b] <- maa => looking: 0 m 0, no pattern matches at byte 1, None, None
-'a' a*b <- aac => remembering: 0 a 0, 0 a 1, no pattern matches at byte 2, None, None
-'a' a*b <- aab => remembering: 1 aab 0, None, None
-é é*b <- éé => remembering: 0 é 0, 0 é 2, None, None
+'class' [a-zA-Z_]+ \x20+ '>>' '>' <- class Foo>>> => looking: 0 class 0, 2   5, 1 Foo 6, 3 >> 9, 4 > 11, None
+'class' [a-zA-Z_]+ <- é => looking: no pattern matches at byte 0, None
+'a' ab <-  => looking: None
+a* <- b => looking: no pattern matches at byte 0, None
+ <- b => looking: no pattern matches at byte 0, None
+'a' 'abcd' <- aabcdabc => looking: 0 a 0, 1 abcd 1, 0 a 5, no pattern matches at byte 6, None
+'m' ma*[a&&b] <- maa => looking: 0 m 0, no pattern matches at byte 1, None
+'a' a*b <- aac => remembering: 0 a 0, 0 a 1, no pattern matches at byte 2, None
+'a' a*b <- aab => remembering: 1 aab 0, None
+é é*b <- éé => remembering: 0 é 0, 0 é 2, None
 ";
 
 #[test]
@@ -60,11 +80,10 @@ fn texts_are_cut(rt: HostRuntime) {
 }
 
 // How many tokens of each pattern there are before the fault, and where the fault is, if there is one.
-fn counts(alloc: Global, words: &str, text: &str) -> Result<String, AllocError> {
-    let lexer = lexer_of(alloc, words)?;
+fn counts(alloc: Global, items: LexerTokens<'_>) -> Result<String, AllocError> {
     let mut counts = vec![in alloc; 0usize; 4]?;
     let mut end = String::new(alloc);
-    for item in lexer.tokens(alloc, text)? {
+    for item in items {
         match item {
             Ok(token) => {
                 if let Some(count) = counts.get_mut(token.index.index()) {
@@ -78,6 +97,11 @@ fn counts(alloc: Global, words: &str, text: &str) -> Result<String, AllocError> 
     format!(in alloc; "{counts:?} {end}")
 }
 
+fn counted_by(alloc: Global, words: &str, text: &str) -> Result<String, AllocError> {
+    let lexer = lexer_of(alloc, words)?;
+    counts(alloc, tokens_of(alloc, &lexer, text)?)
+}
+
 // For the patterns, and a text of `count` parts and an end.
 fn counted(
     alloc: Global,
@@ -88,7 +112,7 @@ fn counted(
 ) -> Result<String, AllocError> {
     let mut text = part.repeat(alloc, count)?;
     text.push_str(end)?;
-    counts(alloc, words, &text)
+    counted_by(alloc, words, &text)
 }
 
 // Patterns, a part of a text, its end, and the answer. Much is read in vain; where one run came to nothing, another goes on.

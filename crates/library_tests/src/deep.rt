@@ -1,8 +1,9 @@
 //! Trees of a thousand levels, more than any pattern from text has, for the calls that descend a tree.
 
+use crate::built::built_from;
 use lalrpop_hir::{Capture, Hir, Repetition};
 use lalrpop_lexer::lexer::dfa::interpret::interpret;
-use lalrpop_lexer::lexer::dfa::{Dfa, DfaConstructionError, Precedence, build_dfa};
+use lalrpop_lexer::lexer::dfa::{Dfa, Precedence};
 use lalrpop_lexer::lexer::nfa::Nfa;
 use std::alloc::{AllocError, Global};
 
@@ -83,12 +84,8 @@ fn clone_of(alloc: Global, level: Level) -> Result<Hir, AllocError> {
     nested(alloc, level)?.clone()
 }
 
-fn automaton_of(alloc: Global, tree: Hir) -> Result<Dfa, DfaConstructionError> {
-    build_dfa(alloc, &[tree], &[Precedence(0)])
-}
-
-fn automaton_of_clone(alloc: Global, level: Level) -> Result<Dfa, DfaConstructionError> {
-    automaton_of(alloc, clone_of(alloc, level)?)
+fn automaton_of_clone(alloc: Global, level: Level) -> Result<Dfa, AllocError> {
+    built_from(alloc, &[clone_of(alloc, level)?], &[Precedence(0)])
 }
 
 // The length of the match, or 0.

@@ -80,12 +80,16 @@ fn joined_by(
     }
 }
 
+fn row_by(alloc: Global, lexer: &Lexer, row: &str) -> Result<String, AllocError> {
+    let (tokens, separator) = halves(row, " / ");
+    let tokens = tokens_of(alloc, tokens)?;
+    joined_by(alloc, lexer, &tokens, &token_of(separator))
+}
+
 // The text of the tokens in `TOKENS / SEPARATOR`, or why there is none.
 fn joined(alloc: Global, row: &str) -> Result<String, AllocError> {
-    let (tokens, separator) = halves(row, " / ");
     let lexer = lexer_of(alloc, WORDS)?;
-    let tokens = tokens_of(alloc, tokens)?;
-    joined_by(alloc, &lexer, &tokens, &token_of(separator))
+    row_by(alloc, &lexer, row)
 }
 
 const JOINED: &str = r"

@@ -1,9 +1,9 @@
 //! Which automata are run by a table: no clause says it.
 
-use crate::built::{built, built_with, expect, has_table};
-use lalrpop_lexer::lexer::dfa::{DenseDfa, Dfa, Precedence, TokenEnds, build_dfa};
+use crate::built::{built, built_from, built_with, expect, has_table};
+use lalrpop_dense::{DenseDfa, TokenEnds};
+use lalrpop_lexer::lexer::dfa::{Dfa, Precedence};
 use lalrpop_lexer::lexer::nfa::Steps;
-use lalrpop_lexer::lexer::re::Regex;
 use lalrpop_lexer::{Terminals, read_terminals};
 use std::alloc::{AllocError, Global};
 
@@ -131,29 +131,20 @@ const RUST: &str = r#####"1 l as
 0 r [\t\n\v\f\r \x{85}\x{200E}\x{200F}\x{2028}\x{2029}]+
 "#####;
 
-fn automaton_of(alloc: Global, regexs: &[Regex], precedences: &[Precedence]) -> Option<Dfa> {
-    if regexs.len() != precedences.len() {
-        return None;
-    }
-    build_dfa(alloc, regexs, precedences).ok()
-}
-
-// The automaton of the terminals, one a line, if there is one.
-fn automaton_by(alloc: Global, lines: &str) -> Result<Option<Dfa>, AllocError> {
+// The automaton of the terminals, one a line.
+fn automaton_of(alloc: Global, lines: &str) -> Result<Dfa, AllocError> {
     match read_terminals(alloc, lines.as_bytes())? {
         Terminals::All {
             regexs,
             precedences,
-        } => Ok(automaton_of(alloc, &regexs, &precedences)),
-        _ => Ok(None),
+        } => built_from(alloc, &regexs, &precedences),
+        _ => Err(AllocError),
     }
 }
 
 fn list_has_table(alloc: Global, lines: &str) -> Result<bool, AllocError> {
-    match automaton_by(alloc, lines)? {
-        Some(dfa) => Ok(has_table(&DenseDfa::new(alloc, dfa)?)),
-        None => Ok(false),
-    }
+    let dfa = automaton_of(alloc, lines)?;
+    Ok(has_table(&DenseDfa::new(alloc, dfa)?))
 }
 
 #[test]

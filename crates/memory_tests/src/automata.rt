@@ -2,11 +2,12 @@
 
 use crate::calls::{Call, add, at_last, expect, expect_answer, halves, number};
 use crate::trees::tree_of;
+use lalrpop_dense::DenseDfa;
 use lalrpop_hir::Hir;
 use lalrpop_lexer::lexer::dfa::interpret::interpret;
 use lalrpop_lexer::lexer::dfa::overlap::{remove_overlap, remove_overlap_counted};
 use lalrpop_lexer::lexer::dfa::{
-    DenseDfa, Dfa, DfaConstructionError, NfaIndex, Precedence, State, Witness, build_dfa,
+    Dfa, DfaConstructionError, NfaIndex, Precedence, State, Witness, build_dfa,
 };
 use lalrpop_lexer::lexer::nfa::{self, Nfa, NfaConstructionError, Steps, Test};
 use lalrpop_lexer::{JoinError, Lexer, Token, TokenFault};

@@ -3,21 +3,12 @@
 use crate::calls::{Call, add, expect, halves};
 use lalrpop_edits::{Chunks, EditError, LexedText};
 use lalrpop_rules::RuleLexer;
-use lalrpop_rule_file::read_rules;
 use std::alloc::{AllocError, Global};
 
-// The lexer of a file of lines with `;` between them.
-fn lexer_of(alloc: Global, lines: &str) -> Result<RuleLexer, AllocError> {
+// The lexer of a file of lines with `;` between them. Any error is reported as out of memory.
+pub(crate) fn lexer_of(alloc: Global, lines: &str) -> Result<RuleLexer, AllocError> {
     let lines = lines.replace(alloc, ';', "\n")?;
-    let Ok(file) = read_rules(alloc, lines.as_bytes()) else {
-        return Err(AllocError);
-    };
-    let rules = file.mode_rules(alloc)?;
-    let modes = file.modes.len();
-    if modes == 0 {
-        return Err(AllocError);
-    }
-    match RuleLexer::from_rules(alloc, &rules, modes) {
+    match RuleLexer::from_file(alloc, lines.as_bytes()) {
         Ok(lexer) => Ok(lexer),
         Err(_) => Err(AllocError),
     }

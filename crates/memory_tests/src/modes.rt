@@ -1,9 +1,9 @@
 //! Texts that are cut by rules with modes, and lexers of such rules in numbers.
 
 use crate::calls::{Call, add, expect, halves};
+use crate::edits::lexer_of;
 use lalrpop_emit::{ByteCutter, LexerNumbers, NumberedPiece, c_source, rust_source};
-use lalrpop_rules::{RuleLexer, RulesError};
-use lalrpop_rule_file::{RuleFile, RuleFileError, read_rules};
+use lalrpop_rules::RuleLexer;
 use std::alloc::{AllocError, Global};
 
 // The slices of the pieces of a text. A loop ends after an error. Then `next_item` goes on with the piece that was refused.
@@ -29,28 +29,11 @@ fn slices<'x>(alloc: Global, lexer: &'x RuleLexer, text: &'x str) -> Result<Stri
     Ok(line)
 }
 
-fn cut_by(alloc: Global, file: &RuleFile, text: &str) -> Result<String, AllocError> {
-    let rules = file.mode_rules(alloc)?;
-    let modes = file.modes.len();
-    if modes == 0 {
-        return String::from_str(alloc, "no modes");
-    }
-    match RuleLexer::from_rules(alloc, &rules, modes) {
-        Ok(lexer) => slices(alloc, &lexer, text),
-        Err(RulesError::OutOfMemory) => Err(AllocError),
-        Err(error) => format!(in alloc; "{error}"),
-    }
-}
-
-// The pieces of the text in `LINES <- TEXT`, by a file of lines with `;` between them, or what is wrong with it.
+// The pieces of the text in `LINES <- TEXT`, by a file of lines with `;` between them.
 pub(crate) fn pieces(alloc: Global, argument: &str) -> Result<String, AllocError> {
     let (lines, text) = halves(argument, " <- ");
-    let lines = lines.replace(alloc, ';', "\n")?;
-    match read_rules(alloc, lines.as_bytes()) {
-        Ok(file) => cut_by(alloc, &file, text),
-        Err(RuleFileError::OutOfMemory) => Err(AllocError),
-        Err(error) => format!(in alloc; "{error}"),
-    }
+    let lexer = lexer_of(alloc, lines)?;
+    slices(alloc, &lexer, text)
 }
 
 #[test]
@@ -82,18 +65,7 @@ fn add_sources(alloc: Global, numbers: &LexerNumbers, line: &mut String) -> Resu
 
 // The lexer of a file of lines with `;` between them, in numbers.
 fn numbers_of(alloc: Global, lines: &str) -> Result<LexerNumbers, AllocError> {
-    let lines = lines.replace(alloc, ';', "\n")?;
-    let Ok(file) = read_rules(alloc, lines.as_bytes()) else {
-        return Err(AllocError);
-    };
-    let rules = file.mode_rules(alloc)?;
-    let modes = file.modes.len();
-    if modes == 0 {
-        return Err(AllocError);
-    }
-    let Ok(lexer) = RuleLexer::from_rules(alloc, &rules, modes) else {
-        return Err(AllocError);
-    };
+    let lexer = lexer_of(alloc, lines)?;
     match LexerNumbers::new(alloc, &lexer) {
         Ok(numbers) => Ok(numbers),
         Err(_) => Err(AllocError),

@@ -8,7 +8,7 @@ use std::io;
 use std::io::{Read, Write};
 use std::process::Abort;
 use tokens_lib::{
-    CutEnd, Layout, LineForm, Markup, ModeAction, RuleLexer, ModeRule, OpenMode, Rule, TextError,
+    CutEnd, Layout, LineForm, Markup, ModeAction, ModeRule, OpenMode, Rule, RuleLexer, TextError,
     write_items, write_page,
 };
 
@@ -141,26 +141,25 @@ pub(crate) const FAULTY: Ended = Ended::Whole {
     inside: None,
 };
 
-fn ended_so(end: &CutEnd) -> Option<Ended> {
+fn ended_so(end: &CutEnd) -> Ended {
     match end {
-        CutEnd::Whole { has_fault, inside } => Some(Ended::Whole {
+        CutEnd::Whole { has_fault, inside } => Ended::Whole {
             has_fault: *has_fault,
             inside: *inside,
-        }),
-        CutEnd::Stopped { place, found } => Some(Ended::Stopped {
+        },
+        CutEnd::Stopped { place, found } => Ended::Stopped {
             place: *place,
             found: *found,
-        }),
-        CutEnd::Broken(TextError::NotText { at }) => Some(Ended::NotText { at: *at }),
-        CutEnd::Broken(TextError::Read) => Some(Ended::Unread),
-        CutEnd::Broken(_) => None,
+        },
+        CutEnd::Broken(TextError::NotText { at }) => Ended::NotText { at: *at },
+        CutEnd::Broken(TextError::Read) => Ended::Unread,
     }
 }
 
 /// Whether cutting ended so, and no call failed but those of the reader.
 pub(crate) fn is_end(found: &Result<CutEnd, RunError>, wanted: Ended) -> bool {
     match found {
-        Ok(end) => ended_so(end) == Some(wanted),
+        Ok(end) => ended_so(end) == wanted,
         Err(_) => false,
     }
 }

@@ -1,12 +1,11 @@
-//! What the program says of files of rules and of terminals that give no lexer, for programs of one's own.
+//! What the program says of files of rules that give no lexer, for programs of one's own.
 
 use std::alloc::Global;
 use tokens_lib::{
-    BuildError, ModeFile, RuleLexer, bad_line_message, lexer_of, read_rules, rules_message,
-    terminals_message, warnings_message,
+    ModeFile, RuleLexer, bad_line_message, read_rules, rules_message, warnings_message,
 };
 
-// What is said of a file of named rules; `None` if there is nothing to say.
+// What is said of a file of rules; `None` if there is nothing to say.
 fn said_of_rules(alloc: Global, bytes: &[u8]) -> Option<String> {
     let read = match read_rules(alloc, bytes) {
         Ok(read) => read,
@@ -55,35 +54,6 @@ fn errors_of_rules_are_said(rt: HostRuntime) {
         };
         let wanted = wanted.as_ref().map(|text| text.as_str());
         assert!(rt; says_of_rules(rt.alloc(), *bytes, wanted));
-    }
-}
-
-fn says_of_terminals(alloc: Global, bytes: &[u8], wanted: &str) -> bool {
-    match lexer_of(alloc, bytes) {
-        Err(BuildError::Reported(outcome)) => {
-            match terminals_message(alloc, "f", bytes, &outcome) {
-                Ok(said) => said.as_str() == wanted,
-                Err(_) => false,
-            }
-        }
-        _ => false,
-    }
-}
-
-#[test]
-fn errors_of_terminals_are_said(rt: HostRuntime) {
-    let rows: &[(&[u8], &str)] = &[
-        (
-            b"0 r a\n0 r (\n",
-            "tokens: f:2:5: this group isn't closed\n    0 r (\n        ^\n",
-        ),
-        (
-            b"0 l a\nq\n",
-            "tokens: f:2: a line is `P l TEXT` or `P r PATTERN`, with a precedence P\n    q\n",
-        ),
-    ];
-    for (bytes, said) in rows {
-        assert!(rt; says_of_terminals(rt.alloc(), *bytes, *said));
     }
 }
 

@@ -35,7 +35,6 @@ const FILES: Named = Named {
             "refused.rules",
             b"\xef\xbb\xbfD part = /[0-9]/\nA = /a/\nB = /a/\n[M N]\nC pop = anycase ''\n",
         ),
-        ("lines", b"0 r [a-z]+\n0 l  \n"),
         ("raw", b"if \xffa"),
         ("cut", b"if \xe2\x82"),
         ("fault", b"if !\xff"),
@@ -188,12 +187,6 @@ fn files_may_break_off(rt: HostRuntime) {
             &["torn.rules", "g"],
             b"",
             b"tokens: torn.rules: read failed\n",
-            6,
-        ),
-        (
-            &["--lines", "lines", "torn", "raw", "g"],
-            b"0 1 \"x\"\nend\n",
-            b"tokens: torn: read failed\ntokens: raw: not UTF-8 from byte 3 on\n",
             6,
         ),
     ];
@@ -357,7 +350,7 @@ fn rules_are_compared(rt: HostRuntime) {
         (
             &["--diff", "r"],
             b"",
-            b"tokens: --diff compares two files of rules; name the other one behind RULES\n",
+            b"tokens: --diff compares two files of rules; name the other one after RULES\n",
             4,
         ),
         (

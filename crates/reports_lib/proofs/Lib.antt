@@ -4,8 +4,6 @@ pub mod Pushes
 -- members of objects
 pub mod Steps
 pub mod ReviewMembers
--- the lines of terminals of which errors speak
-pub mod TerminalLines
 -- clashes
 pub mod ClashLineLaws
 -- reviews

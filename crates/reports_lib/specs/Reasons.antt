@@ -1,15 +1,13 @@
 -- cases: proofs/Cases/Reasons.antt
--- What is said of a bad line, and of rules or terminals that make no lexer.
-use Rattle.std.specs.Prelude.{◌≡◌, ℕ, ◌+◌, ◌⊎◌, List, [], ◌∷◌, ◌++◌, length, take, decimal, slice_get, option_map, unwrap_or, Option, Some, None, codes}
-use Rattle.std.specs.Str.{IsCharBoundary, IsUtf8, chars}
+-- What is said of a bad line, and of rules that make no lexer.
+use Rattle.std.specs.Prelude.{◌≡◌, ℕ, ◌+◌, List, [], ◌∷◌, ◌++◌, length, take, decimal, slice_get, option_map, unwrap_or, Option, Some, None, codes}
+use Rattle.std.specs.Str.{IsCharBoundary, chars}
 use Rattle.lalrpop_hir.specs.declared.error.NfaConstructionError.{NfaConstructionError}
 use Rattle.lalrpop_hir.specs.declared.error.NfaConstructionError.TheVariants.{NamedCaptures, NonGreedy, LookAround, ByteRegex, OutOfMemory}
 use Rattle.lalrpop_re.specs.declared.from_to_error.FromToError.{FromToError}
 use Rattle.lalrpop_re.specs.declared.from_to_error.FromToError.TheVariants as ends
 use Rattle.lalrpop_re.specs.declared.error.SyntaxKind.{SyntaxKind}
 use Rattle.lalrpop_re.specs.declared.error.SyntaxKind.TheVariants as kinds
-use Rattle.lalrpop_lexer.specs.Line.{IsLine}
-use Rattle.lalrpop_lexer.specs.declared.form.Form.TheVariants.{Pattern}
 use Rattle.bajofeki_rules.specs.declared.position.Position.{Position}
 use Rattle.lalrpop_rule_file.specs.RuleFault.{reason_of}
 use Rattle.bajofeki_rules.specs.declared.rule_text.RuleText.{RuleText}
@@ -20,8 +18,6 @@ use Rattle.lalrpop_rules.specs.declared.error.RulesError.TheVariants as modes_er
 use Rattle.bajofeki_rules.specs.declared.rule.Rule.{Rule}
 use Rattle.lalrpop_rule_file.specs.declared.error.RuleFileError.{RuleFileError}
 use Rattle.lalrpop_rule_file.specs.declared.error.RuleFileError.TheVariants as file_errors
-use Rattle.lexdfa_lib.specs.declared.outcome.Outcome.{Outcome}
-use Rattle.lexdfa_lib.specs.declared.outcome.Outcome.TheVariants as outcomes
 use Rattle.bajofeki_rules.specs.Quoted.{quoted_word}
 use Rattle.reports_lib.specs.ItemLines.{mode_named, name_at}
 
@@ -71,10 +67,6 @@ clash_advice (c ∷ word) = codes "Give the one that should win a greater preced
 
 -- ---- messages
 
--- about a line: its number, a reason, and what is shown
-abbrev pub numbered : ℕ → List ℕ → List ℕ → List ℕ
-numbered line reason shown = decimal line ++ (codes ": " ++ (reason ++ (codes "\n" ++ shown)))
-
 -- about a place: its line and column, a reason, and what is shown
 abbrev pub placed : ℕ → ℕ → List ℕ → List ℕ → List ℕ
 placed line column reason shown = decimal line ++ (codes ":" ++ (decimal column ++ (codes ": " ++ (reason ++ (codes "\n" ++ shown)))))
@@ -85,7 +77,7 @@ clash_text later later_name earlier earlier_name where_said word shown advice =
     decimal later ++ (codes ": " ++ (later_name ++ (codes " clashes with " ++ (earlier_name ++ (codes " of line " ++ (decimal earlier
     ++ (where_said ++ (codes ": both match the word " ++ (word ++ (codes ", and neither wins\n" ++ (shown ++ (advice ++ codes "\n"))))))))))))
 
--- ---- named rules
+-- ---- rules
 
 -- what is said of a bad line
 abbrev pub SaysBadLine : RuleFileError → List ℕ → Type 0
@@ -133,34 +125,3 @@ abbrev pub CanBeSaid : List Rule → RulesError → Type 0
 CanBeSaid rs (modes_errors.NoSuchMode i m) = ⊥
 CanBeSaid rs (modes_errors.NotParsed i position kind) = IsCharBoundary (text_at rs i) position
 CanBeSaid rs error = Unit {0}
-
--- ---- terminals
-
--- a line that is no terminal
-abbrev pub SaysNoTerminal : ℕ → List ℕ → List ℕ → Type 0
-SaysNoTerminal number line said =
-    (IsUtf8 line × ((shown : List ℕ) × (said ≡ numbered number (codes "a line is `P l TEXT` or `P r PATTERN`, with a precedence P") (codes "    " ++ shown))))
-    ⊎ ((¬ IsUtf8 line) × (said ≡ numbered number (codes "this line isn't UTF-8") []))
-
--- a column inside the pattern of a line `P r PATTERN`, or at its end: before the pattern are the digits of P, a space, `r` and a space
-pub record IsPatternColumn (line : List ℕ) (column : ℕ) : Type 0 where
-  pub precedence : ℕ
-  pub text : List ℕ
-  pub is_line : IsLine line precedence Pattern text
-  pub position : ℕ
-  pub inside : IsCharBoundary text position
-  pub counted : column ≡ length is_line.digits + 4 + length (chars (take position text))
-
--- a line whose pattern doesn't parse
-abbrev pub SaysSyntax : ℕ → List ℕ → List ℕ → Type 0
-SaysSyntax number line said =
-    (column : ℕ) × (IsPatternColumn line column × ((kind : SyntaxKind) × ((shown : List ℕ) × (said ≡ placed number column (syntax_text kind) shown))))
-
--- what is said of terminals that make no lexer, one on each of these lines
-abbrev pub SaysTerminals : List (List ℕ) → Outcome → List ℕ → Type 0
-SaysTerminals ls (outcomes.Line i) said = (line : List ℕ) × ((slice_get ls i ≡ Some line) × SaysNoTerminal (i + 1) line said)
-SaysTerminals ls (outcomes.Syntax i) said = (line : List ℕ) × ((slice_get ls i ≡ Some line) × SaysSyntax (i + 1) line said)
-SaysTerminals ls (outcomes.Refused i error) said = (shown : List ℕ) × (said ≡ numbered (i + 1) (refusal_text error) (codes "    " ++ shown))
-SaysTerminals ls (outcomes.Ambiguous i j word) said =
-    (shown : List ℕ) × (said ≡ clash_text (i + 1) (codes "this terminal") (j + 1) (codes "that") [] (quoted_word word) shown (clash_advice word))
-SaysTerminals ls outcome said = ⊥

@@ -2,13 +2,13 @@
 #![tactic(auto)]
 
 mod compared;
-mod explain;
 mod file_lexer;
 mod json_line;
 mod layout;
 mod messages;
 mod mode_file;
 mod named_clashes;
+mod numbers;
 mod plain_line;
 mod reasons;
 mod reported_file;
@@ -19,11 +19,10 @@ mod shown;
 mod warnings;
 
 pub use compared::write_difference;
-pub use explain::explanation;
 pub use file_lexer::{FileLexer, with_names};
 pub use json_line::push_json;
 pub use layout::{Layout, LineForm};
-pub use messages::{about, bad_line_message, headed, rules_message, terminals_message};
+pub use messages::{about, bad_line_message, headed, rules_message};
 pub use mode_file::ModeFile;
 pub use named_clashes::write_rule_clashes;
 pub use plain_line::push_plain;

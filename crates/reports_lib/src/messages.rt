@@ -1,17 +1,13 @@
-//! What the program says of files of rules and of terminals that give no lexer, for programs of one's own.
+//! What the program says of files of rules that give no lexer, for programs of one's own.
 ghost use Rattle.std.specs.Prelude.{◌≡◌, ℕ, List, map, string_bytes, IfOk};
-ghost use Rattle.bajofeki_rules.specs.Lines.{lines};
 ghost use Rattle.lalrpop_rules.specs.ModeSet.{rules_of};
-ghost use Rattle.lexdfa_lib.specs.Answer.{IsReported};
 ghost use Rattle.reports_lib.specs.Answer.{about, headed};
-ghost use Rattle.reports_lib.specs.Reasons.{CanBeSaid, SaysBadLine, SaysRules, SaysTerminals};
+ghost use Rattle.reports_lib.specs.Reasons.{CanBeSaid, SaysBadLine, SaysRules};
 
-use crate::explain::explanation;
 use crate::mode_file::ModeFile;
 use crate::rule_explain::{bad_line_explained, can_be_said, rules_explained};
-use lalrpop_rules::RulesError;
 use lalrpop_rule_file::{RuleFileError, without_mark};
-use lexdfa_lib::Outcome;
+use lalrpop_rules::RulesError;
 use std::alloc::{AllocError, Global};
 
 /// A message about a file: its name, and then this.
@@ -100,36 +96,5 @@ pub fn rules_message(
         return about(alloc, name, "this error isn't one of these rules");
     }
     let said = rules_explained(alloc, without_mark(bytes), file, error)?;
-    headed(alloc, name, said.as_str())
-}
-
-/// What the program says of terminals that make no lexer: the file's name, the line, from 1, and the reason, and below them the
-/// line; of a clash both lines and the word. It ends with a line feed.
-///
-/// The bytes are those that `lexer_of` was given, and the outcome is what it reported.
-///
-/// ```
-/// use tokens_lib::{BuildError, lexer_of, terminals_message};
-///
-/// if let Err(BuildError::Reported(outcome)) = lexer_of(alloc, bytes) {
-///     let message = terminals_message(alloc, "c.terminals", bytes, &outcome)?; // "tokens: c.terminals:1: ..\n"
-/// }
-/// ```
-///
-/// # Errors
-///
-/// `AllocError` if a request for memory was refused.
-pub fn terminals_message(
-    alloc: Global,
-    name: &str,
-    bytes: &[u8],
-    outcome: &Outcome,
-) -> Result<String, AllocError>
-    requires reported { IsReported bytes.now outcome.now }
-    ensures message { IfOk result (λ message. (said : List ℕ)
-        × (SaysTerminals (lines bytes.now) outcome.now said
-        × (string_bytes message ≡ headed name.now said))) }
-{
-    let said = explanation(alloc, bytes, outcome)?;
     headed(alloc, name, said.as_str())
 }

@@ -3,8 +3,8 @@ ghost use Rattle.std.specs.Prelude.{◌≡◌, map, IfOk};
 ghost use Rattle.reports_lib.specs.FileRules.{AreFileRules};
 
 use lalrpop_lexer::Position;
-use lalrpop_rules::ModeRule;
 use lalrpop_rule_file::{FileRule, RuleFile};
+use lalrpop_rules::ModeRule;
 use std::alloc::{AllocError, Global};
 
 /// The rules of a file as `RuleLexer::from_rules` takes them, their modes, and where their texts begin.

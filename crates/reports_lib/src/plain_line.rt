@@ -2,9 +2,9 @@
 ghost use Rattle.std.specs.Prelude.{◌≡◌, ◌++◌, codes, option_map, unwrap_or, OnOk};
 ghost use Rattle.reports_lib.specs.ItemLines.{file_text, plain_line};
 
+use crate::numbers::push_numbers;
 use crate::shown::Shown;
 use lalrpop_lexer::{Position, push_quoted};
-use lines_lib::push_numbers;
 use std::alloc::{AllocError, Global};
 
 fn push_file(lines: &mut Vec<u8>, file: Option<&str>) -> Result<(), AllocError>

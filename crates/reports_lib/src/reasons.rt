@@ -1,13 +1,13 @@
 //! What is wrong with a pattern, in words for people, and the place in its line.
-ghost use Rattle.std.specs.Prelude.{◌≡◌, ◌++◌, ℕ, List, chars, codes, length, string_bytes, take, IfOk, OnOk};
+ghost use Rattle.std.specs.Prelude.{◌≡◌, ◌++◌, ℕ, List, chars, length, string_bytes, take, IfOk, OnOk};
 ghost use Rattle.std.specs.Str.{IsCharBoundary};
 ghost use Rattle.bajofeki_rules.specs.Quoted.{quoted_word};
-ghost use Rattle.reports_lib.specs.Reasons.{bad_end_text, clash_advice, numbered, placed, refusal_text, syntax_text};
+ghost use Rattle.reports_lib.specs.Reasons.{bad_end_text, clash_advice, placed, refusal_text, syntax_text};
 
-use lalrpop_re::FromToError;
 use lalrpop_lexer::lexer::nfa::NfaConstructionError;
 use lalrpop_lexer::lexer::re::SyntaxKind;
 use lalrpop_lexer::{ShownWord, is_unseen};
+use lalrpop_re::FromToError;
 use std::alloc::{AllocError, Global};
 use unicode_width::UnicodeWidthChar;
 
@@ -95,12 +95,8 @@ fn shown_from(alloc: Global, line: &str, first: usize) -> Result<String, AllocEr
     Ok(shown)
 }
 
-/// The line as it can be shown: with signs for characters that aren't seen, and of a long line the beginning.
-///
-/// # Errors
-///
-/// `AllocError` if a request for memory was refused.
-pub(crate) fn line_shown(alloc: Global, line: &str) -> Result<String, AllocError> {
+// The line as it can be shown: with signs for characters that aren't seen, and of a long line the beginning.
+fn line_shown(alloc: Global, line: &str) -> Result<String, AllocError> {
     shown_from(alloc, line, 0)
 }
 
@@ -165,26 +161,6 @@ pub(crate) fn place_explained(
     push_blanks(&mut message, &shown, before)?;
     message.push_str("^\n")?;
     Ok(message)
-}
-
-/// Why the pattern of a line can't be compiled: the line's number, from 1, the reason, and the line. The file's name stands
-/// before it.
-///
-/// # Errors
-///
-/// `AllocError` if a request for memory was refused.
-pub(crate) fn refusal_explained(
-    alloc: Global,
-    number: usize,
-    line: &str,
-    error: NfaConstructionError,
-) -> Result<String, AllocError>
-    ensures said { IfOk result (λ message. (shown : List ℕ) × (string_bytes message
-        ≡ numbered number (refusal_text error) (codes "    " ++ shown))) }
-{
-    let reason = refusal_text(error);
-    let shown = line_shown(alloc, line)?;
-    format!(in alloc; "{number}: {reason}\n    {shown}\n")
 }
 
 /// Why the end of a text from one word to another is wrong.

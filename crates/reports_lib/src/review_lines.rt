@@ -11,8 +11,8 @@ use crate::reported_file::ReportedFile;
 use crate::review_json::{automaton_object, clash_object, empty_object, idle_object};
 use lalrpop_lexer::lexer::dfa::{Clash, NfaIndex, Witness};
 use lalrpop_lexer::{Position, ShownWord};
-use lalrpop_rules::ModeRule;
 use lalrpop_review::{IdleRule, Look, ModeReview, Review, WonWord};
+use lalrpop_rules::ModeRule;
 use std::alloc::{AllocError, Global};
 
 // Where the text of a rule begins.

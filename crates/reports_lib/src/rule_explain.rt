@@ -13,11 +13,10 @@ use crate::reasons::{
     bad_end_text, both_lines, characters_before, clash_advice, place_explained, quoted_word,
     refusal_text, syntax_text,
 };
+use lalrpop_lexer::Position;
 use lalrpop_lexer::lexer::re::SyntaxKind;
-use lalrpop_lexer::{Position, Terminals, read_terminals};
-use lalrpop_rules::{ModeRule, RulesError};
 use lalrpop_rule_file::{LineFault, RuleFileError};
-use lalrpop_rules::RuleText;
+use lalrpop_rules::{ModeRule, RuleText, RulesError};
 use std::alloc::{AllocError, Global};
 
 // The text of the line with this number, from 1, without its end; nothing if it isn't UTF-8.
@@ -227,14 +226,6 @@ pub fn rules_explained(
     }
 }
 
-// Whether the line is a terminal, `P l TEXT` or `P r PATTERN`.
-fn is_terminal(alloc: Global, line: &str) -> Result<bool, AllocError> {
-    match read_terminals(alloc, line.as_bytes())? {
-        Terminals::Bad { .. } => Ok(false),
-        Terminals::All { .. } | Terminals::NoTree { .. } => Ok(true),
-    }
-}
-
 // What is wrong with the line at this line and column.
 fn fault_explained(
     alloc: Global,
@@ -251,15 +242,11 @@ fn fault_explained(
     }
     let shown = line_at(bytes, line);
     let reason = format!(in alloc; "{fault}")?;
-    let mut message = place_explained(alloc, line, shown, column, reason.as_str())?;
-    if is_terminal(alloc, shown)? {
-        message.push_str("This is a line of terminals: read such a file with --lines.\n")?;
-    }
-    Ok(message)
+    place_explained(alloc, line, shown, column, reason.as_str())
 }
 
 /// What is wrong with the first bad line of a file of rules without its byte order mark, to stand after the file's name: the
-/// line and the column, the reason, and the line itself; and how a file of terminals is read, if the line is one.
+/// line and the column, the reason, and the line itself.
 ///
 /// # Errors
 ///

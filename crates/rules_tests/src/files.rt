@@ -377,23 +377,10 @@ fn slices(alloc: Global, lexer: &RuleLexer, text: &str) -> Result<String, AllocE
 }
 
 // The pieces of a text that is cut by the rules of a file, or why they give no lexer.
-fn cut_by(alloc: Global, file: &RuleFile, text: &str) -> Result<String, AllocError> {
-    let rules = file.mode_rules(alloc)?;
-    let modes = file.modes.len();
-    if modes == 0 {
-        return Err(AllocError);
-    }
-    match RuleLexer::from_rules(alloc, &rules, modes) {
-        Ok(lexer) => slices(alloc, &lexer, text),
-        Err(RulesError::OutOfMemory) => Err(AllocError),
-        Err(error) => format!(in alloc; "{error}"),
-    }
-}
-
 fn pieces(alloc: Global, bytes: &[u8], text: &str) -> Result<String, AllocError> {
-    match read_rules(alloc, bytes) {
-        Ok(file) => cut_by(alloc, &file, text),
-        Err(_) => Err(AllocError),
+    match RuleLexer::from_file(alloc, bytes) {
+        Ok(lexer) => slices(alloc, &lexer, text),
+        Err(error) => format!(in alloc; "{error}"),
     }
 }
 

@@ -1,7 +1,6 @@
-//! `tokens [OPTION ..] RULES [FILE ..]`: cuts each FILE, or standard input, by the named rules of the file RULES, and writes the tokens, as
+//! `tokens [OPTION ..] RULES [FILE ..]`: cuts each FILE, or standard input, by the rules of the file RULES, and writes the tokens, as
 //! lines, JSON, markup or in colours. `--clashes` writes the pairs of rules that clash, each with the least word on which they do,
-//! `--check` a review of the rules, and `--diff` a text of which two files of rules make different tokens. With `--lines`, RULES has
-//! terminals, one a line, which are referred to by their numbers. `--help` has the options.
+//! `--check` a review of the rules, and `--diff` a text of which two files of rules make different tokens. `--help` has the options.
 #![tactic(auto)]
 
 use std::process::ExitCode;

@@ -4,17 +4,15 @@ use Rattle.std.specs.Prelude.{max, codes, if◌then◌else◌, Option, Some, Non
 use Rattle.std.specs.Io.KnownBytes.{Appends}
 use Rattle.std.proofs.lemmas.List.{append-nil, take-append-le, take_more, map-append, length-map, length-take-le}
 use Rattle.std.proofs.lemmas.Result.{IfOk-weaker}
-use Rattle.lexdfa_lib.proofs.Known.{Appends-again}
+use Rattle.lexdfa_lib.proofs.Known.{Appends-again, Appends-none, AppendsPrefix-behind}
 use Rattle.lexdfa_lib.specs.Watch.{Watch, AppendsPrefix}
 use Rattle.lexdfa_lib.specs.declared.error.RunError.{RunError}
 use Rattle.reports_lib.specs.Answer.{Answer, silence, followed, refusal, remark, about}
-use Rattle.tokens_lib.specs.FileAnswers.{Reads, TextOf, is_input, FileGives, ReadingAnswer, FileAnswer, NumberedAnswer, FilesAnswer, cut_files, TextsAnswer, Answered, Refused}
+use Rattle.tokens_lib.specs.FileAnswers.{Reads, is_input, FileGives, ReadingAnswer, FileAnswer, NumberedAnswer, FilesAnswer, cut_files, TextsAnswer, Answered, Refused}
 use Rattle.tokens_lib.specs.Progress.{total_said}
 use Rattle.tokens_lib.specs.declared.command.Verbosity.{Verbosity}
 use Rattle.tokens_lib.specs.Streams.{Given, Reading, AtEnd, Failed, NotOpened, GivesWhole, StreamGives, TakesBy, Takes}
-use Rattle.tokens_lib.specs.TextAnswer.{WholeAnswer}
 use Rattle.tokens_lib.specs.Internal.Tasks.{ReadAnswer}
-use Rattle.lines_lib.proofs.Sending.{Appends-none, AppendsPrefix-behind}
 
 -- ---- answers
 
@@ -250,34 +248,6 @@ unopened Gives IsFor file reason written said o e f gives takes = (
   (
     (record { bytes = []; end = NotOpened reason }, (gives, inl (reason, (refl, refl)))),
     Answered-refusal written said o e f 6 (about file reason) takes,
-  ),
-)
-
--- it was read to its end
-pub whole_answered : {W E : Type 0} (r : Result ℕ RunError) (Gives : Reading → Type 0) (IsFor : List ℕ → List ℕ → Answer → Type 0) (file bytes : List ℕ) (written : W → Option (List ℕ))
-    (said : E → Option (List ℕ)) (o p : Watch W) (e m f : Watch E) → Gives (record { bytes = bytes; end = AtEnd }) → m ≡ e
-    → IfOk r (λ status. (answer : Answer) × (TextOf IsFor file bytes answer × Answered written said o p m f status answer))
-    → IfOk r (λ status. (answer : Answer) × (ReadAnswer Gives (λ reading. WholeAnswer IsFor file reading.bytes reading.end) answer × Answered written said o p e f status answer))
-whole_answered {W} {E} r Gives IsFor file bytes written said o p e m f gives quiet h =
-    IfOk-weaker r _ _
-    (λ status x. (
-      x.0,
-      (
-        (record { bytes = bytes; end = AtEnd }, (gives, x.1.0)),
-        subst (λ (w : Watch E). Answered written said o p w f status x.0) quiet x.1.1,
-      ),
-    ))
-    h
-
--- a read failed
-pub unread_answered : {W E : Type 0} (Gives : Reading → Type 0) (IsFor : List ℕ → List ℕ → Answer → Type 0) (file : List ℕ) (written : W → Option (List ℕ)) (said : E → Option (List ℕ))
-    (o : Watch W) (e f : Watch E) → (bytes : List ℕ) × (Gives (record { bytes = bytes; end = Failed }) × Takes said e f (about file (codes "read failed")))
-    → (answer : Answer) × (ReadAnswer Gives (λ reading. WholeAnswer IsFor file reading.bytes reading.end) answer × Answered written said o o e f 6 answer)
-unread_answered Gives IsFor file written said o e f (bytes, (gives, takes)) = (
-  refusal 6 (about file (codes "read failed")),
-  (
-    (record { bytes = bytes; end = Failed }, (gives, refl)),
-    Answered-refusal written said o e f 6 (about file (codes "read failed")) takes,
   ),
 )
 

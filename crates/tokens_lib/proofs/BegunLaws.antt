@@ -1,47 +1,35 @@
 -- What was written before an error: a prefix of an answer, or nothing.
 use Rattle.std.proofs.Common.{Global, ◌≡◌, ◌≢◌, ℕ, ◌+◌, ◌<◌, get_or, Bool, inl, inr, List, [], ◌∷◌, ◌++◌, length, take, drop, map, string_bytes, refl, sym, ap, subst, ◌∙◌, arith}
-use Rattle.std.specs.Prelude.{◌⊎◌, Option, Some, None, Result, Ok, OnErr, option_map, String}
+use Rattle.std.specs.Prelude.{◌⊎◌, Option, Result, Ok, OnErr, String}
 use Rattle.std.specs.Bool.{then_some}
 use Rattle.std.specs.Borrow.{Bor}
 use Rattle.std.specs.Io.KnownBytes.{Appends}
-use Rattle.std.specs.Str.{IsUtf8}
-use Rattle.std.proofs.Math.Seq.{take-nil}
 use Rattle.std.proofs.lemmas.List.{append-nil, map-append, take-append-drop, drop_more, length-map, length-take-le}
 use Rattle.std.proofs.lemmas.Result.{on_err_weaker}
-use Rattle.lalrpop_hir.specs.Tree.{Tree}
-use Rattle.lalrpop_rule_file.specs.RuleFile.{without_mark}
 use Rattle.lalrpop_rules.specs.Modes.{ModeRules}
 use Rattle.lalrpop_edits.specs.Chunked.{Chunked}
 use Rattle.bajofeki_rules.specs.Stack.{start}
 use Rattle.lalrpop_rules.specs.declared.item.Item.{Item}
-use Rattle.lexdfa_lib.proofs.Known.{Appends-again}
-use Rattle.lexdfa_lib.specs.Answer.{HaveAutomaton}
-use Rattle.lexdfa_lib.specs.Status.{outcome_status}
+use Rattle.lexdfa_lib.proofs.Known.{Appends-again, Appends-none, AppendsPrefix-behind, AppendsPrefix-front}
 use Rattle.lexdfa_lib.specs.Watch.{Watch, AppendsPrefix}
 use Rattle.lexdfa_lib.specs.declared.error.RunError.{RunError}
 use Rattle.lexdfa_lib.specs.declared.error.RunError.TheVariants.{OutOfMemory, Read, Write}
-use Rattle.lexdfa_lib.specs.declared.outcome.Outcome.{Outcome}
-use Rattle.lexdfa_lib.specs.declared.outcome.Outcome.TheVariants.{Match, NoMatch, All, Stopped, Refused, Ambiguous, Syntax, Line}
-use Rattle.lines_lib.proofs.Sending.{Appends-none, AppendsPrefix-behind, AppendsPrefix-front}
-use Rattle.lines_lib.specs.ClashesShown.{WritesClashes, WritesClashesPrefix}
-use Rattle.lines_lib.specs.TokenLines.{text_lines, WritesTokens, WritesTokensPrefix}
 use Rattle.reports_lib.specs.Answer.{Answer, followed, refusal, remark, Begun}
 use Rattle.reports_lib.specs.ItemLines.{piece_lines}
 use Rattle.reports_lib.specs.declared.layout.LineForm.{LineForm}
-use Rattle.tokens_lib.specs.FileAnswers.{Reads, TextOf, ReadingAnswer, NumberedAnswer, FilesAnswer, FirstFilesAnswer, cut_files, FirstTextsAnswer}
+use Rattle.tokens_lib.specs.FileAnswers.{Reads, ReadingAnswer, NumberedAnswer, FilesAnswer, FirstFilesAnswer, cut_files, FirstTextsAnswer}
 use Rattle.tokens_lib.specs.CutEnds.{BeginsWith, AreGiven}
 use Rattle.tokens_lib.specs.ItemsWritten.{WritesItemsPart}
 use Rattle.tokens_lib.specs.NamedRules.{RulesOf, LexerOf}
-use Rattle.tokens_lib.specs.Program.{TerminalsOf, TerminalClashesAnswer}
 use Rattle.tokens_lib.specs.Progress.{total_said}
-use Rattle.tokens_lib.specs.Streams.{Given, Reading, AtEnd}
-use Rattle.tokens_lib.specs.TextAnswer.{TextTokens, WholeAnswer, CutAnswer, CutPart, lines_of}
+use Rattle.tokens_lib.specs.Streams.{Given, Reading}
+use Rattle.tokens_lib.specs.TextAnswer.{CutAnswer, CutPart, lines_of}
 use Rattle.tokens_lib.specs.Internal.Tasks.{EitherAnswer, ReadAnswer}
 use Rattle.tokens_lib.specs.declared.command.Verbosity.{Verbosity}
 use Rattle.tokens_lib.specs.declared.cut_end.CutEnd.{CutEnd}
 use Rattle.tokens_lib.proofs.AnswerLaws.{files_more}
-use Rattle.tokens_lib.proofs.ProgramLaws.{IsRead, by_lexer, by_terminals}
-use Rattle.tokens_lib.proofs.TextAnswers.{then_some-now, tokens_told, cut_told, Cuts}
+use Rattle.tokens_lib.proofs.ProgramLaws.{IsRead, by_lexer}
+use Rattle.tokens_lib.proofs.TextAnswers.{then_some-now, cut_told, Cuts}
 
 pub Begun-nothing : (Is : Answer → Type 0) (a : Option (List ℕ)) → Begun Is a a
 Begun-nothing Is a = inl (Appends-none a)
@@ -72,18 +60,6 @@ begun_by_write {W} Is contents old new e nothing part = by e nothing part
 
 -- ---- a text
 
-pub tokens_begun : (ts : List Tree) (ps : List ℕ) (places : Bool) (name : Bor (List ℕ)) (text : List ℕ) (a b : Option (List ℕ))
-    → WritesTokensPrefix ts ps (option_map (λ (f : Bor (List ℕ)). f.now) (then_some places name)) text a b → Begun (TextTokens ts ps places name.now text) a b
-tokens_begun ts ps places name text a b (xs, (are, part)) = inr (
-  tokens_told places name.now text xs,
-  ((xs, (are, refl)), subst (λ (file : Option (List ℕ)). AppendsPrefix a b (text_lines file text xs)) (then_some-now places name) part),
-)
-
--- all of its lines were written
-pub tokens_written : (ts : List Tree) (ps : List ℕ) (places : Bool) (name : Bor (List ℕ)) (text : List ℕ) (a b : Option (List ℕ)) (outcome : Outcome)
-    → WritesTokens ts ps (option_map (λ (f : Bor (List ℕ)). f.now) (then_some places name)) text a b outcome → Begun (TextTokens ts ps places name.now text) a b
-tokens_written ts ps places name text a b outcome (xs, (are, (same, h))) = tokens_begun ts ps places name text a b (xs, (are, whole a b _ h))
-
 -- a part of its pieces was written
 abbrev pub CutsPart : ModeRules → Bool → (List ℕ → List Item → List ℕ) → Reading → Option (List ℕ) → Option (List ℕ) → Type 0
 CutsPart rules recovers out reading held held_now =
@@ -113,24 +89,7 @@ begun_lines rules modes form recovers several name Gives a b (reading, (gives, (
     let lines = subst (λ (file : Option (List ℕ)). AppendsPrefix a b (piece_lines form recovers file (map string_bytes modes.now) rules text start xs)) (then_some-now several name) part in
     (reading, (gives, (text, (left, (xs, (c, (begins, (given, lines))))))))
 
--- bytes are a text
-pub text_begun : (r : Result ℕ RunError) (IsFor : List ℕ → List ℕ → Answer → Type 0) (file bytes text : List ℕ) (a b : Option (List ℕ))
-    → text ≡ without_mark bytes → IsUtf8 text → OnErr r (Begun (IsFor file text) a b) → OnErr r (Begun (TextOf IsFor file bytes) a b)
-text_begun r IsFor file bytes text a b is utf8 h =
-    on_err_weaker r (Begun-weaker _ _ a b (λ answer done. inr (subst IsUtf8 is utf8, subst (λ (bs : List ℕ). IsFor file bs answer) is done))) h
-
 -- ---- files
-
--- it was read to its end
-pub whole_begun : (r : Result ℕ RunError) (Gives : Reading → Type 0) (IsFor : List ℕ → List ℕ → Answer → Type 0) (file bytes : List ℕ) (a b : Option (List ℕ))
-    → Gives (record { bytes = bytes; end = AtEnd }) → OnErr r (Begun (TextOf IsFor file bytes) a b)
-    → OnErr r (Begun (ReadAnswer Gives (λ reading. WholeAnswer IsFor file reading.bytes reading.end)) a b)
-whole_begun r Gives IsFor file bytes a b gives h = on_err_weaker r (Begun-weaker _ _ a b (λ answer is. (record { bytes = bytes; end = AtEnd }, (gives, is)))) h
-
--- the whole answer or a part of one
-pub either_begun : (r : Result ℕ RunError) (Gives : Reading → Type 0) (IsFor PartFor : List ℕ → Reading → Answer → Type 0) (file : List ℕ) (a b : Option (List ℕ))
-    → OnErr r (Begun (ReadAnswer Gives (IsFor file)) a b) → OnErr r (Begun (ReadAnswer Gives (EitherAnswer IsFor PartFor file)) a b)
-either_begun r Gives IsFor PartFor file a b h = on_err_weaker r (Begun-weaker _ _ a b (λ answer is. (is.0, (is.1.0, inl is.1.1)))) h
 
 -- of a file that was opened
 reading_either : (IsFor PartFor : List ℕ → Reading → Answer → Type 0) (file : List ℕ) (reading : Reading) (answer : Answer)
@@ -241,33 +200,8 @@ pub lexer_begun : {E : Type 0} (r : Result ℕ RunError) (verbosity : Verbosity)
 lexer_begun r verbosity Gives IsFor rules set modes said e m a b is h =
     on_err_weaker r (Begun-weaker _ _ a b (by_lexer verbosity Gives IsFor rules set modes said e m is)) (begun_behind r (IsFor set modes) is.1.1.1.0 a b h)
 
-pub terminals_begun : (r : Result ℕ RunError) (Gives : List ℕ → Given → Type 0) (IsFor : List Tree → List ℕ → Answer → Type 0) (rules : List ℕ) (ts : List Tree) (ps : List ℕ)
-    (a b : Option (List ℕ)) → (bytes : List ℕ) × (Gives rules (Ok bytes) × HaveAutomaton bytes ts ps) → OnErr r (Begun (IsFor ts ps) a b)
-    → OnErr r (Begun (Reads Gives (TerminalsOf IsFor) rules) a b)
-terminals_begun r Gives IsFor rules ts ps a b are h = on_err_weaker r (Begun-weaker _ _ a b (λ answer is. by_terminals Gives IsFor rules ts ps answer are is)) h
-
 -- a file gave bytes
 pub file_begun : (r : Result ℕ RunError) (Gives : List ℕ → Given → Type 0) (IsFor : List ℕ → List ℕ → Answer → Type 0) (file bytes slice : List ℕ) (a b : Option (List ℕ))
     → Gives file (Ok bytes) → slice ≡ bytes → OnErr r (Begun (IsFor file slice) a b) → OnErr r (Begun (Reads Gives IsFor file) a b)
 file_begun r Gives IsFor file bytes slice a b gives same h =
     on_err_weaker r (Begun-weaker _ _ a b (λ answer is. inr (bytes, (gives, subst (λ (bs : List ℕ). IsFor file bs answer) same is)))) h
-
-nothing_of_it : (a b : Option (List ℕ)) (bytes : List ℕ) → bytes ≡ [] → AppendsPrefix a b bytes → Appends a b []
-nothing_of_it a b bytes none (n, le, h) = subst (Appends a b) (ap (take n) none ∙ take-nil n) h
-
--- the clashes of terminals are written if these are what is wrong
-pub terminal_clashes_begun : (file bytes : List ℕ) (a b : Option (List ℕ)) → WritesClashesPrefix bytes a b → Begun (TerminalClashesAnswer file bytes) a b
-terminal_clashes_begun file bytes a b (None, (written, (are, part))) = inr (record { status = 0; out = written; err = [] }, ((None, (are, (refl, refl))), part))
-terminal_clashes_begun file bytes a b (Some (Ambiguous i j word), (written, (are, part))) =
-    inr (record { status = outcome_status (Ambiguous i j word); out = written; err = [] }, ((Some (Ambiguous i j word), (are, (refl, refl))), part))
-terminal_clashes_begun file bytes a b (Some (Match i n), (written, (are, part))) = inl (nothing_of_it a b written are.1 part)
-terminal_clashes_begun file bytes a b (Some NoMatch, (written, (are, part))) = inl (nothing_of_it a b written are.1 part)
-terminal_clashes_begun file bytes a b (Some (All n), (written, (are, part))) = inl (nothing_of_it a b written are.1 part)
-terminal_clashes_begun file bytes a b (Some (Stopped n at), (written, (are, part))) = inl (nothing_of_it a b written are.1 part)
-terminal_clashes_begun file bytes a b (Some (Refused i e), (written, (are, part))) = inl (nothing_of_it a b written are.1 part)
-terminal_clashes_begun file bytes a b (Some (Syntax i), (written, (are, part))) = inl (nothing_of_it a b written are.1 part)
-terminal_clashes_begun file bytes a b (Some (Line i), (written, (are, part))) = inl (nothing_of_it a b written are.1 part)
-
-pub terminal_clashes_written : (file bytes : List ℕ) (a b : Option (List ℕ)) (reported : Option Outcome) → WritesClashes bytes a b reported
-    → Begun (TerminalClashesAnswer file bytes) a b
-terminal_clashes_written file bytes a b reported (written, (are, h)) = terminal_clashes_begun file bytes a b (reported, (written, (are, whole a b written h)))

@@ -10,7 +10,7 @@ use Rattle.lalrpop_rules.specs.Modes.{ModeRules}
 use Rattle.lalrpop_rule_file.specs.RuleFile.{without_mark}
 use Rattle.lalrpop_rules.specs.Pieces.{joined}
 use Rattle.lalrpop_rules.specs.declared.item.Item.{Item}
-use Rattle.lines_lib.proofs.Sending.{Appends-none}
+use Rattle.lexdfa_lib.proofs.Known.{Appends-none}
 use Rattle.tokens_lib.specs.CutEnds.{AreGiven, IsCutTo}
 use Rattle.tokens_lib.specs.OpenModes.{open_behind, open_mode}
 use Rattle.tokens_lib.specs.Streams.{Reading, ReadEnd, AtEnd, Failed, LeftOff, EndsReading}

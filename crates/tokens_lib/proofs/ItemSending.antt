@@ -3,9 +3,8 @@ use Rattle.std.proofs.Common.{◌≡◌, ℕ, List, [], ◌++◌, sym, ap, subst
 use Rattle.std.proofs.lemmas.List.{append-nil}
 use Rattle.std.specs.Prelude.{Option}
 use Rattle.std.specs.Io.KnownBytes.{Appends}
-use Rattle.lexdfa_lib.proofs.Known.{Appends-again}
+use Rattle.lexdfa_lib.proofs.Known.{Appends-again, Appends-none, AppendsPrefix-behind, AppendsPrefix-front}
 use Rattle.lexdfa_lib.specs.Watch.{AppendsPrefix}
-use Rattle.lines_lib.proofs.Sending.{Appends-none, AppendsPrefix-behind, AppendsPrefix-front}
 use Rattle.tokens_lib.specs.Internal.CutTexts.{IsSent}
 
 -- nothing is to be written yet

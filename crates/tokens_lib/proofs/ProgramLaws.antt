@@ -1,23 +1,26 @@
 -- The answer by the lexer of a file of rules.
-use Rattle.std.proofs.Common.{◌≡◌, ℕ, ◌≤◌, inl, inr, List, [], refl, subst, sym, arith}
-use Rattle.std.specs.Prelude.{max, Option, Result, Ok, Err, IfOk, OnOk, OnErr}
+use Rattle.std.proofs.Common.{◌≡◌, ℕ, ◌≤◌, inl, inr, List, refl, subst, sym, arith}
+use Rattle.std.specs.Prelude.{max, Option, Some, None, Result, Ok, Err, IfOk, OnOk, OnErr}
 use Rattle.std.specs.Io.KnownBytes.{Appends}
 use Rattle.std.proofs.lemmas.Result.{IfOk-weaker}
-use Rattle.lalrpop_hir.specs.Tree.{Tree}
 use Rattle.bajofeki_rules.specs.Lines.{lines}
 use Rattle.lalrpop_rules.specs.Modes.{ModeRules}
 use Rattle.lalrpop_rule_file.specs.RuleFile.{without_mark}
-use Rattle.lexdfa_lib.specs.Answer.{HaveAutomaton}
 use Rattle.lexdfa_lib.specs.Watch.{Watch, AppendsPrefix}
 use Rattle.lexdfa_lib.specs.declared.error.RunError.{RunError}
 use Rattle.reports_lib.specs.Answer.{Answer, Begun, followed, refusal, remark}
 use Rattle.reports_lib.specs.Compared.{DifferenceAnswer, IsDifferenceText, text_status}
 use Rattle.tokens_lib.specs.FileAnswers.{Reads, Answered}
-use Rattle.tokens_lib.specs.NamedRules.{AreRulesOf, RulesOf, RulesRefused, LexerOf}
-use Rattle.tokens_lib.specs.Program.{TerminalsRefused, TerminalsOf, information}
-use Rattle.tokens_lib.specs.Streams.{Given, Takes}
+use Rattle.tokens_lib.specs.NamedRules.{AreRulesOf, RulesTold, RulesOf, RulesRefused, LexerOf}
+use Rattle.tokens_lib.specs.Program.{ActionAnswer, LexerAnswer, information}
+use Rattle.tokens_lib.specs.Streams.{Given, Reading, Takes}
 use Rattle.tokens_lib.specs.WarningsSaid.{Warned}
+use Rattle.tokens_lib.specs.Internal.Listings.{ListingAnswer, listing_of, told_first}
+use Rattle.tokens_lib.specs.declared.command.Action.{Action}
+use Rattle.tokens_lib.specs.declared.command.Action.TheVariants.{Cut, Show, Clashes, Emit, Picture, Check, Difference}
 use Rattle.tokens_lib.specs.declared.command.Verbosity.{Verbosity}
+use Rattle.tokens_lib.specs.declared.listing.Listing.{Listing}
+use Rattle.tokens_lib.specs.declared.listing.Listing.TheVariants as listings
 use Rattle.tokens_lib.proofs.AnswerLaws.{TakesBy-again, TakesBy-none, answered_behind}
 
 -- a file of rules was read, and is this set of rules of these modes; the warnings about it were said
@@ -85,16 +88,7 @@ rules_refused verbosity Gives IsFor rules answer (inr (bytes, (gives, inl bad)))
 rules_refused verbosity Gives IsFor rules answer (inr (bytes, (gives, inr (words, (warned, (own, ((modes, (rs, (say, refused))), same))))))) =
     inr (bytes, (gives, inr (words, (warned, (own, ((modes, (rs, (say, inl refused))), same))))))
 
-pub by_terminals : (Gives : List ℕ → Given → Type 0) (IsFor : List Tree → List ℕ → Answer → Type 0) (rules : List ℕ) (ts : List Tree) (ps : List ℕ) (answer : Answer)
-    → (bytes : List ℕ) × (Gives rules (Ok bytes) × HaveAutomaton bytes ts ps) → IsFor ts ps answer → Reads Gives (TerminalsOf IsFor) rules answer
-by_terminals Gives IsFor rules ts ps answer (bytes, (gives, have)) done = inr (bytes, (gives, inr (ts, (ps, (have, done)))))
-
-pub terminals_refused : (Gives : List ℕ → Given → Type 0) (IsFor : List Tree → List ℕ → Answer → Type 0) (rules : List ℕ) (answer : Answer)
-    → Reads Gives TerminalsRefused rules answer → Reads Gives (TerminalsOf IsFor) rules answer
-terminals_refused Gives IsFor rules answer (inl none) = inl none
-terminals_refused Gives IsFor rules answer (inr (bytes, (gives, refused))) = inr (bytes, (gives, inl refused))
-
--- the answer of the lexer of named rules was given
+-- the answer of the lexer was given
 pub lexer_answered : {W E : Type 0} (r : Result ℕ RunError) (verbosity : Verbosity) (Gives : List ℕ → Given → Type 0) (IsFor : ModeRules → List (List ℕ) → Answer → Type 0) (rules : List ℕ)
     (set : ModeRules) (modes : List (List ℕ)) (written : W → Option (List ℕ)) (said : E → Option (List ℕ)) (o p : Watch W) (e m f : Watch E)
     → IsRead verbosity Gives rules set modes said e m
@@ -104,20 +98,6 @@ lexer_answered r verbosity Gives IsFor rules set modes written said o p e m f is
     IfOk-weaker r _ _
     (λ status x. (x.0, (by_lexer verbosity Gives IsFor rules set modes said e m is x.0 x.1.0, x.1.1)))
     (answered_behind r (IsFor set modes) written said o p e m f is.1.1.1.0 is.1.1.1.1.1 h)
-
--- of the lexer of terminals
-pub terminals_answered : {W E : Type 0} (r : Result ℕ RunError) (Gives : List ℕ → Given → Type 0) (IsFor : List Tree → List ℕ → Answer → Type 0) (rules : List ℕ) (ts : List Tree) (ps : List ℕ)
-    (written : W → Option (List ℕ)) (said : E → Option (List ℕ)) (o p : Watch W) (e m f : Watch E)
-    → (bytes : List ℕ) × (Gives rules (Ok bytes) × HaveAutomaton bytes ts ps) → m ≡ e
-    → IfOk r (λ status. (answer : Answer) × (IsFor ts ps answer × Answered written said o p m f status answer))
-    → IfOk r (λ status. (answer : Answer) × (Reads Gives (TerminalsOf IsFor) rules answer × Answered written said o p e f status answer))
-terminals_answered {W} {E} r Gives IsFor rules ts ps written said o p e m f are quiet h =
-    IfOk-weaker r _ _
-    (λ status x. (
-      x.0,
-      (by_terminals Gives IsFor rules ts ps x.0 are x.1.0, subst (λ (w : Watch E). Answered written said o p w f status x.0) quiet x.1.1),
-    ))
-    h
 
 -- what differs is written, and nothing was said
 pub differences_answered : {W E : Type 0} (r : Result ℕ RunError) (old : List ℕ) (set : ModeRules) (modes : List (List ℕ)) (new : List ℕ) (other : ModeRules) (others : List (List ℕ))
@@ -143,3 +123,31 @@ pub information_begun : (r : Result ℕ RunError) (text message : List ℕ) (a b
     → OnErr r (Begun (λ answer. answer ≡ information message) a b)
 information_begun (Ok status) text message a b same part = tt
 information_begun (Err error) text message a b same part = inr (information message, (refl, subst (AppendsPrefix a b) same part))
+
+-- ---- actions
+
+-- the answer of a list
+pub listed : (Gives : List ℕ → Given → Type 0) (texts : Verbosity → (List ℕ → Reading → Answer → Type 0) → (List ℕ → Reading → Answer → Type 0) → List (List ℕ) → Answer → Type 0)
+    (verbosity : Verbosity) (action : Action) (listing : Listing) (rules : List ℕ) (files : List (List ℕ)) → listing_of action ≡ Some listing → (answer : Answer)
+    → Reads Gives (RulesTold (told_first listing) verbosity (ListingAnswer listing)) rules answer → ActionAnswer Gives texts verbosity action rules files answer
+listed Gives texts verbosity Clashes listing rules files is answer h =
+    let same : listing ≡ listings.Clashes = cc in subst (λ (l : Listing). Reads Gives (RulesTold (told_first l) verbosity (ListingAnswer l)) rules answer) same h
+listed Gives texts verbosity (Check form) listing rules files is answer h =
+    let same : listing ≡ listings.Review form = cc in subst (λ (l : Listing). Reads Gives (RulesTold (told_first l) verbosity (ListingAnswer l)) rules answer) same h
+listed Gives texts verbosity (Cut form recovers) listing rules files is answer h = absurd (cc)
+listed Gives texts verbosity (Show markup) listing rules files is answer h = absurd (cc)
+listed Gives texts verbosity (Emit language) listing rules files is answer h = absurd (cc)
+listed Gives texts verbosity Picture listing rules files is answer h = absurd (cc)
+listed Gives texts verbosity Difference listing rules files is answer h = absurd (cc)
+
+-- of the lexer, if nothing is listed
+pub lexed : (Gives : List ℕ → Given → Type 0) (texts : Verbosity → (List ℕ → Reading → Answer → Type 0) → (List ℕ → Reading → Answer → Type 0) → List (List ℕ) → Answer → Type 0)
+    (verbosity : Verbosity) (action : Action) (rules : List ℕ) (files : List (List ℕ)) → listing_of action ≡ None → (answer : Answer)
+    → Reads Gives (RulesOf verbosity (LexerOf (LexerAnswer Gives texts verbosity action rules files))) rules answer → ActionAnswer Gives texts verbosity action rules files answer
+lexed Gives texts verbosity Clashes rules files is answer h = absurd (cc)
+lexed Gives texts verbosity (Check form) rules files is answer h = absurd (cc)
+lexed Gives texts verbosity (Cut form recovers) rules files is answer h = h
+lexed Gives texts verbosity (Show markup) rules files is answer h = h
+lexed Gives texts verbosity (Emit language) rules files is answer h = h
+lexed Gives texts verbosity Picture rules files is answer h = h
+lexed Gives texts verbosity Difference rules files is answer h = h

@@ -2,30 +2,26 @@
 use Rattle.std.proofs.Common.{◌≡◌, ℕ, ◌+◌, ◌≤◌, inl, inr, List, [], ◌∷◌, ap, arith}
 use Rattle.std.specs.Prelude.{nat_lt, length, map, slice_get, Bool, true, false, if◌then◌else◌, Option, Some, None}
 use Rattle.lalrpop_hir.specs.Clashes.{Entry}
-use Rattle.lalrpop_hir.specs.Tree.{Tree}
 use Rattle.bajofeki_rules.specs.Lines.{lines}
 use Rattle.lalrpop_rule_file.specs.RuleFile.{without_mark}
 use Rattle.lalrpop_rules.specs.Modes.{ModeRules}
 use Rattle.lalrpop_rules.specs.declared.error.RulesError.{RulesError}
 use Rattle.lalrpop_rules.specs.declared.error.RulesError.TheVariants as errors
 use Rattle.bajofeki_rules.specs.declared.mode_rule.ModeRule.{ModeRule}
-use Rattle.lexdfa_lib.specs.Status.{outcome_status}
-use Rattle.lexdfa_lib.specs.declared.outcome.Outcome.{Outcome}
-use Rattle.lexdfa_lib.specs.declared.outcome.Outcome.TheVariants as outcomes
 use Rattle.reports_lib.specs.Answer.{Answer, remark}
 use Rattle.reports_lib.specs.Compared.{DifferenceAnswer, text_status}
 use Rattle.reports_lib.specs.ReviewLines.{has_findings}
 use Rattle.reports_lib.specs.declared.layout.LineForm.{LineForm}
-use Rattle.tokens_lib.specs.FileAnswers.{Reads, TextOf, shown_name, ReadingAnswer, NumberedAnswer, FilesAnswer, cut_files, TextsAnswer}
+use Rattle.tokens_lib.specs.FileAnswers.{Reads, shown_name, ReadingAnswer, NumberedAnswer, FilesAnswer, cut_files, TextsAnswer}
 use Rattle.tokens_lib.specs.Checked.{CheckAnswer, finding}
 use Rattle.tokens_lib.specs.Emitted.{SourceAnswer}
 use Rattle.tokens_lib.specs.Pictured.{PictureAnswer}
 use Rattle.tokens_lib.specs.NamedRules.{rules_status, RulesTold, RulesOf, LexerOf, clashes_status, ClashesAnswer}
-use Rattle.tokens_lib.specs.Program.{TerminalsOf, reported_status, TerminalClashesAnswer, ActionAnswer, CommandAnswer, ComparedAnswer, other_of}
+use Rattle.tokens_lib.specs.Program.{ActionAnswer, CommandAnswer, ComparedAnswer, LexerAnswer, other_of}
 use Rattle.tokens_lib.specs.WarningsSaid.{is_said}
 use Rattle.tokens_lib.specs.Progress.{total_said}
-use Rattle.tokens_lib.specs.Streams.{Given, Reading, ReadEnd, AtEnd, Failed, NotOpened, LeftOff, GivesWhole}
-use Rattle.tokens_lib.specs.TextAnswer.{fault_status, TextTokens, WholeAnswer, TokensAnswer, cut_status, CutAnswer, lines_of, PiecesAnswer, PiecesPart, PageAnswer, PagePart}
+use Rattle.tokens_lib.specs.Streams.{Given, Reading, GivesWhole}
+use Rattle.tokens_lib.specs.TextAnswer.{cut_status, CutAnswer, lines_of, PiecesAnswer, PiecesPart, PageAnswer, PagePart}
 use Rattle.tokens_lib.specs.declared.command.Command.{Command}
 use Rattle.tokens_lib.specs.declared.command.Language.{Language}
 use Rattle.tokens_lib.specs.declared.command.Markup.{Markup}
@@ -34,7 +30,7 @@ use Rattle.tokens_lib.specs.declared.cut_end.CutEnd.TheVariants.{Whole, Stopped,
 use Rattle.lalrpop_rules.specs.declared.item.Item.{Item}
 use Rattle.tokens_lib.specs.PageWritten.{page_of}
 use Rattle.tokens_lib.specs.declared.command.Action.{Action}
-use Rattle.tokens_lib.specs.declared.command.Action.TheVariants.{Cut, Show, CutByTerminals, Clashes, TerminalClashes, Emit, Picture, Check, Difference}
+use Rattle.tokens_lib.specs.declared.command.Action.TheVariants.{Cut, Show, Clashes, Emit, Picture, Check, Difference}
 use Rattle.tokens_lib.specs.declared.command.Command.TheVariants.{Help, Version, Run}
 use Rattle.tokens_lib.specs.declared.command.Verbosity.{Verbosity}
 
@@ -43,10 +39,6 @@ IsLow answer = answer.status ≤ 6
 
 low : (a b : Answer) → a ≡ b → b.status ≤ 6 → IsLow a
 low a b e l = let s : a.status ≡ b.status = ap (λ (x : Answer). x.status) e in omega arith
-
-fault_low : (fault : Option ℕ) → fault_status fault ≤ 6
-fault_low None = omega arith
-fault_low (Some at) = omega arith
 
 cut_status_low : (ended : CutEnd) → cut_status ended ≤ 6
 cut_status_low (Whole false None) = omega arith
@@ -64,32 +56,10 @@ rules_low (errors.NotCompiled i e) = omega arith
 rules_low (errors.Clash m i j w) = omega arith
 rules_low errors.OutOfMemory = omega arith
 
-outcome_low : (outcome : Outcome) → outcome_status outcome ≤ 6
-outcome_low (outcomes.Match i n) = omega arith
-outcome_low outcomes.NoMatch = omega arith
-outcome_low (outcomes.All n) = omega arith
-outcome_low (outcomes.Stopped n at) = omega arith
-outcome_low (outcomes.Refused i e) = omega arith
-outcome_low (outcomes.Ambiguous i j w) = omega arith
-outcome_low (outcomes.Syntax i) = omega arith
-outcome_low (outcomes.Line i) = omega arith
-
 reads_low : (Gives : List ℕ → Given → Type 0) (IsFor : List ℕ → List ℕ → Answer → Type 0) (file : List ℕ) (answer : Answer)
     → ((bytes : List ℕ) (a : Answer) → IsFor file bytes a → IsLow a) → Reads Gives IsFor file answer → IsLow answer
 reads_low Gives IsFor file answer each (inl (reason, (gives, e))) = low answer _ e (omega arith)
 reads_low Gives IsFor file answer each (inr (bytes, (gives, is))) = each bytes answer is
-
-text_low : (IsFor : List ℕ → List ℕ → Answer → Type 0) (file bytes : List ℕ) (answer : Answer)
-    → ((name text : List ℕ) (a : Answer) → IsFor name text a → IsLow a) → TextOf IsFor file bytes answer → IsLow answer
-text_low IsFor file bytes answer each (inl (at, (lacks, e))) = low answer _ e (omega arith)
-text_low IsFor file bytes answer each (inr (utf8, is)) = each file (without_mark bytes) answer is
-
-whole_low : (IsFor : List ℕ → List ℕ → Answer → Type 0) (file bytes : List ℕ) (end : ReadEnd) (answer : Answer)
-    → ((name text : List ℕ) (a : Answer) → IsFor name text a → IsLow a) → WholeAnswer IsFor file bytes end answer → IsLow answer
-whole_low IsFor file bytes AtEnd answer each is = text_low IsFor file bytes answer each is
-whole_low IsFor file bytes Failed answer each is = low answer _ is (omega arith)
-whole_low IsFor file bytes (NotOpened reason) answer each is = absurd is
-whole_low IsFor file bytes LeftOff answer each is = absurd is
 
 reading_low : (IsFor : List ℕ → Reading → Answer → Type 0) (file : List ℕ) (reading : Reading) (answer : Answer)
     → ((name : List ℕ) (read : Reading) (a : Answer) → IsFor name read a → IsLow a) → ReadingAnswer IsFor file reading answer → IsLow answer
@@ -160,24 +130,6 @@ check_low form file ls modes rs answer (inl (error, (is, (places, (are, (said, (
 check_low form file ls modes rs answer (inr (places, (stand, inl (have, (r, (css, (are, (clashes, e)))))))) = low answer _ e (omega arith)
 check_low form file ls modes rs answer (inr (places, (stand, inr (r, (review, (is, (reviews, e))))))) = low answer _ e (one_low (has_findings review))
 
-terminals_low : (IsFor : List Tree → List ℕ → Answer → Type 0) (file bytes : List ℕ) (answer : Answer)
-    → ((ts : List Tree) (ps : List ℕ) (a : Answer) → IsFor ts ps a → IsLow a) → TerminalsOf IsFor file bytes answer → IsLow answer
-terminals_low IsFor file bytes answer each (inl (outcome, (is, (said, (says, e))))) = low answer _ e (outcome_low outcome)
-terminals_low IsFor file bytes answer each (inr (ts, (ps, (have, is)))) = each ts ps answer is
-
-reported_low : (reported : Option Outcome) → reported_status reported ≤ 6
-reported_low None = omega arith
-reported_low (Some outcome) = outcome_low outcome
-
-terminal_list_low : (file bytes : List ℕ) (answer : Answer) → TerminalClashesAnswer file bytes answer → IsLow answer
-terminal_list_low file bytes answer (reported, (are, (e, said))) = let l = reported_low reported in omega (arith, e, l)
-
-text_tokens_low : (ts : List Tree) (ps : List ℕ) (places : Bool) (name text : List ℕ) (answer : Answer) → TextTokens ts ps places name text answer → IsLow answer
-text_tokens_low ts ps places name text answer (xs, (are, e)) = low answer _ e (fault_low _)
-
-tokens_low : (ts : List Tree) (ps : List ℕ) (places : Bool) (name : List ℕ) (reading : Reading) (answer : Answer) → TokensAnswer ts ps places name reading answer → IsLow answer
-tokens_low ts ps places name reading answer is = whole_low (TextTokens ts ps places) name reading.bytes reading.end answer (text_tokens_low ts ps places) is
-
 cut_low : (set : ModeRules) (modes : List (List ℕ)) (recovers : Bool) (out : List ℕ → List Item → List ℕ) (name : List ℕ) (reading : Reading) (answer : Answer)
     → CutAnswer set modes recovers out name reading answer → IsLow answer
 cut_low set modes recovers out name reading answer (text, (left, (xs, (ended, (is_text, (cut, e)))))) = low answer _ e (cut_status_low ended)
@@ -210,39 +162,41 @@ compared_low : (Gives : List ℕ → Given → Type 0) (verbosity : Verbosity) (
 compared_low Gives verbosity rules set modes other answer is =
     by_rules_low verbosity Gives (λ new others. DifferenceAnswer rules set modes other new others) other answer (λ new others a told. difference_low rules set modes other new others a told) is
 
-action_low : {I : Type 0} (Gives : List ℕ → Given → Type 0) (Read_of : List ℕ → Reading → Type 0) (InputGives : I → I → Reading → Type 0) (i k : I) (verbosity : Verbosity) (action : Action) (rules : List ℕ)
-    (files : List (List ℕ)) (answer : Answer) → ActionAnswer Gives (TextsAnswer Read_of InputGives i k) verbosity action rules files answer → IsLow answer
-action_low Gives Read_of InputGives i k verbosity (Cut form recovers) rules files answer is =
+lexer_answer_low : {I : Type 0} (Gives : List ℕ → Given → Type 0) (Read_of : List ℕ → Reading → Type 0) (InputGives : I → I → Reading → Type 0) (i k : I) (verbosity : Verbosity) (action : Action) (rules : List ℕ)
+    (files : List (List ℕ)) (set : ModeRules) (modes : List (List ℕ)) (answer : Answer) → LexerAnswer Gives (TextsAnswer Read_of InputGives i k) verbosity action rules files set modes answer → IsLow answer
+lexer_answer_low Gives Read_of InputGives i k verbosity (Cut form recovers) rules files set modes answer texts =
     let several = nat_lt 1 (length files) in
-    by_rules_low verbosity Gives (λ set modes. TextsAnswer Read_of InputGives i k verbosity (PiecesAnswer set modes form recovers several) (PiecesPart set modes form recovers several) files) rules answer
-    (λ set modes a texts. texts_low Read_of InputGives i k verbosity (PiecesAnswer set modes form recovers several) (PiecesPart set modes form recovers several) files a
-    (pieces_low set modes form recovers several) texts) is
-action_low Gives Read_of InputGives i k verbosity (Show markup) rules files answer is =
-    by_rules_low verbosity Gives (λ set modes. TextsAnswer Read_of InputGives i k verbosity (PageAnswer set modes markup) (PagePart set modes markup) files) rules answer
-    (λ set modes a texts. texts_low Read_of InputGives i k verbosity (PageAnswer set modes markup) (PagePart set modes markup) files a (page_low set modes markup) texts) is
-action_low Gives Read_of InputGives i k verbosity (CutByTerminals places) rules files answer is =
-    let IsFor : List Tree → List ℕ → Answer → Type 0 = λ ts ps. TextsAnswer Read_of InputGives i k verbosity (TokensAnswer ts ps places) (TokensAnswer ts ps places) files in
-    reads_low Gives (TerminalsOf IsFor) rules answer
-    (λ bytes a said. terminals_low IsFor rules bytes a
-    (λ ts ps b texts. texts_low Read_of InputGives i k verbosity (TokensAnswer ts ps places) (TokensAnswer ts ps places) files b (tokens_low ts ps places) texts) said) is
-action_low Gives Read_of InputGives i k verbosity Clashes rules files answer is =
+    texts_low Read_of InputGives i k verbosity (PiecesAnswer set modes form recovers several) (PiecesPart set modes form recovers several) files answer (pieces_low set modes form recovers several) texts
+lexer_answer_low Gives Read_of InputGives i k verbosity (Show markup) rules files set modes answer texts =
+    texts_low Read_of InputGives i k verbosity (PageAnswer set modes markup) (PagePart set modes markup) files answer (page_low set modes markup) texts
+lexer_answer_low Gives Read_of InputGives i k verbosity (Emit language) rules files set modes answer written = source_low language rules set answer written
+lexer_answer_low Gives Read_of InputGives i k verbosity Picture rules files set modes answer drawn = picture_low rules (slice_get files 0) set answer drawn
+lexer_answer_low Gives Read_of InputGives i k verbosity Difference rules files set modes answer told = compared_low Gives verbosity rules set modes (other_of files) answer told
+lexer_answer_low Gives Read_of InputGives i k verbosity Clashes rules files set modes answer none = absurd none
+lexer_answer_low Gives Read_of InputGives i k verbosity (Check form) rules files set modes answer none = absurd none
+
+-- any action, if that of a lexer has a low status
+action_low : (Gives : List ℕ → Given → Type 0) (texts : Verbosity → (List ℕ → Reading → Answer → Type 0) → (List ℕ → Reading → Answer → Type 0) → List (List ℕ) → Answer → Type 0)
+    (verbosity : Verbosity) (action : Action) (rules : List ℕ) (files : List (List ℕ)) (answer : Answer)
+    → ((set : ModeRules) (names : List (List ℕ)) (a : Answer) → LexerAnswer Gives texts verbosity action rules files set names a → IsLow a)
+    → ActionAnswer Gives texts verbosity action rules files answer → IsLow answer
+action_low Gives texts verbosity Clashes rules files answer each is =
     reads_low Gives (RulesOf verbosity ClashesAnswer) rules answer (λ bytes a said. rules_of_low verbosity ClashesAnswer rules bytes a (list_low rules) said) is
-action_low Gives Read_of InputGives i k verbosity TerminalClashes rules files answer is = reads_low Gives TerminalClashesAnswer rules answer (terminal_list_low rules) is
-action_low Gives Read_of InputGives i k verbosity (Emit language) rules files answer is =
-    by_rules_low verbosity Gives (λ set modes. SourceAnswer language rules set) rules answer (λ set modes a written. source_low language rules set a written) is
-action_low Gives Read_of InputGives i k verbosity Picture rules files answer is =
-    by_rules_low verbosity Gives (λ set modes. PictureAnswer rules (slice_get files 0) set) rules answer (λ set modes a drawn. picture_low rules (slice_get files 0) set a drawn) is
-action_low Gives Read_of InputGives i k verbosity (Check form) rules files answer is =
+action_low Gives texts verbosity (Check form) rules files answer each is =
     reads_low Gives (RulesTold finding verbosity (CheckAnswer form)) rules answer
     (λ bytes a said. rules_told_low finding verbosity (CheckAnswer form) rules bytes a (check_low form rules) (λ words. one_low (is_said words)) said) is
-action_low Gives Read_of InputGives i k verbosity Difference rules files answer is =
-    by_rules_low verbosity Gives (λ set modes. ComparedAnswer Gives verbosity rules set modes (other_of files)) rules answer
-    (λ set modes a told. compared_low Gives verbosity rules set modes (other_of files) a told) is
+action_low Gives texts verbosity (Cut form recovers) rules files answer each is = by_rules_low verbosity Gives (LexerAnswer Gives texts verbosity (Cut form recovers) rules files) rules answer each is
+action_low Gives texts verbosity (Show markup) rules files answer each is = by_rules_low verbosity Gives (LexerAnswer Gives texts verbosity (Show markup) rules files) rules answer each is
+action_low Gives texts verbosity (Emit language) rules files answer each is = by_rules_low verbosity Gives (LexerAnswer Gives texts verbosity (Emit language) rules files) rules answer each is
+action_low Gives texts verbosity Picture rules files answer each is = by_rules_low verbosity Gives (LexerAnswer Gives texts verbosity Picture rules files) rules answer each is
+action_low Gives texts verbosity Difference rules files answer each is = by_rules_low verbosity Gives (LexerAnswer Gives texts verbosity Difference rules files) rules answer each is
 
 pub command_low : {I : Type 0} (Gives : List ℕ → Reading → Type 0) (InputGives : I → I → Reading → Type 0) (i k : I) (command : Command) (answer : Answer)
     → CommandAnswer (GivesWhole Gives) (TextsAnswer Gives InputGives i k) command answer → IsLow answer
 command_low Gives InputGives i k Help answer is = low answer _ is (omega arith)
 command_low Gives InputGives i k Version answer is = low answer _ is (omega arith)
 command_low Gives InputGives i k (Run action verbosity rules files) answer (own, (is, e)) =
-    let a : IsLow own = action_low (GivesWhole Gives) Gives InputGives i k verbosity action rules.now (map (λ file. file.now) files.items) own is in
+    let names = map (λ file. file.now) files.items in
+    let a : IsLow own = action_low (GivesWhole Gives) (TextsAnswer Gives InputGives i k) verbosity action rules.now names own
+    (lexer_answer_low (GivesWhole Gives) Gives InputGives i k verbosity action rules.now names) is in
     low answer _ e (omega arith)

@@ -1,19 +1,14 @@
 -- The answer for what is read of a text, by what was written for it and how cutting ended.
-use Rattle.std.proofs.Common.{Global, ◌≡◌, ℕ, Bool, true, false, List, map, string_bytes, refl, ap, subst, ◌∙◌}
+use Rattle.std.proofs.Common.{Global, ◌≡◌, ℕ, Bool, true, false, List, map, string_bytes, refl, subst}
 use Rattle.std.specs.Prelude.{Option, Result, Ok, Err, IfOk, OnOk, option_map, String}
 use Rattle.std.specs.Bool.{then_some}
 use Rattle.std.specs.Borrow.{Bor}
 use Rattle.std.specs.Io.KnownBytes.{Appends}
-use Rattle.lalrpop_hir.specs.Tree.{Tree}
-use Rattle.lalrpop_hir.specs.declared.token.Token.{Token}
-use Rattle.lalrpop_hir.specs.declared.token.TokenFault.{TokenFault}
 use Rattle.lalrpop_rules.specs.Modes.{ModeRules}
 use Rattle.bajofeki_rules.specs.Stack.{start}
 use Rattle.lalrpop_rules.specs.declared.item.Item.{Item}
 use Rattle.lexdfa_lib.specs.Watch.{Watch}
 use Rattle.lexdfa_lib.specs.declared.error.RunError.{RunError}
-use Rattle.lexdfa_lib.specs.declared.outcome.Outcome.{Outcome}
-use Rattle.lines_lib.specs.TokenLines.{text_lines, outcome_behind, WritesTokens}
 use Rattle.reports_lib.specs.Answer.{Answer}
 use Rattle.reports_lib.specs.ItemLines.{piece_lines}
 use Rattle.reports_lib.specs.declared.layout.LineForm.{LineForm}
@@ -21,7 +16,7 @@ use Rattle.tokens_lib.specs.FileAnswers.{Answered}
 use Rattle.tokens_lib.specs.CutEnds.{IsTextOf, IsCutTo}
 use Rattle.tokens_lib.specs.ItemsWritten.{WritesItems}
 use Rattle.tokens_lib.specs.Streams.{Reading, Takes}
-use Rattle.tokens_lib.specs.TextAnswer.{stop_text, fault_status, stop_of, TextTokens, cut_status, cut_text, CutAnswer, lines_of}
+use Rattle.tokens_lib.specs.TextAnswer.{cut_status, cut_text, CutAnswer, lines_of}
 use Rattle.tokens_lib.specs.Internal.Tasks.{ReadAnswer}
 use Rattle.tokens_lib.specs.declared.cut_end.CutEnd.{CutEnd}
 
@@ -29,39 +24,6 @@ use Rattle.tokens_lib.specs.declared.cut_end.CutEnd.{CutEnd}
 pub then_some-now : (wanted : Bool) (name : Bor (List ℕ)) → option_map (λ (f : Bor (List ℕ)). f.now) (then_some wanted name) ≡ then_some wanted name.now
 then_some-now true name = refl
 then_some-now false name = refl
-
--- ---- by terminals
-
-abbrev pub tokens_told : Bool → List ℕ → List ℕ → List (Result Token TokenFault) → Answer
-tokens_told places file text xs = record {
-  status = fault_status (stop_of (outcome_behind 0 xs));
-  out = text_lines (then_some places file) text xs;
-  err = stop_text file text (stop_of (outcome_behind 0 xs));
-}
-
--- the lines of a text were written, and where cutting stopped was said
-pub tokens_answered : {W E : Type 0} (r : Result ℕ RunError) (ts : List Tree) (ps : List ℕ) (places : Bool) (name : Bor (List ℕ)) (text : List ℕ) (contents : W → Option (List ℕ))
-    (said : E → Option (List ℕ)) (o p : Watch W) (e f : Watch E) (outcome : Outcome) (stop : Option ℕ)
-    → WritesTokens ts ps (option_map (λ (f : Bor (List ℕ)). f.now) (then_some places name)) text (contents o.inner) (contents p.inner) outcome → stop ≡ stop_of outcome
-    → IfOk r (λ status. status ≡ fault_status stop) → OnOk r (Takes said e f (stop_text name.now text stop))
-    → IfOk r (λ status. (answer : Answer) × (TextTokens ts ps places name.now text answer × Answered contents said o p e f status answer))
-tokens_answered (Err error) ts ps places name text contents said o p e f outcome stop writes stop_is is takes = tt
-tokens_answered (Ok status) ts ps places name text contents said o p e f outcome stop (xs, (are, (same, appends))) stop_is is takes =
-    let here : stop ≡ stop_of (outcome_behind 0 xs) = stop_is ∙ ap stop_of same in (
-      tokens_told places name.now text xs,
-      (
-        (xs, (are, refl)),
-        (
-          is ∙ ap fault_status here,
-          (
-            subst (λ (file : Option (List ℕ)). Appends (contents o.inner) (contents p.inner) (text_lines file text xs)) (then_some-now places name) appends,
-            subst (λ (s : Option ℕ). Takes said e f (stop_text name.now text s)) here takes,
-          ),
-        ),
-      ),
-    )
-
--- ---- by named rules
 
 -- the pieces were written that were cut of what was read, and cutting ended so
 abbrev pub Cuts : ModeRules → Bool → (List ℕ → List Item → List ℕ) → Reading → Option (List ℕ) → Option (List ℕ) → CutEnd → Type 0

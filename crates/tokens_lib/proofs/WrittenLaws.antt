@@ -8,10 +8,10 @@ use Rattle.lalrpop_edits.specs.Decoded.{NoCharacter}
 use Rattle.lalrpop_rules.specs.Modes.{ModeRules}
 use Rattle.lalrpop_rules.specs.declared.item.Item.{Item}
 use Rattle.lalrpop_markup.specs.Terminal.{painted}
+use Rattle.lexdfa_lib.proofs.Known.{Appends-none}
 use Rattle.lexdfa_lib.specs.Watch.{AppendsPrefix}
 use Rattle.lexdfa_lib.specs.declared.error.RunError.{RunError}
-use Rattle.lines_lib.specs.declared.text.TextError.TheVariants.{Read}
-use Rattle.lines_lib.proofs.Sending.{Appends-none}
+use Rattle.tokens_lib.specs.declared.cut_end.TextError.TheVariants.{Read}
 use Rattle.reports_lib.specs.declared.layout.Layout.{Layout}
 use Rattle.tokens_lib.specs.CutEnds.{AreGiven, IsCutTo}
 use Rattle.tokens_lib.specs.ItemsWritten.{WritesItems, WritesItemsPart}

@@ -5,7 +5,7 @@ use Rattle.std.specs.List.{list_any, starts_with}
 use Rattle.std.specs.Str.{bytes_eq}
 use Rattle.reports_lib.specs.declared.layout.LineForm.TheVariants.{Plain, Json}
 use Rattle.tokens_lib.specs.declared.command.Action.{Action}
-use Rattle.tokens_lib.specs.declared.command.Action.TheVariants.{Cut, Show, CutByTerminals, Clashes, TerminalClashes, Emit, Picture, Check, Difference}
+use Rattle.tokens_lib.specs.declared.command.Action.TheVariants.{Cut, Show, Clashes, Emit, Picture, Check, Difference}
 use Rattle.tokens_lib.specs.declared.command.ArgumentsError.{ArgumentsError}
 use Rattle.tokens_lib.specs.declared.command.ArgumentsError.TheVariants.{Unknown, NoRules, Apart, NoFiles, NoOther}
 use Rattle.tokens_lib.specs.declared.command.Command.{Command}
@@ -23,10 +23,7 @@ options_of (Cut Json false) = codes "--json" ∷ []
 options_of (Cut Json true) = codes "--recover" ∷ codes "--json" ∷ []
 options_of (Show Html) = codes "--html" ∷ []
 options_of (Show Ansi) = codes "--ansi" ∷ []
-options_of (CutByTerminals false) = codes "--lines" ∷ []
-options_of (CutByTerminals true) = codes "--lines" ∷ codes "--places" ∷ []
 options_of Clashes = codes "--clashes" ∷ []
-options_of TerminalClashes = codes "--lines" ∷ codes "--clashes" ∷ []
 options_of (Emit (C None)) = codes "--emit=c" ∷ []
 options_of (Emit (C (Some prefix))) = codes "--emit=c" ∷ (codes "--prefix=" ++ prefix.now) ∷ []
 options_of (Emit Rust) = codes "--emit=rust" ∷ []
@@ -35,17 +32,16 @@ options_of (Check Plain) = codes "--check" ∷ []
 options_of (Check Json) = codes "--json" ∷ codes "--check" ∷ []
 options_of Difference = codes "--diff" ∷ []
 
--- how many names at most stand behind RULES where no FILE is read: a rule for --dot, the other rules for --diff, none for others
+-- how many names at most stand after RULES where no FILE is read: a rule for --dot, the other rules for --diff, none for others
 abbrev pub most_names : Action → Option ℕ
 most_names Clashes = Some 0
-most_names TerminalClashes = Some 0
 most_names (Emit language) = Some 0
 most_names Picture = Some 1
 most_names (Check form) = Some 0
 most_names Difference = Some 1
 most_names action = None
 
--- these names may stand behind RULES: not more than there may be, and for --diff the other rules
+-- these names may stand after RULES: not more than there may be, and for --diff the other rules
 abbrev pub TakesNames : Action → List (List ℕ) → Type 0
 TakesNames action named = IfSome (most_names action) (λ most. length named ≤ most) × (action ≡ Difference → length named ≡ 1)
 
@@ -55,7 +51,7 @@ has words word = list_any (λ other. bytes_eq other word) words
 
 -- the options of actions, in the order of the table
 abbrev pub action_options : List (List ℕ)
-action_options = codes "--recover" ∷ codes "--json" ∷ codes "--html" ∷ codes "--ansi" ∷ codes "--lines" ∷ codes "--places" ∷ codes "--clashes" ∷ codes "--emit=c" ∷ codes "--emit=rust" ∷ codes "--dot" ∷ codes "--check" ∷ codes "--diff" ∷ []
+action_options = codes "--recover" ∷ codes "--json" ∷ codes "--html" ∷ codes "--ansi" ∷ codes "--clashes" ∷ codes "--emit=c" ∷ codes "--emit=rust" ∷ codes "--dot" ∷ codes "--check" ∷ codes "--diff" ∷ []
 
 -- the option says a prefix
 abbrev pub is_prefix_option : List ℕ → Bool
@@ -97,7 +93,7 @@ IsFilesError action named (NoFiles file) = (most : ℕ) × ((most_names action �
 IsFilesError Difference named NoOther = named ≡ []
 IsFilesError action named error = ⊥
 
--- RULES is missing, or the options don't go together, or the names behind RULES don't fit
+-- RULES is missing, or the options don't go together, or the names after RULES don't fit
 abbrev pub IsRunError : List (List ℕ) → List (List ℕ) → ArgumentsError → Type 0
 IsRunError options names NoRules = names ≡ []
 IsRunError options names (Apart apart) = (names ≢ []) × ((given options ≡ map (λ option. option.now) apart.items) × ((action : Action) → given options ≢ options_of action))

@@ -1,6 +1,6 @@
 -- cases: proofs/Cases/CutEnds.antt
 -- How cutting a text ends that is read as it comes.
-use Rattle.std.specs.Prelude.{◌≡◌, ◌≢◌, ℕ, ◌⊎◌, Bool, true, false, List, [], ◌∷◌, ◌++◌, length, take, Option, Some, None, is_some}
+use Rattle.std.specs.Prelude.{◌≡◌, ◌≢◌, ℕ, ◌⊎◌, Bool, true, false, List, [], ◌∷◌, ◌++◌, length, take, Option, Some, None, is_some, codes, decimal}
 use Rattle.std.specs.Str.{chars, IsUtf8}
 use Rattle.lalrpop_edits.specs.Chunked.{Chunked, Came, IsHeldBack, BeginsFault, MayMatch}
 use Rattle.lalrpop_edits.specs.Decoded.{NoCharacter, IsBegun, IsBad}
@@ -10,12 +10,12 @@ use Rattle.bajofeki_rules.specs.Stack.{Stack, start}
 use Rattle.lalrpop_rule_file.specs.RuleFile.{without_mark}
 use Rattle.lalrpop_rules.specs.declared.item.Item.{Item}
 use Rattle.lalrpop_rules.specs.declared.item.Item.TheVariants.{Fault}
-use Rattle.lines_lib.specs.declared.text.TextError.{TextError}
-use Rattle.lines_lib.specs.declared.text.TextError.TheVariants.{NotText, Read}
 use Rattle.tokens_lib.specs.OpenModes.{open_behind, open_mode}
 use Rattle.tokens_lib.specs.Streams.{Reading, ReadEnd, AtEnd, Failed, NotOpened, LeftOff}
 use Rattle.tokens_lib.specs.declared.cut_end.CutEnd.{CutEnd}
 use Rattle.tokens_lib.specs.declared.cut_end.CutEnd.TheVariants.{Whole, Stopped, Broken}
+use Rattle.tokens_lib.specs.declared.cut_end.TextError.{TextError}
+use Rattle.tokens_lib.specs.declared.cut_end.TextError.TheVariants.{NotText, Read}
 
 -- the text that bytes are, as far as they are one: behind a byte order mark, up to a character that isn't whole, or a byte that is of none; and
 -- the bytes that are left
@@ -31,6 +31,11 @@ abbrev pub first_fault : List Item → Option ℕ
 first_fault [] = None
 first_fault (Fault begin slice ∷ xs) = Some begin
 first_fault (x ∷ xs) = first_fault xs
+
+-- why a text breaks off, in words
+abbrev pub lack_text : TextError → List ℕ
+lack_text (NotText at) = codes "not UTF-8 from byte " ++ (decimal at ++ codes " on")
+lack_text Read = codes "read failed"
 
 -- the text ends within a character, where reading ended; or a read failed; or a byte has come that is of no character, and no more is wanted
 abbrev pub BreaksOff : ReadEnd → List ℕ → List ℕ → TextError → Type 0

@@ -2,14 +2,11 @@
 -- The answer for some files, and how the program's streams are given one.
 use Rattle.std.specs.Prelude.{◌≡◌, ℕ, ◌+◌, ◌⊎◌, Bool, true, false, List, [], ◌∷◌, ◌++◌, length, Option, Ok, Err, codes, if◌then◌else◌}
 use Rattle.std.specs.Io.KnownBytes.{Appends}
-use Rattle.std.specs.Str.{IsUtf8, IsValidUpTo, bytes_eq}
-use Rattle.lalrpop_rule_file.specs.RuleFile.{without_mark}
+use Rattle.std.specs.Str.{bytes_eq}
 use Rattle.lexdfa_lib.specs.Watch.{Watch}
 use Rattle.reports_lib.specs.Answer.{Answer, silence, refusal, remark, followed, about}
 use Rattle.tokens_lib.specs.Progress.{total_said, number_text}
 use Rattle.tokens_lib.specs.Streams.{Given, Reading, NotOpened, Takes}
-use Rattle.lines_lib.specs.Text.{lack_text}
-use Rattle.lines_lib.specs.declared.text.TextError.TheVariants.{NotText}
 use Rattle.tokens_lib.specs.declared.command.Verbosity.{Verbosity}
 
 -- a file gives no bytes, and this is said; or it gives bytes with this answer
@@ -17,12 +14,6 @@ abbrev pub Reads : (List ℕ → Given → Type 0) → (List ℕ → List ℕ �
 Reads Gives IsFor file answer =
     ((reason : List ℕ) × (Gives file (Err reason) × (answer ≡ refusal 6 (about file reason))))
     ⊎ ((bytes : List ℕ) × (Gives file (Ok bytes) × IsFor file bytes answer))
-
--- after a byte order mark, which is left out, the bytes aren't a text, and this is said; or they are one, with this answer
-abbrev pub TextOf : (List ℕ → List ℕ → Answer → Type 0) → List ℕ → List ℕ → Answer → Type 0
-TextOf IsFor file bytes answer =
-    ((at : ℕ) × (IsValidUpTo (without_mark bytes) at × (answer ≡ refusal 6 (about file (lack_text (NotText at))))))
-    ⊎ (IsUtf8 (without_mark bytes) × IsFor file (without_mark bytes) answer)
 
 -- ---- FILEs
 

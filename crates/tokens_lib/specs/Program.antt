@@ -1,21 +1,13 @@
 -- cases: proofs/Cases/Program.antt
 -- The answer of the whole program, for its arguments, what the files give and what standard input gives.
-use Rattle.std.specs.Prelude.{◌≡◌, ℕ, ◌⊎◌, nat_lt, List, [], length, map, slice_get, unwrap_or, Option, Some, None, codes}
-use Rattle.lalrpop_hir.specs.Tree.{Tree}
-use Rattle.bajofeki_rules.specs.Lines.{lines}
+use Rattle.std.specs.Prelude.{◌≡◌, ℕ, ◌⊎◌, nat_lt, List, [], length, map, slice_get, unwrap_or, codes}
 use Rattle.lalrpop_rules.specs.Modes.{ModeRules}
-use Rattle.lexdfa_lib.specs.Answer.{HaveAutomaton, IsReported}
-use Rattle.lexdfa_lib.specs.Status.{outcome_status}
 use Rattle.lexdfa_lib.specs.declared.ending.Failure.{Failure}
 use Rattle.lexdfa_lib.specs.declared.ending.Failure.TheVariants.{Usage, Run as Failing}
 use Rattle.lexdfa_lib.specs.declared.error.RunError.TheVariants as run_errors
-use Rattle.lexdfa_lib.specs.declared.outcome.Outcome.{Outcome}
-use Rattle.lexdfa_lib.specs.declared.outcome.Outcome.TheVariants.{Ambiguous}
-use Rattle.reports_lib.specs.Answer.{Answer, refusal, remark, followed, headed}
+use Rattle.reports_lib.specs.Answer.{Answer, refusal, remark, followed}
 use Rattle.reports_lib.specs.Compared.{DifferenceAnswer}
-use Rattle.reports_lib.specs.Reasons.{SaysTerminals}
 use Rattle.tokens_lib.specs.FileAnswers.{Reads, TextsAnswer, FirstTextsAnswer}
-use Rattle.lines_lib.specs.ClashesShown.{AreClashesShown}
 use Rattle.tokens_lib.specs.Arguments.{joined, options, names}
 use Rattle.tokens_lib.specs.Checked.{CheckAnswer, finding}
 use Rattle.tokens_lib.specs.Command.{IsCommand, IsArgumentsError}
@@ -24,48 +16,20 @@ use Rattle.tokens_lib.specs.Pictured.{PictureAnswer}
 use Rattle.tokens_lib.specs.Progress.{reading_text}
 use Rattle.tokens_lib.specs.NamedRules.{RulesTold, RulesOf, LexerOf, ClashesAnswer}
 use Rattle.tokens_lib.specs.Streams.{Given, Reading, GivesWhole}
-use Rattle.tokens_lib.specs.TextAnswer.{TokensAnswer, PiecesAnswer, PiecesPart, PageAnswer, PagePart}
+use Rattle.tokens_lib.specs.TextAnswer.{PiecesAnswer, PiecesPart, PageAnswer, PagePart}
 use Rattle.tokens_lib.specs.Usage.{help, version, wrong_text}
 use Rattle.tokens_lib.specs.declared.command.Action.{Action}
-use Rattle.tokens_lib.specs.declared.command.Action.TheVariants.{Cut, Show, CutByTerminals, Clashes, TerminalClashes, Emit, Picture, Check, Difference}
+use Rattle.tokens_lib.specs.declared.command.Action.TheVariants.{Cut, Show, Clashes, Emit, Picture, Check, Difference}
 use Rattle.tokens_lib.specs.declared.command.ArgumentsError.{ArgumentsError}
 use Rattle.tokens_lib.specs.declared.command.Command.{Command}
 use Rattle.tokens_lib.specs.declared.command.Command.TheVariants.{Help, Version, Run}
 use Rattle.tokens_lib.specs.declared.command.Verbosity.{Verbosity}
 
--- ---- terminals
-
--- the lines of these bytes make no lexer
-abbrev pub TerminalsRefused : List ℕ → List ℕ → Answer → Type 0
-TerminalsRefused file bytes answer =
-    (outcome : Outcome) × (IsReported bytes outcome × ((said : List ℕ) × (SaysTerminals (lines bytes) outcome said × (answer ≡ refusal (outcome_status outcome) (headed file said)))))
-
--- they don't, or the lexer of their terminals has this answer
-abbrev pub TerminalsOf : (List Tree → List ℕ → Answer → Type 0) → List ℕ → List ℕ → Answer → Type 0
-TerminalsOf IsFor file bytes answer =
-    TerminalsRefused file bytes answer ⊎ ((ts : List Tree) × ((ps : List ℕ) × (HaveAutomaton bytes ts ps × IsFor ts ps answer)))
-
--- the status for a list of clashes, by what is reported; the list of clashes says all, other reports are explained
-abbrev pub reported_status : Option Outcome → ℕ
-reported_status None = 0
-reported_status (Some outcome) = outcome_status outcome
-
-abbrev pub IsListing : List ℕ → List (List ℕ) → Option Outcome → List ℕ → Type 0
-IsListing file ls None said = said ≡ []
-IsListing file ls (Some (Ambiguous i j word)) said = said ≡ []
-IsListing file ls (Some outcome) said = (rest : List ℕ) × (SaysTerminals ls outcome rest × (said ≡ headed file rest))
-
-abbrev pub TerminalClashesAnswer : List ℕ → List ℕ → Answer → Type 0
-TerminalClashesAnswer file bytes answer =
-    (reported : Option Outcome) × (AreClashesShown bytes answer.out reported × ((answer.status ≡ reported_status reported) × IsListing file (lines bytes) reported answer.err))
-
--- ---- the program
-
 -- only something that was asked for is written
 abbrev pub information : List ℕ → Answer
 information out = record { status = 0; out = out; err = [] }
 
--- the other file of rules: the first that is named behind RULES
+-- the other file of rules: the first that is named after RULES
 abbrev pub other_of : List (List ℕ) → List ℕ
 other_of files = unwrap_or (slice_get files 0) []
 
@@ -74,23 +38,22 @@ abbrev pub ComparedAnswer : (List ℕ → Given → Type 0) → Verbosity → Li
 ComparedAnswer Gives verbosity rules r modes other answer =
     Reads Gives (RulesOf verbosity (LexerOf (λ s others. DifferenceAnswer rules r modes other s others))) other answer
 
--- the answer for an action by a file of rules on files, by what is answered to texts
+-- the answer for an action by the lexer of a file of rules on files, by what is answered to texts; a list needs no lexer
+abbrev pub LexerAnswer : (List ℕ → Given → Type 0) → (Verbosity → (List ℕ → Reading → Answer → Type 0) → (List ℕ → Reading → Answer → Type 0) → List (List ℕ) → Answer → Type 0) → Verbosity → Action → List ℕ → List (List ℕ) → ModeRules → List (List ℕ) → Answer → Type 0
+LexerAnswer Gives Texts verbosity (Cut form recovers) rules files r modes answer =
+    Texts verbosity (PiecesAnswer r modes form recovers (nat_lt 1 (length files))) (PiecesPart r modes form recovers (nat_lt 1 (length files))) files answer
+LexerAnswer Gives Texts verbosity (Show markup) rules files r modes answer = Texts verbosity (PageAnswer r modes markup) (PagePart r modes markup) files answer
+LexerAnswer Gives Texts verbosity (Emit language) rules files r modes answer = SourceAnswer language rules r answer
+LexerAnswer Gives Texts verbosity Picture rules files r modes answer = PictureAnswer rules (slice_get files 0) r answer
+LexerAnswer Gives Texts verbosity Difference rules files r modes answer = ComparedAnswer Gives verbosity rules r modes (other_of files) answer
+LexerAnswer Gives Texts verbosity Clashes rules files r modes answer = ⊥
+LexerAnswer Gives Texts verbosity (Check form) rules files r modes answer = ⊥
+
+-- for any action by a file of rules
 abbrev pub ActionAnswer : (List ℕ → Given → Type 0) → (Verbosity → (List ℕ → Reading → Answer → Type 0) → (List ℕ → Reading → Answer → Type 0) → List (List ℕ) → Answer → Type 0) → Verbosity → Action → List ℕ → List (List ℕ) → Answer → Type 0
-ActionAnswer Gives Texts verbosity (Cut form recovers) rules files answer =
-    Reads Gives (RulesOf verbosity (LexerOf (λ r modes. Texts verbosity (PiecesAnswer r modes form recovers (nat_lt 1 (length files))) (PiecesPart r modes form recovers (nat_lt 1 (length files))) files))) rules answer
-ActionAnswer Gives Texts verbosity (Show markup) rules files answer =
-    Reads Gives (RulesOf verbosity (LexerOf (λ r modes. Texts verbosity (PageAnswer r modes markup) (PagePart r modes markup) files))) rules answer
-ActionAnswer Gives Texts verbosity (CutByTerminals places) rules files answer =
-    Reads Gives (TerminalsOf (λ ts ps. Texts verbosity (TokensAnswer ts ps places) (TokensAnswer ts ps places) files)) rules answer
 ActionAnswer Gives Texts verbosity Clashes rules files answer = Reads Gives (RulesOf verbosity ClashesAnswer) rules answer
-ActionAnswer Gives Texts verbosity TerminalClashes rules files answer = Reads Gives TerminalClashesAnswer rules answer
-ActionAnswer Gives Texts verbosity (Emit language) rules files answer =
-    Reads Gives (RulesOf verbosity (LexerOf (λ r modes. SourceAnswer language rules r))) rules answer
-ActionAnswer Gives Texts verbosity Picture rules files answer =
-    Reads Gives (RulesOf verbosity (LexerOf (λ r modes. PictureAnswer rules (slice_get files 0) r))) rules answer
 ActionAnswer Gives Texts verbosity (Check form) rules files answer = Reads Gives (RulesTold finding verbosity (CheckAnswer form)) rules answer
-ActionAnswer Gives Texts verbosity Difference rules files answer =
-    Reads Gives (RulesOf verbosity (LexerOf (λ r modes. ComparedAnswer Gives verbosity rules r modes (other_of files)))) rules answer
+ActionAnswer Gives Texts verbosity action rules files answer = Reads Gives (RulesOf verbosity (LexerOf (LexerAnswer Gives Texts verbosity action rules files))) rules answer
 
 -- the answer for a command; with progress, it says first that the rules are read
 abbrev pub CommandAnswer : (List ℕ → Given → Type 0) → (Verbosity → (List ℕ → Reading → Answer → Type 0) → (List ℕ → Reading → Answer → Type 0) → List (List ℕ) → Answer → Type 0) → Command → Answer → Type 0

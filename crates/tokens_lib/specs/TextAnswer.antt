@@ -1,80 +1,38 @@
 -- cases: proofs/Cases/TextAnswer.antt
 -- The answer for what is read of a text.
-use Rattle.std.specs.Prelude.{◌≡◌, ℕ, Bool, true, false, List, [], ◌++◌, take, drop, Option, Some, None, Result, codes, chars, flat_map}
+use Rattle.std.specs.Prelude.{◌≡◌, ℕ, Bool, true, false, List, [], ◌++◌, Some, None, codes, decimal}
 use Rattle.std.specs.Bool.{then_some}
-use Rattle.lalrpop_hir.specs.Tree.{Tree}
-use Rattle.lalrpop_hir.specs.Tokens.{AreTokens}
-use Rattle.lalrpop_hir.specs.declared.token.Token.{Token}
-use Rattle.lalrpop_hir.specs.declared.token.TokenFault.{TokenFault}
 use Rattle.lalrpop_edits.specs.Chunked.{Chunked}
-use Rattle.bajofeki_rules.specs.Position.{position_of}
 use Rattle.bajofeki_rules.specs.Quoted.{told}
 use Rattle.bajofeki_rules.specs.declared.position.Position.{Position}
 use Rattle.lalrpop_rules.specs.Modes.{ModeRules}
 use Rattle.bajofeki_rules.specs.Stack.{start}
 use Rattle.lalrpop_rules.specs.declared.item.Item.{Item}
-use Rattle.lexdfa_lib.specs.declared.outcome.Outcome.{Outcome}
-use Rattle.lexdfa_lib.specs.declared.outcome.Outcome.TheVariants.{Stopped as StoppedTokens}
-use Rattle.lines_lib.specs.Text.{lack_text}
-use Rattle.lines_lib.specs.TokenLines.{place_in, text_lines, outcome_behind}
-use Rattle.reports_lib.specs.Answer.{Answer, about, refusal}
+use Rattle.reports_lib.specs.Answer.{Answer, about}
 use Rattle.reports_lib.specs.ItemLines.{name_at, piece_lines}
 use Rattle.reports_lib.specs.declared.layout.LineForm.{LineForm}
-use Rattle.tokens_lib.specs.FileAnswers.{TextOf}
-use Rattle.tokens_lib.specs.CutEnds.{IsTextOf, BeginsWith, AreGiven, IsCutTo}
+use Rattle.tokens_lib.specs.CutEnds.{IsTextOf, BeginsWith, AreGiven, IsCutTo, lack_text}
 use Rattle.tokens_lib.specs.PageWritten.{page_of}
-use Rattle.tokens_lib.specs.Streams.{Reading, ReadEnd, AtEnd, Failed, NotOpened, LeftOff}
+use Rattle.tokens_lib.specs.Streams.{Reading}
 use Rattle.tokens_lib.specs.declared.command.Markup.{Markup}
 use Rattle.tokens_lib.specs.declared.cut_end.CutEnd.{CutEnd}
 use Rattle.tokens_lib.specs.declared.cut_end.CutEnd.TheVariants.{Whole, Stopped, Broken}
 
--- the message for a place where nothing of this kind matches; it shows the character there
-abbrev pub fault_text : List ℕ → List ℕ → Position → List ℕ → List ℕ
-fault_text kind file place shown =
-    codes "tokens: " ++ (place_in file place ++ (codes "no " ++ (kind ++ (codes " matches \"" ++ (shown ++ codes "\"\n")))))
+-- a place in a file
+abbrev pub place_in : List ℕ → Position → List ℕ
+place_in file p = file ++ (codes ":" ++ (decimal p.line ++ (codes ":" ++ (decimal p.column ++ codes ": "))))
+
+-- the message for a place where no rule matches; it shows the character there
+abbrev pub fault_text : List ℕ → Position → List ℕ → List ℕ
+fault_text file place shown =
+    codes "tokens: " ++ (place_in file place ++ (codes "no rule matches \"" ++ (shown ++ codes "\"\n")))
 
 -- the message for the end of a text in a mode that was put on top of another one; it shows where
 abbrev pub open_text : List ℕ → List ℕ → Position → List ℕ
 open_text mode file place =
     codes "tokens: " ++ (place_in file place ++ (codes "the text ends in mode " ++ (mode ++ codes ", which was entered here\n")))
 
--- ---- by terminals
-
--- what is said of a place where cutting stopped
-abbrev pub stop_text : List ℕ → List ℕ → Option ℕ → List ℕ
-stop_text file text None = []
-stop_text file text (Some at) = fault_text (codes "terminal") file (position_of text at) (flat_map told (take 1 (chars (drop at text))))
-
--- 1 if there is a fault
-abbrev pub fault_status : Option ℕ → ℕ
-fault_status None = 0
-fault_status (Some at) = 1
-
--- where terminals stopped
-abbrev pub stop_of : Outcome → Option ℕ
-stop_of (StoppedTokens n at) = Some at
-stop_of outcome = None
-
--- a line for each token, with its place if these are wanted, and a last line
-abbrev pub TextTokens : List Tree → List ℕ → Bool → List ℕ → List ℕ → Answer → Type 0
-TextTokens ts ps places file text answer =
-    (xs : List (Result Token TokenFault)) × (AreTokens ts ps text 0 xs × (answer ≡ record {
-      status = fault_status (stop_of (outcome_behind 0 xs));
-      out = text_lines (then_some places file) text xs;
-      err = stop_text file text (stop_of (outcome_behind 0 xs));
-    }))
-
--- the text is read to its end first
-abbrev pub WholeAnswer : (List ℕ → List ℕ → Answer → Type 0) → List ℕ → List ℕ → ReadEnd → Answer → Type 0
-WholeAnswer IsFor file bytes AtEnd answer = TextOf IsFor file bytes answer
-WholeAnswer IsFor file bytes Failed answer = answer ≡ refusal 6 (about file (codes "read failed"))
-WholeAnswer IsFor file bytes (NotOpened reason) answer = ⊥
-WholeAnswer IsFor file bytes LeftOff answer = ⊥
-
-abbrev pub TokensAnswer : List Tree → List ℕ → Bool → List ℕ → Reading → Answer → Type 0
-TokensAnswer ts ps places file reading answer = WholeAnswer (TextTokens ts ps places) file reading.bytes reading.end answer
-
--- ---- by named rules
+-- ---- texts
 
 -- 0 if the text was cut to its end, has no fault, and ends in a mode that has none below it; 6 if it breaks off
 abbrev pub cut_status : CutEnd → ℕ
@@ -87,7 +45,7 @@ cut_status (Broken error) = 6
 abbrev pub cut_text : List (List ℕ) → List ℕ → CutEnd → List ℕ
 cut_text modes file (Whole has_fault None) = []
 cut_text modes file (Whole has_fault (Some o)) = open_text (name_at modes o.mode) file o.place
-cut_text modes file (Stopped place found) = fault_text (codes "rule") file place (told found)
+cut_text modes file (Stopped place found) = fault_text file place (told found)
 cut_text modes file (Broken error) = about file (lack_text error)
 
 -- what is written for the pieces of a text that are cut of what is read, and how that ends

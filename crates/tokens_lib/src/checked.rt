@@ -14,8 +14,8 @@ ghost use Rattle.tokens_lib.specs.Internal.Faults.{NameOnly, is_clash};
 
 use crate::by_rules::report_rules;
 use lalrpop_lexer::lexer::dfa::Clash;
-use lalrpop_rules::{RuleLexer, RulesError, mode_clashes};
 use lalrpop_review::review;
+use lalrpop_rules::{RuleLexer, RulesError, mode_clashes};
 use lexdfa_lib::{RunError, Watched, write_whole};
 use reports_lib::{LineForm, ModeFile, clash_report, has_findings, review_text};
 use std::alloc::{AllocError, Global};

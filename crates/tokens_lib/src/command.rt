@@ -55,38 +55,31 @@ pub enum Language<'words> {
 /// ```
 #[derive(Clone, Copy, Debug, PartialEq, Eq)]
 pub enum Action<'words> {
-    /// The texts are cut by named rules, and the lines of their pieces are written.
+    /// The texts are cut, and the lines of their pieces are written.
     Cut {
         /// What a line looks like.
         form: LineForm,
         /// Whether cutting goes on after a fault.
         recovers: bool,
     },
-    /// The texts are cut by named rules, and shown.
+    /// The texts are cut, and shown.
     Show {
         markup: Markup,
     },
-    /// The texts are cut by terminals, and the lines of their tokens are written.
-    CutByTerminals {
-        /// Whether the line of a token begins with its place.
-        places: bool,
-    },
-    /// The pairs of named rules that clash are listed.
+    /// The pairs of rules that clash are listed.
     Clashes,
-    /// The pairs of terminals that clash are listed.
-    TerminalClashes,
-    /// The lexer of the named rules is written as a source file.
+    /// The lexer of the rules is written as a source file.
     Emit {
         language: Language<'words>,
     },
-    /// The smallest automaton of each mode of the named rules, or of each rule of a name, is written for Graphviz.
+    /// The smallest automaton of each mode, or of each rule of a name, is written for Graphviz.
     Picture,
-    /// The named rules are reviewed, and the lines of the review are written.
+    /// The rules are reviewed, and the lines of the review are written.
     Check {
         /// What a line looks like.
         form: LineForm,
     },
-    /// Two files of named rules are compared, and a text is told from which they make different tokens, if there is one.
+    /// Two files of rules are compared, and a text is told from which they make different tokens, if there is one.
     Difference,
 }
 
@@ -132,7 +125,7 @@ pub enum Command<'words> {
         /// What is said beside what is wrong.
         verbosity: Verbosity,
         rules: &'words str,
-        /// What stands behind RULES: the file of the other rules for `Action::Difference`, at most the name of a rule for
+        /// What stands after RULES: the file of the other rules for `Action::Difference`, at most the name of a rule for
         /// `Action::Picture`, and nothing for the other actions about rules alone.
         files: Vec<&'words str>,
     },
@@ -173,13 +166,11 @@ impl From<AllocError> for ArgumentsError<'_> {
 pub(crate) const WRONG_ARGUMENTS: u8 = 4;
 
 // The options of actions, in the order in which specs/Command.antt has them.
-const ACTION_OPTIONS: [&str; 12] = [
+const ACTION_OPTIONS: [&str; 10] = [
     "--recover",
     "--json",
     "--html",
     "--ansi",
-    "--lines",
-    "--places",
     "--clashes",
     "--emit=c",
     "--emit=rust",
@@ -276,17 +267,14 @@ fn given<'words>(alloc: Global, options: &[&'words str]) -> Result<Vec<&'words s
 }
 
 impl Action<'_> {
-    // How many names at most stand behind RULES, if no FILE is read.
+    // How many names at most stand after RULES, if no FILE is read.
     fn most_names(&self) -> Option<usize>
         ensures { result ≡ most_names self.now }
     {
         match self {
-            Action::Cut { .. } | Action::Show { .. } | Action::CutByTerminals { .. } => None,
+            Action::Cut { .. } | Action::Show { .. } => None,
             Action::Picture | Action::Difference => Some(1),
-            Action::Clashes
-            | Action::TerminalClashes
-            | Action::Emit { .. }
-            | Action::Check { .. } => Some(0),
+            Action::Clashes | Action::Emit { .. } | Action::Check { .. } => Some(0),
         }
     }
 }
@@ -310,7 +298,6 @@ fn action_of_one(option: &str) -> Option<Action<'static>>
         "--ansi" => Some(Action::Show {
             markup: Markup::Ansi,
         }),
-        "--lines" => Some(Action::CutByTerminals { places: false }),
         "--clashes" => Some(Action::Clashes),
         "--emit=c" => Some(Action::Emit {
             language: Language::C { prefix: None },
@@ -355,8 +342,6 @@ fn action_of_two(first: &str, second: &str) -> Option<Action<'static>>
             form: LineForm::Json,
             recovers: true,
         }),
-        ("--lines", "--places") => Some(Action::CutByTerminals { places: true }),
-        ("--lines", "--clashes") => Some(Action::TerminalClashes),
         ("--json", "--check") => Some(Action::Check {
             form: LineForm::Json,
         }),
@@ -408,7 +393,7 @@ fn verbosity_of(options: &[&str]) -> Verbosity
     }
 }
 
-// This action, if these names may stand behind RULES.
+// This action, if these names may stand after RULES.
 fn run_by<'words>(
     action: Action<'words>,
     verbosity: Verbosity,

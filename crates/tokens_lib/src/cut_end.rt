@@ -1,7 +1,38 @@
 //! How cutting a text ends.
+ghost use Rattle.std.specs.Prelude.{Some};
+ghost use Rattle.tokens_lib.specs.CutEnds.{lack_text};
 
 use lalrpop_lexer::Position;
-use lines_lib::TextError;
+use std::error::Error;
+use std::fmt::{self, Display, Formatter};
+
+/// Why a text breaks off.
+///
+/// ```
+/// use tokens_lib::TextError;
+///
+/// let reason = format!(in alloc; "{}", TextError::NotText { at: 3 })?; // not UTF-8 from byte 3 on
+/// ```
+#[derive(Debug, Drop)]
+pub enum TextError {
+    /// The bytes aren't UTF-8: `at` is the offset of the first byte at which no character begins.
+    NotText { at: usize },
+    /// A read failed.
+    Read,
+}
+
+impl Display for TextError {
+    ghost output = { λ error. Some (lack_text error) };
+
+    fn fmt<W: fmt::Write>(&self, f: &mut Formatter<W>) -> fmt::Result {
+        match self {
+            TextError::NotText { at } => write!(f, "not UTF-8 from byte {at} on"),
+            TextError::Read => f.write_str("read failed"),
+        }
+    }
+}
+
+impl Error for TextError {}
 
 /// A mode that was put on top of another one, and in which a text ends.
 ///
@@ -43,6 +74,6 @@ pub enum CutEnd {
         /// The first character of the fault.
         found: char,
     },
-    /// It was cut as far as it is a text, and breaks off for this reason: its bytes aren't UTF-8, or a read failed.
+    /// It was cut as far as it is a text, and breaks off for this reason.
     Broken(TextError),
 }

@@ -1,28 +1,19 @@
 //! Cutting files one after another: the lines or the markup of each are written.
-ghost use Rattle.std.specs.Prelude.{◌≡◌, ◌≢◌, max, take, false, true, map, string_bytes, flat_map, List, ℕ, IfOk, IfSome, OnOk, OnErr, IfErr};
-ghost use Rattle.std.specs.Str.{chars, IsCharBoundary};
-ghost use Rattle.bajofeki_rules.specs.Quoted.{told};
-ghost use Rattle.lines_lib.specs.Text.{lack_text};
-ghost use Rattle.lines_lib.specs.TokenLines.{IsStopOf};
-ghost use Rattle.reports_lib.specs.Answer.{Answer, about, Begun};
-ghost use Rattle.tokens_lib.specs.FileAnswers.{Answered, TextOf, ReadingAnswer, FileAnswer, NumberedAnswer, FilesAnswer, TextsAnswer, FirstFilesAnswer, FirstTextsAnswer};
+ghost use Rattle.std.specs.Prelude.{◌≡◌, ◌≢◌, max, false, true, map, string_bytes, IfOk, OnOk, OnErr, IfErr};
+ghost use Rattle.reports_lib.specs.Answer.{Answer, Begun};
+ghost use Rattle.tokens_lib.specs.FileAnswers.{Answered, ReadingAnswer, FileAnswer, NumberedAnswer, FilesAnswer, TextsAnswer, FirstFilesAnswer, FirstTextsAnswer};
 ghost use Rattle.tokens_lib.specs.Streams.{Takes, StreamGives};
-ghost use Rattle.tokens_lib.specs.TextAnswer.{fault_status, stop_of as stop_in, stop_text, TextTokens, TokensAnswer, cut_status as status_of_cut, cut_text as text_of_cut, PiecesAnswer, PiecesPart, PageAnswer, PagePart};
-ghost use Rattle.tokens_lib.specs.Internal.Tasks.{TaskAnswer, TaskPart, EitherAnswer, ReadAnswer, found_told};
+ghost use Rattle.tokens_lib.specs.TextAnswer.{cut_status as status_of_cut, cut_text as text_of_cut, PiecesAnswer, PiecesPart, PageAnswer, PagePart};
+ghost use Rattle.tokens_lib.specs.Internal.Tasks.{TaskAnswer, TaskPart, EitherAnswer, ReadAnswer};
 
 use crate::command::{Markup, Verbosity};
 use crate::cut_end::CutEnd;
 use crate::fault::{fault_message, lack_message, open_message};
-use crate::files::{
-    Files, INPUT, NO_TEXT, NoBytes, bytes_left, is_input, say, say_about, shown_name,
-};
+use crate::files::{Files, INPUT, NO_TEXT, NoBytes, is_input, say, say_about, shown_name};
 use crate::item_lines::{mode_name, write_items};
 use crate::page::write_page;
 use crate::progress::{number_message, total_said};
-use lalrpop_lexer::{Lexer, Position};
-use lalrpop_rule_file::without_mark;
-use lexdfa_lib::{Outcome, RunError, Watched};
-use lines_lib::{TextError, write_tokens};
+use lexdfa_lib::{RunError, Watched};
 use reports_lib::{FileLexer, Layout, LineForm};
 use std::alloc::{AllocError, Global};
 use std::io::{Read, Write};
@@ -30,13 +21,7 @@ use std::io::{Read, Write};
 /// What is done with each text.
 #[derive(Clone, Copy)]
 pub(crate) enum Task<'rules> {
-    /// It is cut by terminals, and the lines of its tokens are written.
-    Tokens {
-        lexer: &'rules Lexer,
-        /// Whether the line of a token begins with its place.
-        places: bool,
-    },
-    /// It is cut by named rules, and the lines of its pieces are written.
+    /// It is cut, and the lines of its pieces are written.
     Pieces {
         rules: &'rules FileLexer,
         form: LineForm,
@@ -45,195 +30,16 @@ pub(crate) enum Task<'rules> {
         /// Whether there are several files, so that each line names its own.
         several: bool,
     },
-    /// It is cut by named rules, and written as markup.
+    /// It is cut, and written as markup.
     Markup {
         rules: &'rules FileLexer,
         markup: Markup,
     },
 }
 
-// ---- by terminals
+// ---- texts
 
-// Where terminals stopped.
-fn stop_of(outcome: &Outcome) -> Option<usize>
-    ensures stop { result ≡ stop_in outcome.now }
-    ensures boundary { (text : List ℕ) → IsStopOf text outcome.now
-        → IfSome result (IsCharBoundary text) }
-{
-    match outcome {
-        Outcome::Stopped { at, .. } => Some(*at),
-        _ => None,
-    }
-}
-
-// The first character of the text, if it has one.
-fn first_char(text: &str) -> Option<char>
-    ensures { found_told result ≡ flat_map told (take 1 (chars text.now)) }
-{
-    text.chars().next()
-}
-
-// The line that says where terminals stopped; nothing if they didn't.
-fn stop_message(
-    alloc: Global,
-    name: &str,
-    text: &str,
-    stop: Option<usize>,
-) -> Result<String, AllocError>
-    requires boundary { IfSome stop (IsCharBoundary text.now) }
-    ensures message { IfOk result (λ message.
-        string_bytes message ≡ stop_text name.now text.now stop) }
-{
-    match stop {
-        Some(at) => {
-            let place = Position::of(text, at);
-            fault_message(alloc, "terminal", name, place, first_char(&text[at..]))
-        }
-        None => Ok(String::new(alloc)),
-    }
-}
-
-// Says where terminals stopped, if they did, and returns the status.
-fn tell_stop<E: Write>(
-    alloc: Global,
-    name: &str,
-    text: &str,
-    stop: Option<usize>,
-    err: &mut Watched<E>,
-) -> Result<u8, RunError>
-    requires boundary { IfSome stop (IsCharBoundary text.now) }
-    ensures status { IfOk result (λ status. status ≡ fault_status stop) }
-    ensures said { OnOk result
-        (Takes E.contents err.old err.new (stop_text name.now text.now stop)) }
-    ensures memory { IfErr result (λ e. e ≡ RunError.OutOfMemory) }
-    ensures no_late_message { err.new.late ≡ err.old.late }
-{
-    let Ok(message) = stop_message(alloc, name, text, stop) else {
-        return Err(RunError::OutOfMemory);
-    };
-    say(message.as_str(), err);
-    Ok(u8::from(stop.is_some()))
-}
-
-// Cuts a text by terminals, writes the lines of its tokens, and returns the status.
-fn cut_text<W: Write, E: Write>(
-    alloc: Global,
-    lexer: &Lexer,
-    places: bool,
-    name: &str,
-    text: &str,
-    out: &mut Watched<W>,
-    err: &mut Watched<E>,
-) -> Result<u8, RunError>
-    requires out_good { out.old.failed ≡ false }
-    ensures answer { IfOk result (λ status. (answer : Answer)
-        × (TextTokens lexer.now.trees lexer.now.precedences places name.now text.now answer
-        × Answered W.contents E.contents out.old out.new err.old err.new status answer)) }
-    ensures good { OnOk result (out.new.failed ≡ false) }
-    ensures begun { OnErr result (Begun (TextTokens lexer.now.trees lexer.now.precedences places
-        name.now text.now)
-        (W.contents out.old.inner) (W.contents out.new.inner)) }
-    ensures memory { IfErr result (λ e. e ≡ RunError.OutOfMemory → out.new.failed ≡ false) }
-    ensures write { IfErr result (λ e. e ≡ RunError.Write → out.new.failed ≡ true) }
-    ensures read { IfErr result (λ e. e ≢ RunError.Read) }
-    ensures no_late_write { out.new.late ≡ out.old.late }
-    ensures no_late_message { err.new.late ≡ err.old.late }
-{
-    let outcome = write_tokens(alloc, lexer, places.then_some(name), text, out)?;
-    tell_stop(alloc, name, text, stop_of(&outcome), err)
-}
-
-// Says why the text of a file ends early, and returns the status.
-fn refuse_bytes<E: Write>(
-    alloc: Global,
-    name: &str,
-    lack: &TextError,
-    err: &mut Watched<E>,
-) -> Result<u8, RunError>
-    ensures status { IfOk result (λ status. status ≡ 6) }
-    ensures said { OnOk result
-        (Takes E.contents err.old err.new (about name.now (lack_text lack.now))) }
-    ensures memory { IfErr result (λ e. e ≡ RunError.OutOfMemory) }
-    ensures no_late_message { err.new.late ≡ err.old.late }
-{
-    let Ok(message) = lack_message(alloc, name, lack) else {
-        return Err(RunError::OutOfMemory);
-    };
-    say(message.as_str(), err);
-    Ok(NO_TEXT)
-}
-
-// Cuts the text that these bytes are by terminals, writes the lines of its tokens, and returns the status.
-fn cut_bytes<W: Write, E: Write>(
-    alloc: Global,
-    lexer: &Lexer,
-    places: bool,
-    name: &str,
-    bytes: Vec<u8>,
-    out: &mut Watched<W>,
-    err: &mut Watched<E>,
-) -> Result<u8, RunError>
-    requires out_good { out.old.failed ≡ false }
-    ensures answer { IfOk result (λ status. (answer : Answer)
-        × (TextOf (TextTokens lexer.now.trees lexer.now.precedences places)
-        name.now bytes.items answer
-        × Answered W.contents E.contents out.old out.new err.old err.new status answer)) }
-    ensures good { OnOk result (out.new.failed ≡ false) }
-    ensures begun { OnErr result (Begun (TextOf (TextTokens lexer.now.trees lexer.now.precedences places)
-        name.now bytes.items)
-        (W.contents out.old.inner) (W.contents out.new.inner)) }
-    ensures memory { IfErr result (λ e. e ≡ RunError.OutOfMemory → out.new.failed ≡ false) }
-    ensures write { IfErr result (λ e. e ≡ RunError.Write → out.new.failed ≡ true) }
-    ensures read { IfErr result (λ e. e ≢ RunError.Read) }
-    ensures no_late_write { out.new.late ≡ out.old.late }
-    ensures no_late_message { err.new.late ≡ err.old.late }
-{
-    match simdutf8::compat::from_utf8(without_mark(&bytes)) {
-        Ok(text) => cut_text(alloc, lexer, places, name, text, out, err),
-        Err(error) => {
-            let lack = TextError::NotText {
-                at: error.valid_up_to(),
-            };
-            refuse_bytes(alloc, name, &lack, err)
-        }
-    }
-}
-
-// Cuts what is read by terminals, writes the lines of its tokens, and returns the status. It is read to its end first.
-fn cut_tokens<R: Read, W: Write, E: Write>(
-    alloc: Global,
-    lexer: &Lexer,
-    places: bool,
-    name: &str,
-    reader: &mut Watched<R>,
-    out: &mut Watched<W>,
-    err: &mut Watched<E>,
-) -> Result<u8, RunError>
-    requires out_good { out.old.failed ≡ false }
-    ensures answer { IfOk result (λ status. (answer : Answer)
-        × (ReadAnswer (StreamGives R.remaining reader.old reader.new)
-        (TokensAnswer lexer.now.trees lexer.now.precedences places name.now) answer
-        × Answered W.contents E.contents out.old out.new err.old err.new status answer)) }
-    ensures good { OnOk result (out.new.failed ≡ false) }
-    ensures begun { OnErr result (Begun (ReadAnswer (StreamGives R.remaining reader.old reader.new)
-        (TokensAnswer lexer.now.trees lexer.now.precedences places name.now))
-        (W.contents out.old.inner) (W.contents out.new.inner)) }
-    ensures memory { IfErr result (λ e. e ≡ RunError.OutOfMemory → out.new.failed ≡ false) }
-    ensures write { IfErr result (λ e. e ≡ RunError.Write → out.new.failed ≡ true) }
-    ensures read { IfErr result (λ e. e ≢ RunError.Read) }
-    ensures no_late_read { reader.new.late ≡ reader.old.late }
-    ensures no_late_write { out.new.late ≡ out.old.late }
-    ensures no_late_message { err.new.late ≡ err.old.late }
-{
-    match bytes_left(alloc, name, reader, err)? {
-        Some(bytes) => cut_bytes(alloc, lexer, places, name, bytes, out, err),
-        None => Ok(NO_TEXT),
-    }
-}
-
-// ---- by named rules
-
-// The status of a text that named rules cut.
+// The status of a text that was cut.
 fn status_of(end: &CutEnd) -> u8
     ensures { result ≡ status_of_cut end.now }
 {
@@ -262,9 +68,7 @@ fn end_message(
             Some(open) => open_message(alloc, mode_name(modes, open.mode), name, open.place),
             None => Ok(String::new(alloc)),
         },
-        CutEnd::Stopped { place, found } => {
-            fault_message(alloc, "rule", name, *place, Some(*found))
-        }
+        CutEnd::Stopped { place, found } => { fault_message(alloc, name, *place, *found) }
         CutEnd::Broken(error) => lack_message(alloc, name, error),
     }
 }
@@ -290,7 +94,7 @@ fn tell_end<E: Write>(
     Ok(status_of(end))
 }
 
-// Cuts what is read by named rules, writes the lines of its pieces, and returns the status.
+// Cuts what is read, writes the lines of its pieces, and returns the status.
 fn cut_pieces<R: Read, W: Write, E: Write>(
     alloc: Global,
     rules: &FileLexer,
@@ -333,7 +137,7 @@ fn cut_pieces<R: Read, W: Write, E: Write>(
     tell_end(alloc, &rules.modes, name, &end, err)
 }
 
-// Cuts what is read by named rules, writes it as markup, and returns the status.
+// Cuts what is read, writes it as markup, and returns the status.
 fn cut_page<R: Read, W: Write, E: Write>(
     alloc: Global,
     rules: &FileLexer,
@@ -393,9 +197,6 @@ fn run_task<R: Read, W: Write, E: Write>(
     ensures no_late_message { err.new.late ≡ err.old.late }
 {
     match *task {
-        Task::Tokens { lexer, places } => {
-            cut_tokens(alloc, lexer, places, name, reader, out, err)
-        }
         Task::Pieces {
             rules,
             form,

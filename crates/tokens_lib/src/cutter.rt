@@ -11,14 +11,13 @@ ghost use Rattle.tokens_lib.specs.OpenModes.{pushed, pushed_all};
 ghost use Rattle.tokens_lib.specs.Internal.CutTexts.{Comes, GivesCut, IsCutInto, end_by, open_place, opened_by};
 ghost use Rattle.tokens_lib.specs.Internal.Incoming.{IsIncoming};
 
-use crate::cut_end::{CutEnd, OpenMode};
+use crate::cut_end::{CutEnd, OpenMode, TextError};
 use crate::incoming::{Brought, Incoming};
 use lalrpop_edits::GivenPiece;
 use lalrpop_lexer::Position;
 use lalrpop_lexer::lexer::dfa::NfaIndex;
 use lalrpop_rules::{Action, RuleLexer};
 use lexdfa_lib::{RunError, Watched};
-use lines_lib::TextError;
 use std::alloc::{AllocError, Global};
 use std::io::Read;
 

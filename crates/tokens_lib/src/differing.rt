@@ -13,7 +13,7 @@ use reports_lib::{FileLexer, write_difference};
 use std::alloc::Global;
 use std::io::Write;
 
-/// The name of the other file of rules: the first name behind RULES, or the empty string if there is none.
+/// The name of the other file of rules: the first name after RULES, or the empty string if there is none.
 pub(crate) fn other_of<'name>(names: &[&'name str]) -> &'name str
     ensures other { result.now ≡ other_of (map (λ name. name.now) names.now) }
 {

@@ -1,14 +1,13 @@
 //! The messages for a place where nothing matches, for a text that ends in a mode that has one below it, and for a file that
 //! gives no text.
-ghost use Rattle.std.specs.Prelude.{◌≡◌, ◌++◌, codes, string_bytes, IfOk, OnOk};
-ghost use Rattle.lines_lib.specs.Text.{lack_text};
-ghost use Rattle.lines_lib.specs.TokenLines.{place_in};
+ghost use Rattle.std.specs.Prelude.{◌≡◌, ◌++◌, codes, string_bytes, IfOk};
+ghost use Rattle.bajofeki_rules.specs.Quoted.{told};
 ghost use Rattle.reports_lib.specs.Answer.{about};
-ghost use Rattle.tokens_lib.specs.TextAnswer.{fault_text, open_text};
-ghost use Rattle.tokens_lib.specs.Internal.Tasks.{found_told};
+ghost use Rattle.tokens_lib.specs.CutEnds.{lack_text};
+ghost use Rattle.tokens_lib.specs.TextAnswer.{fault_text, open_text, place_in};
 
+use crate::cut_end::TextError;
 use lalrpop_lexer::{Position, push_escaped_char};
-use lines_lib::TextError;
 use reports_lib::about;
 use std::alloc::{AllocError, Global};
 
@@ -29,17 +28,6 @@ pub(crate) fn lack_message(
     about(alloc, file, &reason)
 }
 
-// The character, if there is one.
-fn push_found(message: &mut String, found: Option<char>) -> Result<(), AllocError>
-    ensures { OnOk result
-        (string_bytes message.new ≡ string_bytes message.old ++ found_told found) }
-{
-    match found {
-        Some(c) => push_escaped_char(message, c),
-        None => Ok(()),
-    }
-}
-
 // How a message about a place begins.
 fn placed(alloc: Global, file: &str, place: Position) -> Result<String, AllocError>
     ensures { IfOk result (λ message.
@@ -49,7 +37,7 @@ fn placed(alloc: Global, file: &str, place: Position) -> Result<String, AllocErr
     format!(in alloc; "tokens: {file}:{line}:{column}: ")
 }
 
-/// The line that says where no terminal or no rule (`kind`) matches, so that the text couldn't be cut further, and shows the
+/// The line that says where no rule matches, so that the text couldn't be cut further, and shows the
 /// character that was found there.
 ///
 /// # Errors
@@ -57,19 +45,16 @@ fn placed(alloc: Global, file: &str, place: Position) -> Result<String, AllocErr
 /// `AllocError` if a request for memory was refused.
 pub(crate) fn fault_message(
     alloc: Global,
-    kind: &str,
     file: &str,
     place: Position,
-    found: Option<char>,
+    found: char,
 ) -> Result<String, AllocError>
     ensures message { IfOk result (λ message.
-        string_bytes message ≡ fault_text kind.now file.now place (found_told found)) }
+        string_bytes message ≡ fault_text file.now place (told found)) }
 {
     let mut message = placed(alloc, file, place)?;
-    message.push_str("no ")?;
-    message.push_str(kind)?;
-    message.push_str(" matches \"")?;
-    push_found(&mut message, found)?;
+    message.push_str("no rule matches \"")?;
+    push_escaped_char(&mut message, found)?;
     message.push_str("\"\n")?;
     Ok(message)
 }

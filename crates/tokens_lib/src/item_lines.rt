@@ -3,13 +3,12 @@ ghost use Rattle.std.specs.Prelude.{◌≡◌, ◌≢◌, false, true, IfOk, OnO
 ghost use Rattle.tokens_lib.specs.ItemsWritten.{WritesItems, WritesItemsPart};
 ghost use Rattle.tokens_lib.specs.Streams.{Reading, StreamGives};
 
-use crate::cut_end::CutEnd;
+use crate::cut_end::{CutEnd, TextError};
 use crate::pieces::write_pieces;
 pub(crate) use crate::sheet::mode_name;
 use crate::sheet::{Form, Sheet};
 use lalrpop_rules::RuleLexer;
 use lexdfa_lib::{RunError, Watched};
-use lines_lib::TextError;
 use reports_lib::Layout;
 use std::alloc::Global;
 use std::io::{Read, Write};

@@ -1,9 +1,8 @@
-//! The program `tokens`, which cuts files by a file of named rules or of terminals, one a line, and its parts.
+//! The program `tokens`, which cuts files by a file of rules, and its parts.
 #![tactic(auto)]
 
 mod arguments;
 mod by_rules;
-mod by_terminals;
 mod checked;
 mod command;
 mod cut_end;
@@ -27,17 +26,16 @@ mod usage;
 mod warnings;
 
 pub use command::{Action, ArgumentsError, Command, Language, Markup, Verbosity, command_of};
-pub use cut_end::{CutEnd, OpenMode};
+pub use cut_end::{CutEnd, OpenMode, TextError};
 pub use files::{Files, NoBytes};
 pub use item_lines::write_items;
-pub use lalrpop_lexer::{Lexer, Token, TokenFault};
-pub use lalrpop_rules::{Action as ModeAction, RuleLexer, ModeRule, RulesError, mode_clashes};
 pub use lalrpop_rule_file::{RuleFile, RuleFileError, Warning, read_rules};
-pub use lalrpop_rules::Rule;
-pub use lines_lib::{BuildError, TextError, lexer_of, read_text, write_clashes, write_tokens};
+pub use lalrpop_rules::{
+    Action as ModeAction, ModeRule, Rule, RuleLexer, RulesError, mode_clashes,
+};
 pub use page::write_page;
 pub use program::{run, run_program};
 pub use reports_lib::{
-    Layout, LineForm, ModeFile, bad_line_message, rules_message, terminals_message,
-    warnings_message, write_rule_clashes,
+    Layout, LineForm, ModeFile, bad_line_message, rules_message, warnings_message,
+    write_rule_clashes,
 };

@@ -5,13 +5,12 @@ ghost use Rattle.tokens_lib.specs.Streams.{Reading, StreamGives};
 ghost use Rattle.tokens_lib.specs.Internal.CutTexts.{IsPageForm};
 
 use crate::command::Markup;
-use crate::cut_end::CutEnd;
+use crate::cut_end::{CutEnd, TextError};
 use crate::pieces::write_pieces;
 use crate::sheet::{Form, Sheet};
 use lalrpop_markup::Painter;
 use lalrpop_rules::RuleLexer;
 use lexdfa_lib::{RunError, Watched};
-use lines_lib::TextError;
 use std::alloc::Global;
 use std::io::{Read, Write};
 

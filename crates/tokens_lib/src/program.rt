@@ -1,18 +1,18 @@
 //! The program `tokens`: its arguments, what it says if it fails, and its exit status.
-ghost use Rattle.std.specs.Prelude.{◌≡◌, ◌≢◌, ◌≤◌, false, true, map, length, nat_lt, string_bytes, IfOk, OnOk, OnErr, IfErr};
+ghost use Rattle.std.specs.Prelude.{◌≡◌, ◌≢◌, ◌≤◌, None, false, true, map, length, nat_lt, string_bytes, IfOk, OnOk, OnErr, IfErr};
 ghost use Rattle.std.specs.Io.KnownBytes.{Appends};
 ghost use Rattle.std.specs.Process.{exit_status};
 ghost use Rattle.lexdfa_lib.specs.Watch.{AppendsPrefix};
 ghost use Rattle.reports_lib.specs.Answer.{Answer, Begun};
 ghost use Rattle.tokens_lib.specs.FileAnswers.{Answered, TextsAnswer, FirstTextsAnswer};
-ghost use Rattle.tokens_lib.specs.Program.{ActionAnswer, CommandAnswer, IsAnswer, IsFirstAnswer, failure_text};
+ghost use Rattle.tokens_lib.specs.Program.{ActionAnswer, CommandAnswer, IsAnswer, IsFirstAnswer, LexerAnswer, failure_text};
 ghost use Rattle.tokens_lib.specs.Progress.{reading_text};
 ghost use Rattle.tokens_lib.specs.Streams.{GivesWhole, StreamGives, Takes};
 ghost use Rattle.tokens_lib.specs.Usage.{help, version, wrong_text};
+ghost use Rattle.tokens_lib.specs.Internal.Listings.{listing_of};
 
 use crate::arguments::joined;
 use crate::by_rules::lexer_by_name;
-use crate::by_terminals::{list_terminal_clashes, terminals_by_name};
 use crate::command::{Action, ArgumentsError, Command, Verbosity, WRONG_ARGUMENTS, command_of};
 use crate::cut_files::{Task, cut_all};
 use crate::differing::{compare_with, other_of};
@@ -24,6 +24,7 @@ use crate::pictured::write_pictures;
 use crate::progress::reading_message;
 use crate::usage::{help, version, wrong_text};
 use lexdfa_lib::{Failure, RunError, Watched, flushed, status_of, without_arguments, write_whole};
+use reports_lib::FileLexer;
 use std::alloc::Global;
 use std::env;
 use std::io::{self, Eprint, Read, Write};
@@ -52,6 +53,83 @@ fn are_several(names: &[&str]) -> bool
     ensures { result ≡ nat_lt 1 (length (map (λ name. name.now) names.now)) }
 {
     names.len() > 1
+}
+
+// What an action lists, if it lists something.
+fn listing_of(action: Action<'_>) -> Option<Listing>
+    ensures { result ≡ listing_of action.entry }
+{
+    match action {
+        Action::Clashes => Some(Listing::Clashes),
+        Action::Check { form } => Some(Listing::Review(form)),
+        Action::Cut { .. }
+        | Action::Show { .. }
+        | Action::Emit { .. }
+        | Action::Picture
+        | Action::Difference => None,
+    }
+}
+
+// Does an action by the lexer of a file of rules on the files, or on standard input if there are none, and returns the status.
+fn run_by_lexer<F: Files, R: Read, W: Write, E: Write>(
+    alloc: Global,
+    action: Action<'_>,
+    verbosity: Verbosity,
+    rules: &str,
+    found: &FileLexer,
+    names: &[&str],
+    files: &F,
+    input: &mut Watched<R>,
+    out: &mut Watched<W>,
+    err: &mut Watched<E>,
+) -> Result<u8, RunError>
+    requires out_good { out.old.failed ≡ false }
+    requires no_list { listing_of action ≡ None }
+    ensures answer { IfOk result (λ status. (answer : Answer)
+        × (LexerAnswer (GivesWhole (F.gives files.now)) (TextsAnswer (F.gives files.now)
+        (StreamGives R.remaining) input.old input.new) verbosity action.entry rules.now
+        (map (λ name. name.now) names.now) found.now.lexer
+        (map string_bytes found.now.modes.items) answer
+        × Answered W.contents E.contents out.old out.new err.old err.new status answer)) }
+    ensures good { OnOk result (out.new.failed ≡ false) }
+    ensures begun { OnErr result (Begun (LexerAnswer (GivesWhole (F.gives files.now))
+        (FirstTextsAnswer (F.gives files.now) (StreamGives R.remaining) input.old) verbosity
+        action.entry rules.now (map (λ name. name.now) names.now) found.now.lexer
+        (map string_bytes found.now.modes.items))
+        (W.contents out.old.inner) (W.contents out.new.inner)) }
+    ensures memory { IfErr result (λ e. e ≡ RunError.OutOfMemory → out.new.failed ≡ false) }
+    ensures write { IfErr result (λ e. e ≡ RunError.Write → out.new.failed ≡ true) }
+    ensures read { IfErr result (λ e. e ≢ RunError.Read) }
+    ensures no_late_read { input.new.late ≡ input.old.late }
+    ensures no_late_write { out.new.late ≡ out.old.late }
+    ensures no_late_message { err.new.late ≡ err.old.late }
+{
+    match action {
+        Action::Cut { form, recovers } => {
+            let task = Task::Pieces {
+                rules: found,
+                form,
+                recovers,
+                several: are_several(names),
+            };
+            cut_all(alloc, &task, verbosity, files, names, input, out, err)
+        }
+        Action::Show { markup } => {
+            let task = Task::Markup {
+                rules: found,
+                markup,
+            };
+            cut_all(alloc, &task, verbosity, files, names, input, out, err)
+        }
+        Action::Emit { language } => write_source(alloc, rules, &found.lexer, language, out, err),
+        Action::Picture => write_pictures(alloc, rules, &found.lexer, names, out, err),
+        Action::Difference => {
+            let other = other_of(names);
+            compare_with(alloc, verbosity, files, rules, found, other, out, err)
+        }
+        // These list something.
+        Action::Clashes | Action::Check { .. } => unreachable!(),
+    }
 }
 
 // Does an action by a file of rules on the files, or on standard input if there are none, and returns the status.
@@ -84,72 +162,11 @@ fn run_action<F: Files, R: Read, W: Write, E: Write>(
     ensures no_late_write { out.new.late ≡ out.old.late }
     ensures no_late_message { err.new.late ≡ err.old.late }
 {
-    match action {
-        Action::Cut { form, recovers } => match lexer_by_name(
-            alloc, verbosity, files, rules, err,
-        )? {
-            Ok(found) => {
-                let task = Task::Pieces {
-                    rules: &found,
-                    form,
-                    recovers,
-                    several: are_several(names),
-                };
-                cut_all(alloc, &task, verbosity, files, names, input, out, err)
-            }
-            Err(status) => Ok(status),
-        },
-        Action::Show { markup } => match lexer_by_name(alloc, verbosity, files, rules, err)? {
-            Ok(found) => {
-                let task = Task::Markup {
-                    rules: &found,
-                    markup,
-                };
-                cut_all(alloc, &task, verbosity, files, names, input, out, err)
-            }
-            Err(status) => Ok(status),
-        },
-        Action::CutByTerminals { places } => match terminals_by_name(alloc, files, rules, err)? {
-            Ok(lexer) => {
-                let task = Task::Tokens {
-                    lexer: &lexer,
-                    places,
-                };
-                cut_all(alloc, &task, verbosity, files, names, input, out, err)
-            }
-            Err(status) => Ok(status),
-        },
-        Action::Clashes => list_rules(alloc, Listing::Clashes, verbosity, files, rules, out, err),
-        Action::TerminalClashes => list_terminal_clashes(alloc, files, rules, out, err),
-        Action::Emit { language } => match lexer_by_name(alloc, verbosity, files, rules, err)? {
-            Ok(found) => write_source(alloc, rules, &found.lexer, language, out, err),
-            Err(status) => Ok(status),
-        },
-        Action::Picture => match lexer_by_name(alloc, verbosity, files, rules, err)? {
-            Ok(found) => write_pictures(alloc, rules, &found.lexer, names, out, err),
-            Err(status) => Ok(status),
-        },
-        Action::Check { form } => {
-            list_rules(
-                alloc,
-                Listing::Review(form),
-                verbosity,
-                files,
-                rules,
-                out,
-                err,
-            )
-        }
-        Action::Difference => match lexer_by_name(alloc, verbosity, files, rules, err)? {
-            Ok(found) => compare_with(
-                alloc,
-                verbosity,
-                files,
-                rules,
-                &found,
-                other_of(names),
-                out,
-                err,
+    match listing_of(action) {
+        Some(listing) => list_rules(alloc, listing, verbosity, files, rules, out, err),
+        None => match lexer_by_name(alloc, verbosity, files, rules, err)? {
+            Ok(found) => run_by_lexer(
+                alloc, action, verbosity, rules, &found, names, files, input, out, err,
             ),
             Err(status) => Ok(status),
         },
@@ -240,13 +257,12 @@ fn refuse<E: Write>(
 }
 
 /// Does what the arguments say (`command_of`): writes what was asked of the program itself; cuts the files, or standard input
-/// if none is named, by the file of rules that is named first, and writes the lines of `write_items` or, by terminals, of
-/// `write_tokens`, or the markup of each text, to `out`; or lists all clashes of the rules (`write_rule_clashes`) or terminals
-/// (`write_clashes`); or writes the lexer of the rules in C or Rust (`lalrpop_emit`), or pictures of their automata
-/// (`lalrpop_verdicts`). A file `-` is standard input: it is read where it stands, and a later `-` reads what is left. After a read
-/// that failed it isn't read again. A text that named rules cut is read and answered as it comes, and no further than it is
-/// wanted; one that terminals cut is read to its end first. What is wrong is explained on `err`, behind the warnings about a file of named
-/// rules (`warnings_message`), which `--quiet` leaves out; if a write there fails, nothing more is said, and the run goes on.
+/// if none is named, by the file of rules that is named first, and writes the lines of `write_items`, or the markup of each
+/// text, to `out`; or lists all clashes of the rules (`write_rule_clashes`); or writes the lexer of the rules in C or Rust
+/// (`lalrpop_emit`), or pictures of their automata (`lalrpop_verdicts`). A file `-` is standard input: it is read where it
+/// stands, and a later `-` reads what is left. After a read that failed it isn't read again. A text is read and answered as it
+/// comes, and no further than it is wanted. What is wrong is explained on `err`, after the warnings about the file of rules
+/// (`warnings_message`), which `--quiet` leaves out; if a write there fails, nothing more is said, and the run goes on.
 ///
 /// `--check` reads the rules alone. If some clash, it writes all clashes; otherwise it writes a review (`lalrpop_review`): the
 /// rules that match the empty text, and for each mode the rules that never win and how large its automaton is. `--diff` reads two

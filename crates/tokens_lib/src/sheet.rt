@@ -7,8 +7,7 @@ ghost use Rattle.tokens_lib.specs.Internal.CutTexts.{goes_on, line_here, piece_s
 use lalrpop_lexer::Position;
 use lalrpop_lexer::lexer::dfa::NfaIndex;
 use lalrpop_markup::{Painter, push_html};
-use lalrpop_rules::RuleLexer;
-use lalrpop_rules::Item;
+use lalrpop_rules::{Item, RuleLexer};
 use reports_lib::{Layout, LineForm, Shown, push_json, push_plain};
 use std::alloc::{AllocError, Global};
 

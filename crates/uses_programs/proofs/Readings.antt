@@ -14,7 +14,7 @@ use Rattle.lalrpop_rules.specs.Modes.{ModeRules}
 use Rattle.lalrpop_rule_file.specs.RuleFile.{without_mark}
 use Rattle.lalrpop_rules.specs.declared.item.Item.{Item}
 use Rattle.lexdfa_lib.specs.Watch.{Watch}
-use Rattle.lines_lib.specs.declared.text.TextError.TheVariants.{NotText}
+use Rattle.tokens_lib.specs.declared.cut_end.TextError.TheVariants.{NotText}
 use Rattle.tokens_lib.specs.CutEnds.{BreaksOff, IsCutTo, IsTextOf}
 use Rattle.tokens_lib.specs.Streams.{EndsReading, ReadEnd, Reading, AtEnd, Failed, NotOpened, LeftOff, StreamGives}
 use Rattle.tokens_lib.specs.declared.cut_end.CutEnd.{CutEnd}

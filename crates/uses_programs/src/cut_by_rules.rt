@@ -17,7 +17,7 @@ ghost use Rattle.tokens_lib.specs.Streams.{AtEnd, Reading, StreamGives};
 
 use lalrpop_lexer::Position;
 use lalrpop_lexer::lexer::dfa::Clash;
-use lalrpop_rules::{RuleLexer, ModeRule};
+use lalrpop_rules::{ModeRule, RuleLexer};
 use lexdfa_lib::{RunError, Watched};
 use std::alloc::Global;
 use std::io::{Read, Write};

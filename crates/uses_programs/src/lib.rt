@@ -2,10 +2,8 @@
 //! promises what follows from them.
 #![tactic(auto)]
 
-pub mod cut_a_file;
 pub mod cut_by_rules;
 pub mod end_a_program;
-pub mod list_clashes;
 pub mod quote_a_slice;
 pub mod read_rules;
 pub mod run_over_ends;

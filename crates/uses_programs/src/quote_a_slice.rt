@@ -1,9 +1,8 @@
 //! Slices and words in quotes, and what follows from the laws for callers, which the proofs here cite.
-ghost use Rattle.std.specs.Prelude.{◌≡◌, ◌↔◌, ◌∷◌, [], ◌++◌, IsTrue, decimal, false, true, IfOk, OnOk, IfSome, codes, string_bytes};
+ghost use Rattle.std.specs.Prelude.{◌≡◌, ◌↔◌, ◌++◌, IsTrue, false, true, IfOk, OnOk, IfSome, codes, string_bytes};
 ghost use Rattle.bajofeki_rules.specs.Quoted.{is_unseen, quoted, told};
 
 use lalrpop_lexer::{ShownWord, is_unseen, push_escaped_char, push_quoted, quoted};
-use lines_lib::push_numbers;
 use std::alloc::{AllocError, Global};
 
 // Needs lalrpop_lexer::quoted: quoted.
@@ -115,25 +114,4 @@ pub fn push_field(alloc: Global, bytes: &mut Vec<u8>, slice: &str) -> Result<(),
 {
     bytes.push(b',')?;
     push_quoted(alloc, bytes, slice)
-}
-
-// Needs lines_lib::push_numbers: returns.
-/// The slice in quotes behind a line and a column.
-///
-/// # Errors
-///
-/// `AllocError` if a request for memory was refused.
-pub fn quoted_at(
-    alloc: Global,
-    line: usize,
-    column: usize,
-    slice: &str,
-) -> Result<Vec<u8>, AllocError>
-    ensures at { IfOk result (λ bytes. bytes.items
-        ≡ (decimal line ++ (58 ∷ (decimal column ++ (32 ∷ [])))) ++ quoted slice.now) }
-{
-    let mut bytes = Vec::new(alloc);
-    push_numbers(&mut bytes, line, b':', column, b' ')?;
-    push_quoted(alloc, &mut bytes, slice)?;
-    Ok(bytes)
 }

@@ -1,17 +1,14 @@
 //! What the program says of files that give no lexer, said by a program of one's own.
 ghost use Rattle.std.specs.Prelude.{◌≡◌, ℕ, List, [], codes, length, string_bytes, IfOk, IfSome};
-ghost use Rattle.bajofeki_rules.specs.Lines.{lines};
-ghost use Rattle.lexdfa_lib.specs.Answer.{IsReported};
 ghost use Rattle.tokens_lib.specs.Answer.{headed};
-ghost use Rattle.tokens_lib.specs.Reasons.{SaysBadLine, SaysTerminals, place_at, placed, refusal_text};
+ghost use Rattle.tokens_lib.specs.Reasons.{SaysBadLine, place_at, placed, refusal_text};
 ghost use Rattle.tokens_lib.specs.Warned.{AreWarnings};
 
 use lalrpop_lexer::lexer::nfa::NfaConstructionError;
-use lexdfa_lib::Outcome;
 use std::alloc::{AllocError, Global};
 use tokens_lib::{
-    ModeFile, RulesError, RuleFile, RuleFileError, bad_line_message, rules_message,
-    terminals_message, warnings_message,
+    ModeFile, RuleFile, RuleFileError, RulesError, bad_line_message, rules_message,
+    warnings_message,
 };
 
 // Needs tokens_lib::bad_line_message: message.
@@ -55,20 +52,6 @@ pub fn said_of_what_is_meant(alloc: Global, file: &RuleFile<'_>) -> Result<Strin
     ensures said { IfOk result (λ message. string_bytes message ≡ []) }
 {
     warnings_message(alloc, "f", file)
-}
-
-// Needs tokens_lib::terminals_message: message.
-pub fn said_of_terminals(
-    alloc: Global,
-    bytes: &[u8],
-    outcome: &Outcome,
-) -> Result<String, AllocError>
-    requires reported { IsReported bytes.now outcome.now }
-    ensures said { IfOk result (λ message. (said : List ℕ)
-        × (SaysTerminals (lines bytes.now) outcome.now said
-        × (string_bytes message ≡ headed (codes "f") said))) }
-{
-    terminals_message(alloc, "f", bytes, outcome)
 }
 
 // How many modes a file has.

@@ -52,7 +52,6 @@ pub record IsPrepaid (old new : Matching) (found : Option (ℕ × Bor (List ℕ)
   pub never_falls : before + old.spare ≤ after + new.spare
   pub paid : (n : ℕ) → ReadsAtMost old.automaton n → IfSome found (λ m. after + new.spare ≤ before + (n + 2) * length (chars m.1.now) + old.spare)
   pub cost : IfNone found (after + new.spare ≤ before + length (chars (rest_of old)) + old.spare)
-  pub read : before + characters_of (option_map (λ m. m.1.now) found) ≤ after
 
 -- with one
 pub record IsPaidFor (old new : Matching) (found : Option (ℕ × Bor (List ℕ))) (before after : ℕ) : Type 0 where

@@ -1,7 +1,6 @@
 //! The automaton of a list of patterns.
 
 pub use lalrpop_build::{Clash, DfaConstructionError, NfaIndex, Precedence, build_dfa, clashes};
-pub use lalrpop_dense::{DenseDfa, DenseTable, Matcher, TableCells, TokenEnd, TokenEnds};
 pub use lalrpop_dfa::{
     Dfa, DfaStateIndex, Kind, START, State, Witness, interpret, lookahead, lookahead_witness,
 };

@@ -1,11 +1,10 @@
 -- Cases of specs/Reasons.antt.
-use Rattle.std.proofs.Common.{◌≡◌, ◌≢◌, ℕ, inl, inr, List, [], ◌∷◌, ◌++◌, codes, decimal, get_or, length, length-append, refl, ap, arith, Bor, Some}
+use Rattle.std.proofs.Common.{◌≡◌, ◌≢◌, ℕ, List, [], ◌∷◌, ◌++◌, codes, decimal, get_or, length, length-append, refl, ap, arith, Bor, Some}
 use Rattle.std.specs.Fmt.{digits}
 use Rattle.std.specs.Str.{chars}
 use Rattle.lalrpop_hir.specs.declared.error.NfaConstructionError.TheVariants.{LookAround, NonGreedy}
 use Rattle.lalrpop_re.specs.declared.error.SyntaxKind.TheVariants.{UnclosedGroup, UnopenedGroup}
 use Rattle.bajofeki_rules.specs.declared.position.Position.{Position}
-use Rattle.bajofeki_rules.specs.Quoted.{quoted_word}
 use Rattle.bajofeki_rules.specs.declared.rule_text.RuleText.TheVariants.{Pattern}
 use Rattle.lalrpop_rule_file.specs.RuleFault.{reason_of}
 use Rattle.lalrpop_re.specs.declared.from_to_error.FromToError.TheVariants.{EmptyEnd, LongEnd}
@@ -13,8 +12,7 @@ use Rattle.lalrpop_rules.specs.declared.error.RulesError.TheVariants.{NotParsed,
 use Rattle.bajofeki_rules.specs.declared.rule.Rule.{Rule}
 use Rattle.lalrpop_rule_file.specs.declared.error.LineFault.TheVariants.{NoEquals}
 use Rattle.lalrpop_rule_file.specs.declared.error.RuleFileError.TheVariants.{BadLine, NoSuchMode}
-use Rattle.lexdfa_lib.specs.declared.outcome.Outcome.TheVariants.{NoMatch, Refused, Ambiguous, Line}
-use Rattle.reports_lib.specs.Reasons.{syntax_text, refusal_text, bad_end_text, clash_advice, mode_said, parsed_text, numbered, placed, clash_text, SaysBadLine, place_at, text_at, SaysRules, SaysNoTerminal, IsPatternColumn, SaysSyntax, SaysTerminals}
+use Rattle.reports_lib.specs.Reasons.{syntax_text, refusal_text, bad_end_text, clash_advice, mode_said, parsed_text, placed, clash_text, SaysBadLine, place_at, text_at, SaysRules}
 
 -- ---- in words
 
@@ -39,10 +37,6 @@ advice_for_the_empty_word e = let k : 78 ≡ 71 = ap (λ (l : List ℕ). get_or 
 
 -- ---- messages
 
-message_about_a_line : numbered 3 (codes "why") (codes "    x\n") ≡ codes "3: why\n    x\n"
-unfolding digits
-message_about_a_line = refl
-
 message_about_a_place : placed 2 7 (codes "why") (codes "    x\n") ≡ codes "2:7: why\n    x\n"
 unfolding digits
 message_about_a_place = refl
@@ -63,7 +57,7 @@ clash_turned : clash_text 1 (codes "A") 2 (codes "B") [] (codes "\"a\"") [] [] �
 unfolding digits
 clash_turned e = let k : 49 ≡ 50 = ap (λ (l : List ℕ). get_or l 0 0) e in omega (arith, k)
 
--- ---- named rules
+-- ---- rules
 
 -- a bad line is told with its place and the reason; and nothing else is said of it
 bad_line : SaysBadLine (BadLine 2 7 NoEquals) (placed 2 7 (reason_of NoEquals) (codes "    A /x/\n"))
@@ -106,56 +100,3 @@ another_end e = let k : 116 ≡ 110 = ap (λ (l : List ℕ). get_or l 0 0) e in 
 
 no_word_of_memory : (modes : List (List ℕ)) (rs : List Rule) (places : List Position) (said : List ℕ) → ¬ SaysRules modes rs places OutOfMemory said
 no_word_of_memory modes rs places said says = says
-
--- ---- terminals
-
--- a line of another form, and one that isn't UTF-8
-another_form : SaysNoTerminal 2 (codes "x") (numbered 2 (codes "a line is `P l TEXT` or `P r PATTERN`, with a precedence P") (codes "    x\n"))
-unfolding lib.Utf8.encode
-another_form = inl ((codes "x", (refl, refl)), (codes "x\n", refl))
-
-not_utf8 : (line : List ℕ) → ¬ SaysNoTerminal 2 line (numbered 3 (codes "this line isn't UTF-8") [])
-unfolding digits
-not_utf8 line (inl (utf8, (shown, e))) = let k : 51 ≡ 50 = ap (λ (l : List ℕ). get_or l 0 0) e in omega (arith, k)
-not_utf8 line (inr (none, e)) = let k : 51 ≡ 50 = ap (λ (l : List ℕ). get_or l 0 0) e in omega (arith, k)
-
--- the pattern of `0 r *a` begins in column 5
-column_of_a_pattern : IsPatternColumn (codes "0 r *a") 5
-unfolding lib.Utf8.encode chars
-column_of_a_pattern = record {
-  precedence = 0;
-  text = codes "*a";
-  is_line = record {
-    digits = codes "0";
-    parts = refl;
-    precedence = record { numeral = (omega arith, (omega arith, tt)); short = omega arith; value = refl; fits = omega arith };
-    utf8 = (codes "0 r *a", (refl, refl));
-  };
-  position = 0;
-  inside = (omega arith, λ a b. omega (arith, b));
-  counted = refl;
-}
-
--- none begins before that
-no_column_before : (line : List ℕ) → ¬ IsPatternColumn line 3
-no_column_before line h = let k = h.counted in omega (arith, k)
-
-unclosed_group : (line : List ℕ) (column : ℕ) → IsPatternColumn line column → SaysSyntax 2 line (placed 2 column (syntax_text UnclosedGroup) (codes "x"))
-unclosed_group line column is = (column, (is, (UnclosedGroup, (codes "x", refl))))
-
-nothing_said : (line : List ℕ) → ¬ SaysSyntax 2 line []
-nothing_said line (column, (is, (kind, (shown, e)))) = absurd (omega (arith, ap length e, length-append (decimal 2) (codes ":" ++ (decimal column ++ (codes ": " ++ (syntax_text kind ++ (codes "\n" ++ shown)))))))
-
--- the second line, which is number 1, is told as 2
-second_line : (ls : List (List ℕ)) → SaysTerminals ls (Refused 1 LookAround) (numbered 2 (refusal_text LookAround) (codes "    1 r ^\n"))
-second_line ls = (codes "1 r ^\n", refl)
-
-clash_of_two : (ls : List (List ℕ)) → SaysTerminals ls (Ambiguous 1 0 (97 ∷ [])) (clash_text 2 (codes "this terminal") 1 (codes "that") [] (quoted_word (97 ∷ [])) [] (clash_advice (97 ∷ [])))
-clash_of_two ls = ([], refl)
-
--- there is no second line
-no_such_line : (said : List ℕ) → ¬ SaysTerminals (codes "x" ∷ []) (Line 1) said
-no_such_line said (line, (there, says)) = absurd (cc)
-
-no_outcome_of_a_text : (ls : List (List ℕ)) (said : List ℕ) → ¬ SaysTerminals ls NoMatch said
-no_outcome_of_a_text ls said says = says

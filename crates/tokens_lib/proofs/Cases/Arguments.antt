@@ -6,7 +6,7 @@ use Rattle.tokens_lib.specs.Arguments.{is_end, is_option, joined, options, names
 ends : (is_end (codes "--") ≡ true) × (is_end (codes "---") ≡ false) × (is_end (codes "-") ≡ false)
 ends = (refl, refl, refl)
 
-are_options : (is_option (codes "--places") ≡ true) × (is_option (codes "-x") ≡ false) × (is_option (codes "-") ≡ false) × (is_option [] ≡ false)
+are_options : (is_option (codes "--json") ≡ true) × (is_option (codes "-x") ≡ false) × (is_option (codes "-") ≡ false) × (is_option [] ≡ false)
 are_options = (refl, refl, refl, refl)
 
 -- options and names may stand among each other

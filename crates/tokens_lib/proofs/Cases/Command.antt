@@ -5,7 +5,7 @@ use Rattle.std.proofs.lemmas.Option.{slice_get_within}
 use Rattle.reports_lib.specs.declared.layout.LineForm.TheVariants.{Plain, Json}
 use Rattle.tokens_lib.specs.Command.{given, unknown, options_of, verbosity_of, most_names, TakesNames, IsFilesError, IsCommand, IsArgumentsError}
 use Rattle.tokens_lib.specs.declared.command.Action.{Action}
-use Rattle.tokens_lib.specs.declared.command.Action.TheVariants.{Cut, Show, CutByTerminals, Clashes, TerminalClashes, Emit, Picture, Check, Difference}
+use Rattle.tokens_lib.specs.declared.command.Action.TheVariants.{Cut, Show, Clashes, Emit, Picture, Check, Difference}
 use Rattle.tokens_lib.specs.declared.command.ArgumentsError.{ArgumentsError}
 use Rattle.tokens_lib.specs.declared.command.ArgumentsError.TheVariants.{NoRules, NoFiles, NoOther}
 use Rattle.tokens_lib.specs.declared.command.Command.TheVariants.{Help, Version}
@@ -14,7 +14,7 @@ use Rattle.tokens_lib.specs.declared.command.Markup.TheVariants.{Html, Ansi}
 use Rattle.tokens_lib.specs.declared.command.Verbosity.TheVariants.{Quiet, Warnings, Progress}
 
 -- a set of options: neither order nor number matters
-a_set : given (codes "--places" ∷ codes "--lines" ∷ codes "--places" ∷ []) ≡ options_of (CutByTerminals true)
+a_set : given (codes "--json" ∷ codes "--recover" ∷ codes "--json" ∷ []) ≡ options_of (Cut Json true)
 a_set = refl
 
 known_options : (unknown (codes "--json" ∷ []) ≡ None) × (unknown (codes "--json" ∷ codes "--jsn" ∷ codes "--x" ∷ []) ≡ Some (codes "--jsn"))
@@ -25,28 +25,9 @@ quiet : (unknown (codes "--progress" ∷ codes "--quiet" ∷ []) ≡ None) × (g
     × (verbosity_of (codes "--progress" ∷ codes "--quiet" ∷ []) ≡ Quiet) × (verbosity_of (codes "--json" ∷ codes "--progress" ∷ []) ≡ Progress) × (verbosity_of [] ≡ Warnings)
 quiet = (refl, refl, refl, refl, refl)
 
--- no action has the options of another
-recovers_in_json : given (codes "--json" ∷ codes "--recover" ∷ []) ≡ options_of (Cut Json true)
-recovers_in_json = refl
-
-places_alone : (action : Action) → given (codes "--places" ∷ []) ≢ options_of action
-places_alone (Cut Plain false) e = absurd (cc)
-places_alone (Cut Plain true) e = absurd (cc)
-places_alone (Cut Json false) e = absurd (cc)
-places_alone (Cut Json true) e = absurd (cc)
-places_alone (Show Html) e = absurd (cc)
-places_alone (Show Ansi) e = absurd (cc)
-places_alone (CutByTerminals false) e = absurd (cc)
-places_alone (CutByTerminals true) e = absurd (cc)
-places_alone Clashes e = absurd (cc)
-places_alone TerminalClashes e = absurd (cc)
-places_alone (Emit (C None)) e = absurd (cc)
-places_alone (Emit (C (Some prefix))) e = absurd (cc)
-places_alone (Emit Rust) e = absurd (cc)
-places_alone Picture e = absurd (cc)
-places_alone (Check Plain) e = absurd (cc)
-places_alone (Check Json) e = absurd (cc)
-places_alone Difference e = absurd (cc)
+-- an option that there isn't
+no_such_option : unknown (codes "--json" ∷ codes "--lines" ∷ []) ≡ Some (codes "--lines")
+no_such_option = refl
 
 -- a lexer in C, with a prefix or without, and one in Rust; two prefixes are no action's, nor is a prefix with Rust
 emits : (given (codes "--emit=c" ∷ []) ≡ options_of (Emit (C None)))
@@ -61,10 +42,7 @@ two_prefixes (Cut Json false) e = absurd (cc)
 two_prefixes (Cut Json true) e = absurd (cc)
 two_prefixes (Show Html) e = absurd (cc)
 two_prefixes (Show Ansi) e = absurd (cc)
-two_prefixes (CutByTerminals false) e = absurd (cc)
-two_prefixes (CutByTerminals true) e = absurd (cc)
 two_prefixes Clashes e = absurd (cc)
-two_prefixes TerminalClashes e = absurd (cc)
 two_prefixes (Emit (C None)) e = absurd (cc)
 two_prefixes (Emit (C (Some prefix))) e = absurd (cc)
 two_prefixes (Emit Rust) e = absurd (cc)
@@ -80,10 +58,7 @@ prefix_of_rust (Cut Json false) e = absurd (cc)
 prefix_of_rust (Cut Json true) e = absurd (cc)
 prefix_of_rust (Show Html) e = absurd (cc)
 prefix_of_rust (Show Ansi) e = absurd (cc)
-prefix_of_rust (CutByTerminals false) e = absurd (cc)
-prefix_of_rust (CutByTerminals true) e = absurd (cc)
 prefix_of_rust Clashes e = absurd (cc)
-prefix_of_rust TerminalClashes e = absurd (cc)
 prefix_of_rust (Emit (C None)) e = absurd (cc)
 prefix_of_rust (Emit (C (Some prefix))) e = absurd (cc)
 prefix_of_rust (Emit Rust) e = absurd (cc)
@@ -165,9 +140,7 @@ none_or_first action (first ∷ named) most other = inr (NoFiles (record { ref_p
 error_or_fit : (action : Action) (named : List (List ℕ)) → TakesNames action named ⊎ ((error : ArgumentsError) × IsFilesError action named error)
 error_or_fit (Cut form recovers) named = inl (tt, λ e. absurd (cc (e)))
 error_or_fit (Show markup) named = inl (tt, λ e. absurd (cc (e)))
-error_or_fit (CutByTerminals places) named = inl (tt, λ e. absurd (cc (e)))
 error_or_fit Clashes named = none_or_first Clashes named refl (λ e. absurd (cc (e)))
-error_or_fit TerminalClashes named = none_or_first TerminalClashes named refl (λ e. absurd (cc (e)))
 error_or_fit (Emit language) named = none_or_first (Emit language) named refl (λ e. absurd (cc (e)))
 error_or_fit Picture [] = inl (omega arith, λ e. absurd (cc (e)))
 error_or_fit Picture (rule ∷ []) = inl (omega arith, λ e. absurd (cc (e)))

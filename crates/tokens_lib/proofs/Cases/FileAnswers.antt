@@ -2,12 +2,9 @@
 use Rattle.std.proofs.Common.{◌≡◌, ℕ, zero, suc, inl, inr, List, [], ◌∷◌, ◌++◌, codes, refl, ap, subst, arith, false}
 use Rattle.std.specs.Prelude.{Some, None}
 use Rattle.reports_lib.specs.Answer.{Answer, silence, refusal, followed}
-use Rattle.tokens_lib.specs.FileAnswers.{TextOf, shown_name, FileGives, ReadingAnswer, FileAnswer, NumberedAnswer, FilesAnswer, FirstFilesAnswer, cut_files, TextsAnswer, FirstTextsAnswer}
+use Rattle.tokens_lib.specs.FileAnswers.{shown_name, FileGives, ReadingAnswer, FileAnswer, NumberedAnswer, FilesAnswer, FirstFilesAnswer, cut_files, TextsAnswer, FirstTextsAnswer}
 use Rattle.std.specs.Fmt.{digits}
-use Rattle.std.specs.Str.{IsUtf8}
-use Rattle.std.proofs.lemmas.Str.{IsUtf8-nil}
 use Rattle.tokens_lib.specs.Streams.{Reading, AtEnd, Failed, NotOpened}
-use Rattle.tokens_lib.specs.TextAnswer.{WholeAnswer}
 use Rattle.tokens_lib.specs.declared.command.Verbosity.TheVariants.{Warnings, Progress}
 
 -- ---- FILEs
@@ -96,16 +93,6 @@ told : (IsFor : List ℕ → Reading → Answer → Type 0) (reading : Reading) 
 unfolding digits
 told IsFor reading gives is = (refusal 1 (codes "b"), ((reading, (gives, is)), refl))
 
--- ---- texts
-
--- no bytes are a text; and a byte order mark is left out
-empty_text : (IsFor : List ℕ → List ℕ → Answer → Type 0) (file : List ℕ) (answer : Answer) → IsFor file [] answer → TextOf IsFor file [] answer
-empty_text IsFor file answer is = inr (IsUtf8-nil, is)
-
-unmarked : (IsFor : List ℕ → List ℕ → Answer → Type 0) (file : List ℕ) (answer : Answer) → IsUtf8 (codes "a") → IsFor file (codes "a") answer
-    → TextOf IsFor file (239 ∷ 187 ∷ 191 ∷ codes "a") answer
-unmarked IsFor file answer utf8 is = inr (utf8, is)
-
 -- ---- the first texts
 
 -- before the first file nothing is written
@@ -124,10 +111,11 @@ no_such_file Own Part ([], (rest, (j, (e, inr (file, (more, (is, part))))))) = a
 no_such_file Own Part (file ∷ front, (rest, (j, (e, is)))) = absurd (cc)
 
 -- a read of standard input fails, where no FILE is named
-input_alone : (Gives : List ℕ → Reading → Type 0) (InputGives : ℕ → ℕ → Reading → Type 0) (IsFor : List ℕ → List ℕ → Answer → Type 0) (PartFor : List ℕ → Reading → Answer → Type 0)
+input_alone : (Gives : List ℕ → Reading → Type 0) (InputGives : ℕ → ℕ → Reading → Type 0) (IsFor PartFor : List ℕ → Reading → Answer → Type 0)
     → InputGives 0 1 (record { bytes = codes "a"; end = Failed })
-    → TextsAnswer Gives InputGives 0 1 Progress (λ file reading. WholeAnswer IsFor file reading.bytes reading.end) PartFor [] (refusal 6 (codes "tokens: <stdin>: read failed\n"))
-input_alone Gives InputGives IsFor PartFor gives = (
+    → IsFor (codes "<stdin>") (record { bytes = codes "a"; end = Failed }) (refusal 6 (codes "tokens: <stdin>: read failed\n"))
+    → TextsAnswer Gives InputGives 0 1 Progress IsFor PartFor [] (refusal 6 (codes "tokens: <stdin>: read failed\n"))
+input_alone Gives InputGives IsFor PartFor gives is = (
   1,
   (
     refusal 6 (codes "tokens: <stdin>: read failed\n"),
@@ -136,7 +124,7 @@ input_alone Gives InputGives IsFor PartFor gives = (
       (
         (
           refusal 6 (codes "tokens: <stdin>: read failed\n"),
-          ((record { bytes = codes "a"; end = Failed }, (gives, inr refl)), refl),
+          ((record { bytes = codes "a"; end = Failed }, (gives, inr is)), refl),
         ),
         ((refl, refl), refl),
       ),

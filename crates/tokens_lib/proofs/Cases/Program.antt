@@ -1,14 +1,13 @@
 -- Cases of specs/Program.antt.
-use Rattle.std.proofs.Common.{◌≡◌, ◌≢◌, ℕ, false, inl, List, [], ◌∷◌, Some, None, codes, get_or, map, refl, ap, arith, Vec, Bor, Global}
+use Rattle.std.proofs.Common.{◌≡◌, ◌≢◌, ℕ, false, inl, List, [], ◌∷◌, codes, get_or, map, refl, ap, arith, Vec, Bor, Global}
 use Rattle.std.specs.Prelude.{Err}
 use Rattle.lalrpop_rules.specs.Modes.{ModeRules}
 use Rattle.lexdfa_lib.specs.declared.ending.Failure.TheVariants.{Usage, Run as Failing}
 use Rattle.lexdfa_lib.specs.declared.error.RunError.TheVariants.{Read, Write}
-use Rattle.lexdfa_lib.specs.declared.outcome.Outcome.TheVariants.{Ambiguous, Line}
 use Rattle.reports_lib.specs.Answer.{Answer, refusal, about}
 use Rattle.reports_lib.specs.declared.layout.LineForm.TheVariants.{Plain}
 use Rattle.tokens_lib.specs.Command.{IsCommand}
-use Rattle.tokens_lib.specs.Program.{reported_status, IsListing, failure_text, information, IsFirstAnswer, other_of, ComparedAnswer}
+use Rattle.tokens_lib.specs.Program.{failure_text, information, IsFirstAnswer, other_of, ComparedAnswer}
 use Rattle.tokens_lib.specs.Streams.{Given, Reading, NotOpened}
 use Rattle.tokens_lib.specs.declared.command.Command.{Command}
 use Rattle.tokens_lib.specs.Usage.{help}
@@ -16,14 +15,6 @@ use Rattle.tokens_lib.specs.declared.command.Action.TheVariants.{Cut}
 use Rattle.tokens_lib.specs.declared.command.Command.TheVariants.{Help, Version, Run}
 use Rattle.tokens_lib.specs.declared.command.Verbosity.{Verbosity}
 use Rattle.tokens_lib.specs.declared.command.Verbosity.TheVariants.{Progress}
-
--- terminals that make a lexer, and a bad line
-reports : (reported_status None ≡ 0) × (reported_status (Some (Line 2)) ≡ 3)
-reports = (refl, refl)
-
--- nothing is said of a clash that is listed
-listed : (ls : List (List ℕ)) → ¬ IsListing (codes "f") ls (Some (Ambiguous 1 0 [])) (codes "a")
-listed ls e = absurd (cc)
 
 -- a failed write, and an argument that isn't UTF-8
 failures : failure_text (Failing Write) ≡ codes "tokens: write failed\n"

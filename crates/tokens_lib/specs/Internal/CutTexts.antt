@@ -30,7 +30,7 @@ use Rattle.tokens_lib.specs.declared.cutter.Coming.TheVariants.{More, Nothing, N
 use Rattle.tokens_lib.specs.declared.cutter.Cutter.{Cutter}
 use Rattle.tokens_lib.specs.declared.sheet.Form.{Form}
 use Rattle.tokens_lib.specs.declared.sheet.Form.TheVariants.{Lines, Html, Ansi}
-use Rattle.lines_lib.specs.declared.text.TextError.TheVariants.{NotText, Read}
+use Rattle.tokens_lib.specs.declared.cut_end.TextError.TheVariants.{NotText, Read}
 
 -- ---- places
 

@@ -1,21 +1,18 @@
 -- What is done with each text.
-use Rattle.std.specs.Prelude.{ℕ, ◌⊎◌, List, [], map, string_bytes, Option, Some, None}
-use Rattle.bajofeki_rules.specs.Quoted.{told}
+use Rattle.std.specs.Prelude.{ℕ, ◌⊎◌, List, map, string_bytes}
 use Rattle.reports_lib.specs.Answer.{Answer}
 use Rattle.tokens_lib.specs.Streams.{Reading}
-use Rattle.tokens_lib.specs.TextAnswer.{TokensAnswer, PiecesAnswer, PiecesPart, PageAnswer, PagePart}
+use Rattle.tokens_lib.specs.TextAnswer.{PiecesAnswer, PiecesPart, PageAnswer, PagePart}
 use Rattle.tokens_lib.specs.declared.cut_files.Task.{Task}
-use Rattle.tokens_lib.specs.declared.cut_files.Task.TheVariants.{Tokens, Pieces, Markup}
+use Rattle.tokens_lib.specs.declared.cut_files.Task.TheVariants.{Pieces, Markup}
 
 -- the answer of a task for what is read of a file
 abbrev pub TaskAnswer : Task → List ℕ → Reading → Answer → Type 0
-TaskAnswer (Tokens lexer places) = TokensAnswer lexer.now.trees lexer.now.precedences places
 TaskAnswer (Pieces rules form recovers several) = PiecesAnswer rules.now.lexer (map string_bytes rules.now.modes.items) form recovers several
 TaskAnswer (Markup rules markup) = PageAnswer rules.now.lexer (map string_bytes rules.now.modes.items) markup
 
 -- for a part of it, before a run failed
 abbrev pub TaskPart : Task → List ℕ → Reading → Answer → Type 0
-TaskPart (Tokens lexer places) = TokensAnswer lexer.now.trees lexer.now.precedences places
 TaskPart (Pieces rules form recovers several) = PiecesPart rules.now.lexer (map string_bytes rules.now.modes.items) form recovers several
 TaskPart (Markup rules markup) = PagePart rules.now.lexer (map string_bytes rules.now.modes.items) markup
 
@@ -26,8 +23,3 @@ EitherAnswer IsFor PartFor file reading answer = IsFor file reading answer ⊎ P
 -- what is read so has this answer
 abbrev pub ReadAnswer : (Reading → Type 0) → (Reading → Answer → Type 0) → Answer → Type 0
 ReadAnswer Gives IsFor answer = (reading : Reading) × (Gives reading × IsFor reading answer)
-
--- how the character is told that was found, if there is one
-abbrev pub found_told : Option ℕ → List ℕ
-found_told None = []
-found_told (Some c) = told c

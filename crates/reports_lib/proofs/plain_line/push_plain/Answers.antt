@@ -1,6 +1,5 @@
 use Rattle.std.proofs.Common.{ℕ, List, ◌++◌, decimal, ap, ◌∙◌}
-use Rattle.lines_lib.proofs.Appended.{around_numbers}
-use Rattle.reports_lib.proofs.Pushes.{six_pushed}
+use Rattle.reports_lib.proofs.Pushes.{six_pushed, around_numbers}
 use Rattle.reports_lib.proofs.plain_line.push_plain.Goals as goal
 
 pub returns : goal.returns

@@ -5,7 +5,7 @@ use Rattle.tokens_lib.specs.Internal.Tasks.{TaskAnswer, TaskPart}
 use Rattle.tokens_lib.specs.Streams.{StreamGives}
 use Rattle.tokens_lib.proofs.AnswerLaws.{files_more, Answered-again}
 use Rattle.tokens_lib.proofs.BegunLaws.{files_begun, numbered_begun}
-use Rattle.lines_lib.proofs.Sending.{at_any_error}
+use Rattle.tokens_lib.proofs.Errors.{at_any_error}
 use Rattle.tokens_lib.proofs.cut_files.cut_each.Goals as goal
 
 abbrev text : Bor (List ℕ) → List ℕ

@@ -1,5 +1,5 @@
 use Rattle.std.proofs.Common.{true, map, string_bytes}
-use Rattle.lines_lib.proofs.Sending.{at_any_error}
+use Rattle.tokens_lib.proofs.Errors.{at_any_error}
 use Rattle.tokens_lib.specs.PageWritten.{page_of}
 use Rattle.tokens_lib.specs.Streams.{StreamGives}
 use Rattle.tokens_lib.proofs.BegunLaws.{cut_begun, cut_written}

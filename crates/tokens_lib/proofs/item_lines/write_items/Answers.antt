@@ -1,5 +1,5 @@
 use Rattle.std.proofs.Common.{sym, ◌∙◌}
-use Rattle.lines_lib.specs.declared.text.TextError.TheVariants.{Read}
+use Rattle.tokens_lib.specs.declared.cut_end.TextError.TheVariants.{Read}
 use Rattle.tokens_lib.specs.declared.cut_end.CutEnd.TheVariants.{Broken}
 use Rattle.tokens_lib.specs.declared.sheet.Form.TheVariants.{Lines}
 use Rattle.tokens_lib.proofs.WrittenLaws.{all_lines, broken_at_once, err_lines, ok_lines}

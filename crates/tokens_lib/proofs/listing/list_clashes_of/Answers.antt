@@ -10,7 +10,7 @@ use Rattle.reports_lib.specs.RuleClashes.{clash_lines}
 use Rattle.tokens_lib.specs.NamedRules.{rules_status, clashes_status}
 use Rattle.tokens_lib.proofs.AnswerLaws.{Answered-refused, TakesBy-none, ok_and}
 use Rattle.tokens_lib.proofs.BegunLaws.{begun_by_write}
-use Rattle.lines_lib.proofs.Sending.{at_any_error}
+use Rattle.tokens_lib.proofs.Errors.{at_any_error}
 use Rattle.tokens_lib.specs.Internal.Faults.{NameOnly}
 use Rattle.tokens_lib.proofs.Refusals.{fault_said}
 use Rattle.tokens_lib.proofs.listing.list_clashes_of.Goals as goal

@@ -1,6 +1,6 @@
 use Rattle.std.proofs.Common.{ℕ, inl, inr, refl, ap, ◌∙◌}
 use Rattle.std.specs.Prelude.{max}
-use Rattle.lines_lib.proofs.Sending.{at_any_error}
+use Rattle.tokens_lib.proofs.Errors.{at_any_error}
 use Rattle.std.proofs.lemmas.Result.{IfOk-weaker}
 use Rattle.bajofeki_rules.specs.Lines.{lines}
 use Rattle.lalrpop_rule_file.specs.RuleFile.{without_mark}

@@ -1,5 +1,5 @@
 use Rattle.std.proofs.Common.{sym, ◌∙◌}
-use Rattle.lines_lib.proofs.Sending.{at_any_error}
+use Rattle.tokens_lib.proofs.Errors.{at_any_error}
 use Rattle.tokens_lib.proofs.WrittenLaws.{broken_page, err_page, no_page, ok_page, page_goes_on, page_shown}
 use Rattle.tokens_lib.proofs.page.write_page.Goals as goal
 

@@ -1,4 +1,4 @@
-use Rattle.lines_lib.proofs.Sending.{at_any_error}
+use Rattle.tokens_lib.proofs.Errors.{at_any_error}
 use Rattle.tokens_lib.proofs.GivingLaws.{all_flushed, part_flushed}
 use Rattle.tokens_lib.proofs.pieces.give.Goals as goal
 

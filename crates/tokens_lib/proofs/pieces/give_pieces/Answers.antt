@@ -1,7 +1,7 @@
 use Rattle.std.proofs.Common.{◌≡◌, true, false, List, ℕ, [], ◌∷◌, ◌++◌, take, sym, ap, subst, ◌∙◌}
 use Rattle.std.specs.Prelude.{not}
 use Rattle.std.specs.Str.{chars}
-use Rattle.lines_lib.proofs.Sending.{at_any_error}
+use Rattle.tokens_lib.proofs.Errors.{at_any_error}
 use Rattle.lexdfa_lib.specs.Watch.{AppendsPrefix}
 use Rattle.lalrpop_edits.specs.Given.{item_of}
 use Rattle.tokens_lib.specs.Internal.CutTexts.{GivesCut, goes_on, is_fault}

@@ -1,5 +1,5 @@
 use Rattle.std.proofs.Common.{arith}
-use Rattle.lines_lib.proofs.Sending.{Appends-none}
+use Rattle.lexdfa_lib.proofs.Known.{Appends-none}
 use Rattle.tokens_lib.proofs.pieces.put_piece.Goals as goal
 
 pub returns-then-is_err-clause-prefix : goal.returns-then-is_err-clause-prefix

@@ -1,6 +1,6 @@
 use Rattle.std.proofs.Common.{refl, sym, ap, subst, ◌∙◌, []}
 use Rattle.std.specs.Prelude.{Option}
-use Rattle.lines_lib.proofs.Sending.{at_any_error}
+use Rattle.tokens_lib.proofs.Errors.{at_any_error}
 use Rattle.lalrpop_rules.specs.Modes.{ModeRules}
 use Rattle.tokens_lib.specs.Internal.CutTexts.{Comes, GivesAll}
 use Rattle.tokens_lib.specs.declared.cut_end.CutEnd.{CutEnd}

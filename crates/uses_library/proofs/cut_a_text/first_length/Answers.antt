@@ -1,8 +1,7 @@
 use Rattle.std.proofs.Common.{refl, subst}
 use Rattle.std.specs.Prelude.{Some}
 use Rattle.lalrpop_lexer.proofs.Recognized.{on_words}
-use Rattle.lalrpop_lexer.specs.Cutting.{rest_of}
-use Rattle.lalrpop_lexer.specs.LexerTokens.{LexerCutting}
+use Rattle.lalrpop_lexer.specs.Cutting.{Cutting, rest_of}
 use Rattle.lalrpop_lexer.specs.Longest.{IsLongest}
 use Rattle.uses_library.proofs.cut_a_text.first_length.Goals as goal
 
@@ -17,7 +16,7 @@ returns-in-Some-Ok c =
         token.index,
         (
           token.slice.now,
-          (subst (λ (s : LexerCutting). IsLongest rules.trees rules.precedences (rest_of s.cutting) (Some (token.index, token.slice.now))) c.tokens.ensures.start longest, refl),
+          (subst (λ (s : Cutting). IsLongest rules.trees rules.precedences (rest_of s) (Some (token.index, token.slice.now))) c.in_ok-tokens.ensures.start.0 longest, refl),
         ),
       );
     }

@@ -1,7 +1,7 @@
 use Rattle.std.proofs.Common.{◌≡◌, ℕ, List, Bor, ap}
 use Rattle.std.specs.Prelude.{Some}
 use Rattle.lexdfa_lib.specs.Watch.{Watch}
-use Rattle.lines_lib.specs.declared.text.TextError.TheVariants.{NotText}
+use Rattle.tokens_lib.specs.declared.cut_end.TextError.TheVariants.{NotText}
 use Rattle.tokens_lib.specs.declared.cut_end.CutEnd.TheVariants.{Broken}
 use Rattle.uses_programs.proofs.Readings.{broken_at}
 use Rattle.uses_programs.proofs.cut_by_rules.end_of_text.Goals as goal

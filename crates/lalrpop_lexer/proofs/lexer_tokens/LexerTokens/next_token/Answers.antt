@@ -90,8 +90,7 @@ invariant_of-self c =
       | in-Plain w ↦ (
           let e = w.next_match-found.ensures in
           searched_without c.self.inside c.match-self.self-inside w.in-Plain.matches w.next_match-found.new.self c.match-self.found w.next_match-found.result w.next_match-found.new.steps
-          c.self.invariant.1 w.in-Plain.is w.found-is w.self-inside-is (record { answer = e.answer; prefix = e.prefix; goes_on = e.goes_on; stays = e.stays })
-          (record { never_falls = e.never_falls; paid = e.paid; cost = e.cost; read = e.read })
+          c.self.invariant.1 w.in-Plain.is w.found-is w.self-inside-is e.next e.paid
           )
       | in-Remembering w ↦ (
           let e = w.next_match-found-in-Remembering.ensures in
@@ -109,8 +108,7 @@ returns-in-Some-clause-gives c =
       | in-Plain w ↦ (
           let e = w.next_match-found.ensures in
           searched_without c.self.inside c.match-self.self-inside w.in-Plain.matches w.next_match-found.new.self c.match-self.found w.next_match-found.result w.next_match-found.new.steps
-          c.self.invariant.1 w.in-Plain.is w.found-is w.self-inside-is (record { answer = e.answer; prefix = e.prefix; goes_on = e.goes_on; stays = e.stays })
-          (record { never_falls = e.never_falls; paid = e.paid; cost = e.cost; read = e.read })
+          c.self.invariant.1 w.in-Plain.is w.found-is w.self-inside-is e.next e.paid
           )
       | in-Remembering w ↦ (
           let e = w.next_match-found-in-Remembering.ensures in
@@ -130,8 +128,7 @@ returns-in-Some-clause-goes c =
       | in-Plain w ↦ (
           let e = w.next_match-found.ensures in
           searched_without c.self.inside c.match-self.self-inside w.in-Plain.matches w.next_match-found.new.self c.match-self.found w.next_match-found.result w.next_match-found.new.steps
-          c.self.invariant.1 w.in-Plain.is w.found-is w.self-inside-is (record { answer = e.answer; prefix = e.prefix; goes_on = e.goes_on; stays = e.stays })
-          (record { never_falls = e.never_falls; paid = e.paid; cost = e.cost; read = e.read })
+          c.self.invariant.1 w.in-Plain.is w.found-is w.self-inside-is e.next e.paid
           )
       | in-Remembering w ↦ (
           let e = w.next_match-found-in-Remembering.ensures in
@@ -151,8 +148,7 @@ returns-in-None-clause-gives c =
       | in-Plain w ↦ (
           let e = w.next_match-found.ensures in
           searched_without c.self.inside c.match-self.self-inside w.in-Plain.matches w.next_match-found.new.self c.match-self.found w.next_match-found.result w.next_match-found.new.steps
-          c.self.invariant.1 w.in-Plain.is w.found-is w.self-inside-is (record { answer = e.answer; prefix = e.prefix; goes_on = e.goes_on; stays = e.stays })
-          (record { never_falls = e.never_falls; paid = e.paid; cost = e.cost; read = e.read })
+          c.self.invariant.1 w.in-Plain.is w.found-is w.self-inside-is e.next e.paid
           )
       | in-Remembering w ↦ (
           let e = w.next_match-found-in-Remembering.ensures in
@@ -172,8 +168,7 @@ returns-in-None-clause-goes c =
       | in-Plain w ↦ (
           let e = w.next_match-found.ensures in
           searched_without c.self.inside c.match-self.self-inside w.in-Plain.matches w.next_match-found.new.self c.match-self.found w.next_match-found.result w.next_match-found.new.steps
-          c.self.invariant.1 w.in-Plain.is w.found-is w.self-inside-is (record { answer = e.answer; prefix = e.prefix; goes_on = e.goes_on; stays = e.stays })
-          (record { never_falls = e.never_falls; paid = e.paid; cost = e.cost; read = e.read })
+          c.self.invariant.1 w.in-Plain.is w.found-is w.self-inside-is e.next e.paid
           )
       | in-Remembering w ↦ (
           let e = w.next_match-found-in-Remembering.ensures in

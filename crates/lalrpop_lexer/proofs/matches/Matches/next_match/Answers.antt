@@ -11,25 +11,15 @@ invariant_of-self c =
     let out : IsHandedOut i.ahead c.next_found.new.self c.in-Some.found c.args.steps.now c.next_found.new.steps = record { answer = e.answer; prefix = e.prefix; goes_on = e.goes_on; counted = e.counted } in
     handed_settled _ _ _ i.credit i.settled _ _ c.self.invariant out
 
-pub returns-in-Some-clause-answer : goal.returns-in-Some-clause-answer
-returns-in-Some-clause-answer c =
+pub returns-in-Some-clause-next : goal.returns-in-Some-clause-next
+returns-in-Some-clause-next c =
     let i = c.self.inside in
     let e = c.in-Some.ensures in
     let out : IsHandedOut i.ahead c.next_found.new.self c.in-Some.found c.args.steps.now c.next_found.new.steps = record { answer = e.answer; prefix = e.prefix; goes_on = e.goes_on; counted = e.counted } in
     let b : IsMatch c.args.self.now (plain c.next_found.new.self i.credit i.settled) (Some c.in-Some.found) c.args.steps.now c.next_found.new.steps =
     subst (λ (s : Matching). IsMatch s (plain c.next_found.new.self i.credit i.settled) (Some c.in-Some.found) c.args.steps.now c.next_found.new.steps) c.self.view_is
     (plain_handed i.ahead c.next_found.new.self c.in-Some.found i.credit i.settled c.args.steps.now c.next_found.new.steps c.self.invariant out) in
-    b.0.answer
-
-pub returns-in-Some-clause-never_falls : goal.returns-in-Some-clause-never_falls
-returns-in-Some-clause-never_falls c =
-    let i = c.self.inside in
-    let e = c.in-Some.ensures in
-    let out : IsHandedOut i.ahead c.next_found.new.self c.in-Some.found c.args.steps.now c.next_found.new.steps = record { answer = e.answer; prefix = e.prefix; goes_on = e.goes_on; counted = e.counted } in
-    let b : IsMatch c.args.self.now (plain c.next_found.new.self i.credit i.settled) (Some c.in-Some.found) c.args.steps.now c.next_found.new.steps =
-    subst (λ (s : Matching). IsMatch s (plain c.next_found.new.self i.credit i.settled) (Some c.in-Some.found) c.args.steps.now c.next_found.new.steps) c.self.view_is
-    (plain_handed i.ahead c.next_found.new.self c.in-Some.found i.credit i.settled c.args.steps.now c.next_found.new.steps c.self.invariant out) in
-    b.1.never_falls
+    b.0
 
 pub returns-in-Some-clause-paid : goal.returns-in-Some-clause-paid
 returns-in-Some-clause-paid c =
@@ -39,15 +29,15 @@ returns-in-Some-clause-paid c =
     let b : IsMatch c.args.self.now (plain c.next_found.new.self i.credit i.settled) (Some c.in-Some.found) c.args.steps.now c.next_found.new.steps =
     subst (λ (s : Matching). IsMatch s (plain c.next_found.new.self i.credit i.settled) (Some c.in-Some.found) c.args.steps.now c.next_found.new.steps) c.self.view_is
     (plain_handed i.ahead c.next_found.new.self c.in-Some.found i.credit i.settled c.args.steps.now c.next_found.new.steps c.self.invariant out) in
-    b.1.paid
+    b.1
 
-pub returns-in-None-clause-answer : goal.returns-in-None-clause-answer
-returns-in-None-clause-answer c =
+pub returns-in-None-clause-next : goal.returns-in-None-clause-next
+returns-in-None-clause-next c =
     let i = c.self.inside in
     let same : c.next_found.new.steps ≡ c.args.steps.now = omega (arith, c.in-None.ensures.counted) in
     let later : IsMatch (plain c.next_found.new.self i.credit i.settled) c.next_sought.new.self c.next_sought.result c.args.steps.now c.next_sought.new.steps =
     subst (λ (n : ℕ). IsMatch (plain c.next_found.new.self i.credit i.settled) c.next_sought.new.self c.next_sought.result n c.next_sought.new.steps) same (c.next_sought.ensures.next, c.next_sought.ensures.paid) in
-    (plain_held c.args.self.now c.next_sought.new.self i.ahead c.next_found.new.self c.next_sought.result i.credit i.settled c.args.steps.now c.next_sought.new.steps c.self.view_is c.in-None.ensures.stays later).0.answer
+    (plain_held c.args.self.now c.next_sought.new.self i.ahead c.next_found.new.self c.next_sought.result i.credit i.settled c.args.steps.now c.next_sought.new.steps c.self.view_is c.in-None.ensures.stays later).0
 
 pub returns-in-None-clause-paid : goal.returns-in-None-clause-paid
 returns-in-None-clause-paid c =
@@ -55,4 +45,4 @@ returns-in-None-clause-paid c =
     let same : c.next_found.new.steps ≡ c.args.steps.now = omega (arith, c.in-None.ensures.counted) in
     let later : IsMatch (plain c.next_found.new.self i.credit i.settled) c.next_sought.new.self c.next_sought.result c.args.steps.now c.next_sought.new.steps =
     subst (λ (n : ℕ). IsMatch (plain c.next_found.new.self i.credit i.settled) c.next_sought.new.self c.next_sought.result n c.next_sought.new.steps) same (c.next_sought.ensures.next, c.next_sought.ensures.paid) in
-    (plain_held c.args.self.now c.next_sought.new.self i.ahead c.next_found.new.self c.next_sought.result i.credit i.settled c.args.steps.now c.next_sought.new.steps c.self.view_is c.in-None.ensures.stays later).1.paid
+    (plain_held c.args.self.now c.next_sought.new.self i.ahead c.next_found.new.self c.next_sought.result i.credit i.settled c.args.steps.now c.next_sought.new.steps c.self.view_is c.in-None.ensures.stays later).1

@@ -3,7 +3,7 @@ use Rattle.std.specs.Prelude.{Option, Some, Result, Ok}
 use Rattle.lalrpop_edits.specs.declared.given_piece.GivenPiece.{GivenPiece}
 use Rattle.lalrpop_edits.specs.declared.error.EditError.{EditError}
 use Rattle.lalrpop_edits.proofs.ChunkLaws.{gives_some}
-use Rattle.lines_lib.proofs.Sending.{where_it_is_ok}
+use Rattle.tokens_lib.proofs.Errors.{where_it_is_ok}
 use Rattle.tokens_lib.specs.declared.incoming.Incoming.{Incoming}
 use Rattle.tokens_lib.proofs.CutLaws.{gives_cut}
 use Rattle.tokens_lib.proofs.cutter.Cutter.next_piece.Goals as goal

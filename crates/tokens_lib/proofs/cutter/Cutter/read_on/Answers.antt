@@ -1,5 +1,5 @@
 use Rattle.std.proofs.Common.{refl, sym, ap, ◌∙◌}
-use Rattle.lines_lib.specs.declared.text.TextError.TheVariants.{NotText}
+use Rattle.tokens_lib.specs.declared.cut_end.TextError.TheVariants.{NotText}
 use Rattle.tokens_lib.specs.Streams.{AtEnd, LeftOff}
 use Rattle.tokens_lib.specs.declared.cutter.Coming.TheVariants.{More, NoCharacter, Failure}
 use Rattle.tokens_lib.proofs.ComingLaws.{comes_so, comes_whole, size_is, still_goes}

@@ -1,5 +1,0 @@
--- Small cases of the definitions in specs/: Cases/X.antt has those of specs/X.antt.
-mod Building
-mod ClashesShown
-mod Text
-mod TokenLines

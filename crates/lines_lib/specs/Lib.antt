@@ -1,4 +1,0 @@
-pub mod Building
-pub mod ClashesShown
-pub mod Text
-pub mod TokenLines
