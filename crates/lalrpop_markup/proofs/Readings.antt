@@ -5,8 +5,9 @@ use Rattle.std.specs.Str.{chars, IsUtf8, encode_utf8_all}
 use Rattle.std.specs.Char.{encode_utf8}
 use Rattle.std.proofs.lemmas.Str.{encodes-chars, encode_ascii}
 use Rattle.std.proofs.lemmas.Bool.Decides.{eqb_tells}
-use Rattle.lalrpop_hir.specs.Tree.{Tree}
-use Rattle.lalrpop_rules.specs.Pieces.{ArePieces, slice_of, joined}
+use Rattle.bajofeki_rules.specs.Stack.{Stack}
+use Rattle.lalrpop_rules.specs.Modes.{ModeRules, ArePiecesFrom, after, trees_in}
+use Rattle.lalrpop_rules.specs.Pieces.{slice_of, joined}
 use Rattle.lalrpop_rules.specs.declared.item.Item.{Item}
 use Rattle.lalrpop_rules.specs.declared.item.Item.TheVariants.{Token, Skipped, Fault}
 use Rattle.lalrpop_rules.proofs.PieceLaws.{is_front}
@@ -102,9 +103,9 @@ marked_out names (Token token) rest u = span_out (unwrap_or (slice_get names tok
 marked_out names (Skipped token) rest u = text_out token.slice.now rest u
 marked_out names (Fault start slice) rest u = mark_out slice.now rest u
 
-pub pieces_out : (names : List (List ℕ)) (ts : List Tree) (ps : List ℕ) (skips : List Bool) (text : List ℕ) (at : ℕ) (xs : List Item)
-    → ArePieces ts ps skips text at xs → outside (flat_map (marked names) xs) ≡ joined xs
-pieces_out names ts ps skips text at [] are = refl
-pieces_out names ts ps skips text at (x ∷ xs) are =
-    marked_out names x (flat_map (marked names) xs) (is_front ts ps skips text at x are.0).1.1
-    ∙ ap (λ (r : List ℕ). slice_of x ++ r) (pieces_out names ts ps skips text (at + length (slice_of x)) xs are.1)
+pub pieces_out : (names : List (List ℕ)) (r : ModeRules) (text : List ℕ) (at : ℕ) (s : Stack) (xs : List Item) (end : Stack)
+    → ArePiecesFrom r text at s xs end → outside (flat_map (marked names) xs) ≡ joined xs
+pieces_out names r text at s [] end are = refl
+pieces_out names r text at s (x ∷ xs) end are =
+    marked_out names x (flat_map (marked names) xs) (is_front (trees_in r s.mode) r.precedences r.skips text at x are.0).1.1
+    ∙ ap (λ (p : List ℕ). slice_of x ++ p) (pieces_out names r text (at + length (slice_of x)) (after r.actions x s) xs end are.1)

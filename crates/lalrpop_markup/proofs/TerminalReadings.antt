@@ -6,8 +6,9 @@ use Rattle.std.specs.Str.{chars, IsUtf8, encode_utf8_all, bytes_eq}
 use Rattle.std.specs.Char.{encode_utf8}
 use Rattle.std.proofs.lemmas.Str.{encodes-chars, encode_ascii}
 use Rattle.std.proofs.lemmas.Bool.Decides.{eqb_tells, nat_tests}
-use Rattle.lalrpop_hir.specs.Tree.{Tree}
-use Rattle.lalrpop_rules.specs.Pieces.{ArePieces, slice_of, joined}
+use Rattle.bajofeki_rules.specs.Stack.{Stack}
+use Rattle.lalrpop_rules.specs.Modes.{ModeRules, ArePiecesFrom, after, trees_in}
+use Rattle.lalrpop_rules.specs.Pieces.{slice_of, joined}
 use Rattle.lalrpop_rules.specs.declared.item.Item.{Item}
 use Rattle.lalrpop_rules.specs.declared.item.Item.TheVariants.{Token, Skipped, Fault}
 use Rattle.lalrpop_rules.proofs.PieceLaws.{is_front}
@@ -129,9 +130,9 @@ painted_out names (Token token) rest u = by_name_out names (slice_get names toke
 painted_out names (Skipped token) rest u = text_out token.slice.now rest u
 painted_out names (Fault start slice) rest u = coloured_out (codes "41") slice.now rest (52, (49, (refl, (omega arith, omega arith)))) u
 
-pub pieces_out : (names : List (List ℕ)) (ts : List Tree) (ps : List ℕ) (skips : List Bool) (text : List ℕ) (at : ℕ) (xs : List Item)
-    → ArePieces ts ps skips text at xs → unpainted (flat_map (painted names) xs) ≡ joined xs
-pieces_out names ts ps skips text at [] are = refl
-pieces_out names ts ps skips text at (x ∷ xs) are =
-    painted_out names x (flat_map (painted names) xs) (is_front ts ps skips text at x are.0).1.1
-    ∙ ap (λ (r : List ℕ). slice_of x ++ r) (pieces_out names ts ps skips text (at + length (slice_of x)) xs are.1)
+pub pieces_out : (names : List (List ℕ)) (r : ModeRules) (text : List ℕ) (at : ℕ) (s : Stack) (xs : List Item) (end : Stack)
+    → ArePiecesFrom r text at s xs end → unpainted (flat_map (painted names) xs) ≡ joined xs
+pieces_out names r text at s [] end are = refl
+pieces_out names r text at s (x ∷ xs) end are =
+    painted_out names x (flat_map (painted names) xs) (is_front (trees_in r s.mode) r.precedences r.skips text at x are.0).1.1
+    ∙ ap (λ (p : List ℕ). slice_of x ++ p) (pieces_out names r text (at + length (slice_of x)) (after r.actions x s) xs end are.1)

@@ -2,7 +2,8 @@
 ghost use Rattle.std.specs.Prelude.{◌≡◌, ◌++◌, ◌∷◌, ◌%◌, ◌+◌, ◌<◌, ℕ, [], List, Some, flat_map, chars, length, map, slice_get, slice_index_or, string_bytes, IfOk, OnOk, true};
 ghost use Rattle.std.specs.List.{position_or_len};
 ghost use Rattle.std.specs.Str.{bytes_eq};
-ghost use Rattle.lalrpop_rules.specs.Pieces.{ArePieces};
+ghost use Rattle.bajofeki_rules.specs.Stack.{Stack, start};
+ghost use Rattle.lalrpop_rules.specs.Modes.{ArePiecesFrom};
 ghost use Rattle.lalrpop_rules.specs.declared.item.Item.{Item as ItemValue};
 ghost use Rattle.lalrpop_markup.specs.Internal.Colours.{AreColours};
 ghost use Rattle.lalrpop_markup.specs.Terminal.{sequence, is_hidden as is_hidden_of, sign, letter, visible, visible_in, coloured, colour_of, painted, unpainted, IsSequence};
@@ -10,7 +11,7 @@ ghost use Rattle.lalrpop_markup.specs.Places.{EachBegins};
 
 use crate::runs::{Shows, push_shown};
 use lalrpop_lexer::lexer::dfa::NfaIndex;
-use lalrpop_rules::{Item, OldRuleLexer};
+use lalrpop_rules::{Item, RuleLexer};
 use std::alloc::{AllocError, Global};
 use std::marker::Model;
 
@@ -183,8 +184,11 @@ fn colour_of_rule(
 ///
 /// let mut painter = Painter::new(alloc, lexer.names())?;
 /// let mut page = String::new(alloc);
-/// for item in lexer.items_linear(alloc, "do it")? {
-///     painter.push(&mut page, &item)?;
+/// for item in lexer.items(alloc, "do it")? {
+///     match item {
+///         Ok(item) => painter.push(&mut page, &item)?,
+///         Err(error) => return Err(error),
+///     }
 /// }
 /// ```
 #[derive(Drop)]
@@ -254,19 +258,21 @@ impl<'rules> Painter<'rules> {
 /// # Errors
 ///
 /// `AllocError` if a request for memory was refused.
-pub fn ansi(alloc: Global, lexer: &OldRuleLexer, text: &str) -> Result<String, AllocError>
-    ensures pieces { IfOk result (λ page. (xs : List ItemValue)
-        × (ArePieces lexer.now.trees lexer.now.precedences lexer.now.skips text.now 0 xs
-        × (string_bytes page ≡ flat_map (painted lexer.now.names) xs))) }
+pub fn ansi(alloc: Global, lexer: &RuleLexer, text: &str) -> Result<String, AllocError>
+    ensures pieces { IfOk result (λ page. (xs : List ItemValue) × ((end : Stack)
+        × (ArePiecesFrom lexer.now text.now 0 start xs end
+        × (string_bytes page ≡ flat_map (painted lexer.now.names) xs)))) }
     ensures text { IfOk result (λ page. unpainted (string_bytes page) ≡ text.now) }
     ensures sequences { IfOk result (λ page. (c : ℕ) → is_hidden_of c ≡ true
         → EachBegins c IsSequence (chars (string_bytes page))) }
 {
-    let mut items = lexer.items_linear(alloc, text)?;
     let mut painter = Painter::new(alloc, lexer.names())?;
     let mut page = String::new(alloc);
-    'painting: while let Some(item) = items.next() {
-        painter.push(&mut page, &item)?;
+    for item in lexer.items(alloc, text)? {
+        match item {
+            Ok(item) => painter.push(&mut page, &item)?,
+            Err(error) => return Err(error),
+        }
     }
     Ok(page)
 }

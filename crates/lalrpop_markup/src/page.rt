@@ -1,13 +1,14 @@
 //! A text as HTML.
 ghost use Rattle.std.specs.Prelude.{◌≡◌, ◌++◌, [], List, flat_map, map, option_map, slice_get, string_bytes, unwrap_or, IfOk, OnOk};
-ghost use Rattle.lalrpop_rules.specs.Pieces.{ArePieces};
+ghost use Rattle.bajofeki_rules.specs.Stack.{Stack, start};
+ghost use Rattle.lalrpop_rules.specs.Modes.{ArePiecesFrom};
 ghost use Rattle.lalrpop_rules.specs.declared.item.Item.{Item as ItemValue};
 ghost use Rattle.lalrpop_markup.specs.Markup.{entity, told, escaped, span, mark, marked, outside, IsTag, IsEntity};
 ghost use Rattle.lalrpop_markup.specs.Places.{EachBegins, EachEnds};
 
 use crate::runs::{Shows, push_shown};
 use lalrpop_lexer::lexer::dfa::NfaIndex;
-use lalrpop_rules::{Item, OldRuleLexer};
+use lalrpop_rules::{Item, RuleLexer};
 use std::alloc::{AllocError, Global};
 
 // The entity of a character that has a meaning in HTML, or that a reader of HTML doesn't keep: the carriage return.
@@ -86,8 +87,11 @@ fn name_at(names: &[String], index: NfaIndex) -> &str
 /// use lalrpop_markup::push_html;
 ///
 /// let mut page = String::new(alloc);
-/// for item in lexer.items_linear(alloc, "do it")? {
-///     push_html(&mut page, lexer.names(), &item)?;
+/// for item in lexer.items(alloc, "do it")? {
+///     match item {
+///         Ok(item) => push_html(&mut page, lexer.names(), &item)?,
+///         Err(error) => return Err(error),
+///     }
 /// }
 /// ```
 ///
@@ -115,19 +119,21 @@ pub fn push_html(page: &mut String, names: &[String], item: &Item) -> Result<(),
 /// # Errors
 ///
 /// `AllocError` if a request for memory was refused.
-pub fn html(alloc: Global, lexer: &OldRuleLexer, text: &str) -> Result<String, AllocError>
-    ensures pieces { IfOk result (λ page. (xs : List ItemValue)
-        × (ArePieces lexer.now.trees lexer.now.precedences lexer.now.skips text.now 0 xs
-        × (string_bytes page ≡ flat_map (marked lexer.now.names) xs))) }
+pub fn html(alloc: Global, lexer: &RuleLexer, text: &str) -> Result<String, AllocError>
+    ensures pieces { IfOk result (λ page. (xs : List ItemValue) × ((end : Stack)
+        × (ArePiecesFrom lexer.now text.now 0 start xs end
+        × (string_bytes page ≡ flat_map (marked lexer.now.names) xs)))) }
     ensures text { IfOk result (λ page. outside (string_bytes page) ≡ text.now) }
     ensures tags { IfOk result (λ page. EachBegins 60 IsTag (string_bytes page)
         × EachEnds 62 IsTag (string_bytes page)) }
     ensures entities { IfOk result (λ page. EachBegins 38 IsEntity (string_bytes page)) }
 {
-    let mut items = lexer.items_linear(alloc, text)?;
     let mut page = String::new(alloc);
-    'marking: while let Some(item) = items.next() {
-        push_html(&mut page, lexer.names(), &item)?;
+    for item in lexer.items(alloc, text)? {
+        match item {
+            Ok(item) => push_html(&mut page, lexer.names(), &item)?,
+            Err(error) => return Err(error),
+        }
     }
     Ok(page)
 }

@@ -110,9 +110,8 @@ fn automaton(lexer: &RuleLexer, mode: usize) -> &Dfa
 /// compared with those before it, up to the first that makes the same tokens.
 ///
 /// ```
-/// use lalrpop_rules::{RuleLexer, ModeRule};
 /// use lalrpop_review::difference_in;
-/// use lalrpop_rules::Rule;
+/// use lalrpop_rules::{ModeRule, Rule, RuleLexer};
 ///
 /// let names = [ModeRule { rule: Rule::pattern("NAME", "[a-z]+"), modes: &[0], actions: &[] }];
 /// let numbers = [ModeRule { rule: Rule::pattern("NAME", "[0-9]+"), modes: &[0], actions: &[] }];

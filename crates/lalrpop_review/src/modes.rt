@@ -25,9 +25,8 @@ use std::alloc::{AllocError, Global};
 /// `AllocError` if a request for memory was refused.
 ///
 /// ```
-/// use lalrpop_rules::{RuleLexer, ModeRule};
 /// use lalrpop_review::review;
-/// use lalrpop_rules::Rule;
+/// use lalrpop_rules::{ModeRule, Rule, RuleLexer};
 ///
 /// // The name has the greater precedence, so the keyword never wins.
 /// let keyword = Rule::literal("IF", "if").with_precedence(0);

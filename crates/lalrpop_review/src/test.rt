@@ -1,8 +1,7 @@
 //! A review, run.
 
 use crate::{IdleRule, Look, review};
-use lalrpop_rules::{Action, RuleLexer, ModeRule};
-use lalrpop_rules::Rule;
+use lalrpop_rules::{Action, ModeRule, Rule, RuleLexer};
 use std::process::Abort;
 
 // Whether the rule is this one, and one rule alone wins its texts: this one, first the text of these characters.

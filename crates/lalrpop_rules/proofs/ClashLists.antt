@@ -1,5 +1,5 @@
 -- The clashes of modes, one mode after another.
-use Rattle.std.proofs.Common.{◌≡◌, ℕ, ◌<◌, inl, inr, List, [], ◌∷◌, ◌++◌, length, map, ap, sym, subst, ◌∙◌}
+use Rattle.std.proofs.Common.{◌≡◌, ℕ, inl, inr, List, [], ◌∷◌, ◌++◌, length, map, ap, sym, subst, ◌∙◌}
 use Rattle.std.specs.Prelude.{Some, slice_get, Result, Ok, Err, IfErr}
 use Rattle.std.proofs.lemmas.List.{map-append}
 use Rattle.lalrpop_hir.specs.Clashes.{Entry, AreClashes}

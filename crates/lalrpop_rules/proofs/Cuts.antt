@@ -1,11 +1,10 @@
 -- What cuts a text in each mode.
-use Rattle.std.proofs.Common.{◌≡◌, ◌≢◌, ℕ, zero, suc, ◌+◌, ◌<◌, ◌≤◌, ◌⊎◌, inl, inr, List, [], ◌∷◌, length, drop, slice_set, get_or, refl, sym, ap, subst, ◌∙◌, arith}
+use Rattle.std.proofs.Common.{◌≡◌, ◌≢◌, ℕ, zero, suc, ◌+◌, ◌<◌, ◌≤◌, ◌⊎◌, inl, inr, List, [], ◌∷◌, length, drop, slice_set, refl, sym, ap, subst, ◌∙◌, arith}
 use Rattle.std.specs.Prelude.{Option, Some, slice_get, sum_by}
 use Rattle.std.specs.Str.{chars, IsUtf8, IsCharBoundary}
 use Rattle.std.proofs.lemmas.Bool.{cases_eq}
 use Rattle.std.proofs.lemmas.List.{length-set}
 use Rattle.std.proofs.lemmas.List.Sums.{sum_by-cons}
-use Rattle.std.proofs.lemmas.Option.{slice_get-get_or, slice_get_past}
 use Rattle.lalrpop_hir.specs.Prefix.{IsPrefix}
 use Rattle.lalrpop_lexer.proofs.Standings.{fewer_behind}
 use Rattle.lalrpop_rules.specs.Internal.CutToEnd.{CutToEnd, IsPaid, GivesPiece, PassesTo, IsSoughtFromRest, IsSoughtAfterPiece}
@@ -13,7 +12,7 @@ use Rattle.lalrpop_rules.specs.Pieces.{IsPiece, slice_of}
 use Rattle.lalrpop_rules.specs.declared.item.Item.{Item}
 use Rattle.lalrpop_rules.specs.declared.item.Item.TheVariants.{Token, Skipped, Fault}
 use Rattle.lalrpop_rules.proofs.PieceLaws.{is_front}
-use Rattle.lalrpop_rules.specs.Modes.{ModeRules, trees_in, after}
+use Rattle.lalrpop_rules.specs.Modes.{ModeRules, trees_in}
 use Rattle.lalrpop_rules.specs.Internal.Cutting.{spare_of, unsought_in, memo_in, steps_in, IsCutIn, HasSoughtUpTo, AreCuts, IsSoughtAfter}
 
 -- ---- one of a list is replaced

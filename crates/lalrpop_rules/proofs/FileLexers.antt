@@ -1,5 +1,5 @@
 -- What reading a file and building its lexer give together.
-use Rattle.std.proofs.Common.{◌≡◌, ℕ, List, map, length, Result, Ok, Err, sym, subst}
+use Rattle.std.proofs.Common.{ℕ, List, map, length, Result, Ok, Err, sym, subst}
 use Rattle.std.specs.Prelude.{IfOk, IfErr}
 use Rattle.std.proofs.lemmas.List.{length-map}
 use Rattle.bajofeki_rules.specs.Lines.{lines}

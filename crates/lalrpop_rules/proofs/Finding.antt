@@ -12,7 +12,6 @@ use Rattle.lalrpop_lexer.proofs.Cuttings.{some_char}
 use Rattle.lalrpop_lexer.proofs.Recognized.{on_words}
 use Rattle.lalrpop_lexer.specs.Dfa.{Row, Recognizes}
 use Rattle.lalrpop_lexer.specs.Matching.{Matching, rest_of}
-use Rattle.lalrpop_lexer.specs.Rules.{IsBuiltFrom}
 use Rattle.lalrpop_rules.specs.Internal.CutToEnd.{Memo, IsPaid}
 use Rattle.lalrpop_rules.specs.Internal.Finding.{Match, IsMatchOf, Passes, memo_of}
 use Rattle.lalrpop_rules.proofs.PieceLaws.{split_at}

@@ -15,13 +15,6 @@ use Rattle.lalrpop_rules.specs.Internal.Cutting.{spare_of, memo_in, steps_in, Is
 use Rattle.lalrpop_rules.proofs.ModeByMode.{slice_end}
 use Rattle.lalrpop_rules.proofs.ModeRuns.{no_actions}
 
-pub none_uncut : (r : ModeRules) (text : List ℕ) → AreUncut r text 0 []
-none_uncut r text = record { many = refl; each = λ m c is. absurd (none m c is); unread = refl; spare = omega arith }
-  where
-    none : (m : ℕ) (c : CutToEnd) → slice_get {X = CutToEnd} [] m ≡ Some c → ⊥
-    none zero c is = absurd (cc)
-    none (suc m) c is = absurd (cc)
-
 -- ---- one more
 
 sum_take : {A : Type 0} (f : A → ℕ) (xs : List A) (n : ℕ) (x : A) → slice_get xs n ≡ Some x → sum_by f (take (suc n) xs) ≡ sum_by f (take n xs) + f x

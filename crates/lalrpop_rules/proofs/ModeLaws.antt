@@ -1,22 +1,18 @@
 -- What the trees of a mode match, and which modes a cut enters.
-use Rattle.std.proofs.Common.{◌≡◌, ℕ, zero, suc, ◌+◌, ◌<◌, ◌⊎◌, Bool, true, false, inl, inr, List, [], ◌∷◌, length, drop, refl, sym, ap, subst, ◌∙◌}
-use Rattle.std.specs.Prelude.{Option, Some, None, slice_get, map, ◌==◌, Contains}
+use Rattle.std.proofs.Common.{◌≡◌, ℕ, zero, suc, ◌+◌, ◌<◌, ◌⊎◌, Bool, true, false, inl, inr, List, [], ◌∷◌, length, refl, sym, ap, subst}
+use Rattle.std.specs.Prelude.{Some, None, slice_get, map, ◌==◌, Contains}
 use Rattle.std.specs.List.{list_any, slice_index_or}
 use Rattle.std.proofs.lemmas.Option.{same_Some}
-use Rattle.std.proofs.lemmas.List.{append-nil, drop_at, drop-drop}
 use Rattle.lalrpop_hir.specs.Tree.{Tree}
 use Rattle.lalrpop_hir.specs.Winners.{TreeMatches}
-use Rattle.lalrpop_rules.specs.Found.{MatchesAt}
-use Rattle.lalrpop_rules.specs.Kinds.{merged, all_at_work}
 use Rattle.lalrpop_rules.proofs.KindLaws.{of_merged, into_merged}
-use Rattle.lalrpop_rules.specs.Pieces.{IsPiece, IsFault, ArePieces, AreApart, slice_of}
+use Rattle.lalrpop_rules.specs.Pieces.{IsPiece, AreApart, slice_of}
 use Rattle.lalrpop_rules.specs.declared.item.Item.{Item}
 use Rattle.lalrpop_rules.specs.declared.item.Item.TheVariants.{Token, Skipped, Fault}
-use Rattle.lalrpop_rules.proofs.PieceLaws.{rest_some}
-use Rattle.lalrpop_rules.proofs.FirstMatches.{some_length}
+use Rattle.lalrpop_rules.proofs.PieceLaws.{two_faults}
 use Rattle.bajofeki_rules.specs.declared.action.Action.{Action}
 use Rattle.bajofeki_rules.specs.declared.action.Action.TheVariants.{Mode, Push, Pop}
-use Rattle.bajofeki_rules.specs.Stack.{Stack, start, act, act_all, actions_of, popped}
+use Rattle.bajofeki_rules.specs.Stack.{Stack, act, act_all, actions_of, popped}
 use Rattle.lalrpop_rules.specs.Modes.{ModeRules, kinds_of, trees_of, trees_in, after, ArePiecesFrom, mode_rules, AllOf, EachMode, AllCanBeEntered, NoModeClash, IsModeClash}
 use Rattle.bajofeki_rules.specs.EnteredModes.{Belongs, OneLeadsInto, CanBeEntered, by_rule}
 use Rattle.lalrpop_hir.specs.Clash.{NoClash, IsClash}
@@ -95,16 +91,6 @@ module _ (r : ModeRules) (there : (m i : ℕ) → Belongs r.members m i → m < 
       only-entered text (at + length (slice_of x)) (after r.actions x s) xs t are.1 (after_entered text at s x are.0 all)
 
 -- ---- no two faults in turn
-
-two_faults : (ts : List Tree) (text : List ℕ) (at : ℕ) (p q : List ℕ) → IsFault ts (drop at text) p → IsFault ts (drop (at + length p) text) q → ⊥
-two_faults ts text at p q first second = elim first.ends [
-  | inl whole ↦ rest_some q (drop (at + length p) text) second.front second.some
-      (sym (drop-drop (length p) at text) ∙ ap (λ (n : ℕ). drop n (drop at text)) (ap length whole) ∙ drop_all (drop at text))
-  | inr m ↦ second.nothing 0 (some_length q second.some) (subst (λ (t : List ℕ). MatchesAt ts t 0) (drop-drop (length p) at text) m)
-]
-  where
-    drop_all : (xs : List ℕ) → drop (length xs) xs ≡ []
-    drop_all xs = ap (drop (length xs)) (sym (append-nil xs)) ∙ drop_at xs [] (length xs) refl
 
 pub apart-from : (r : ModeRules) (text : List ℕ) (at : ℕ) (s : Stack) (xs : List Item) (t : Stack) → ArePiecesFrom r text at s xs t → AreApart xs
 apart-from r text at s [] t are = tt

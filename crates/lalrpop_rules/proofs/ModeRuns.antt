@@ -1,5 +1,5 @@
 -- What the calls of `next_item` give for a text that is cut by rules with modes.
-use Rattle.std.proofs.Common.{◌≡◌, ℕ, zero, suc, ◌+◌, ◌<◌, ◌≤◌, map, refl, arith, get_or, Bool, List, [], ◌∷◌, length, sym, ap, subst, ◌∙◌, ◌++◌, append_assoc, Result, Ok, Err, OnOk}
+use Rattle.std.proofs.Common.{◌≡◌, ℕ, zero, suc, ◌+◌, ◌<◌, ◌≤◌, map, refl, arith, get_or, Bool, List, [], ◌∷◌, length, sym, ap, subst, ◌∙◌, ◌++◌, append_assoc}
 use Rattle.std.specs.Str.{IsUtf8, IsCharBoundary}
 use Rattle.std.proofs.lemmas.Str.{IsUtf8-drop}
 use Rattle.lalrpop_hir.specs.Tree.{Tree}
@@ -75,11 +75,6 @@ parts-from-first s r text most e xs t y = sym (ap (λ (w : ModeCut). left_text w
 pub act-within : (n : ℕ) (acts : List Action) (s t : Stack) → t ≡ act_all acts s → ((m : ℕ) → OneLeadsInto acts m → m < n) → EachMode (λ m. m < n) s
     → EachMode (λ m. m < n) t
 act-within n acts s t is lead there = subst (λ (u : Stack). EachMode (λ m. m < n) u) (sym is) (act-keeps (λ m. m < n) acts s lead there)
-
-pub within-on-ok : {A B : Type 0} (result : Result A B) (n : ℕ) (acts : List Action) (s t : Stack) → OnOk result (t ≡ act_all acts s)
-    → ((m : ℕ) → OneLeadsInto acts m → m < n) → OnOk result (EachMode (λ m. m < n) s → EachMode (λ m. m < n) t)
-within-on-ok (Ok a) n acts s t is lead = act-within n acts s t is lead
-within-on-ok (Err e) n acts s t is lead = tt
 
 -- the text may be cut behind a piece
 pub cut-behind : (ts : List Tree) (ps : List ℕ) (skips : List Bool) (text : List ℕ) (at : ℕ) (x : Item) → IsUtf8 text → IsCharBoundary text at

@@ -1,5 +1,5 @@
 -- Rules without modes, as rules of one mode.
-use Rattle.std.proofs.Common.{◌≡◌, ℕ, zero, suc, ◌+◌, ◌<◌, ◌≤◌, ◌⊎◌, ◌||◌, ◌==◌, inl, inr, Bool, false, List, [], ◌∷◌, ◌++◌, length, map, get_or, if◌then◌else◌, Contains, refl, ap, sym, subst, ◌∙◌, arith, eq-eqb}
+use Rattle.std.proofs.Common.{◌≡◌, ℕ, zero, suc, ◌+◌, ◌<◌, ◌≤◌, ◌⊎◌, ◌||◌, ◌==◌, inl, inr, Bool, false, List, [], ◌∷◌, ◌++◌, length, map, get_or, if◌then◌else◌, refl, ap, sym, subst, ◌∙◌, arith, eq-eqb}
 use Rattle.std.specs.Prelude.{Option, Some, None, slice_get}
 use Rattle.std.specs.Option.{option_map}
 use Rattle.std.specs.List.{list_any}
@@ -15,7 +15,7 @@ use Rattle.bajofeki_rules.specs.Stack.{actions_of}
 use Rattle.lalrpop_rules.specs.declared.error.RulesError.TheVariants.{NoSuchMode}
 use Rattle.lalrpop_rules.specs.Kinds.{AreKinds, AreOneKind, IsFirstSame, all_at_work, gathered, is_kind, merged, merged_behind, one_tree, trees_of_kind}
 use Rattle.lalrpop_rules.specs.Modes.{ModeRules, kinds_of, trees_in}
-use Rattle.lalrpop_rules.specs.ModeSet.{AreInOneMode, AreModeRules, AreOneModeKind, IsRulesError, rules_of}
+use Rattle.lalrpop_rules.specs.ModeSet.{AreInOneMode, AreModeRules, AreOneModeKind, IsRulesError}
 use Rattle.lalrpop_rules.specs.RuleSet.{AreTrees}
 use Rattle.lalrpop_rules.proofs.ModePieces.{AllStay}
 use Rattle.lalrpop_rules.proofs.RuleTrees.{length-AreTrees}

@@ -1,5 +1,5 @@
 -- What holds of the pieces of a text.
-use Rattle.std.proofs.Common.{◌≡◌, ◌≢◌, ℕ, ◌+◌, ◌<◌, ◌≤◌, Bool, inl, inr, List, [], ◌∷◌, ◌++◌, length, drop, arith, refl, sym, ap, subst, ◌∙◌, append_assoc, length-append}
+use Rattle.std.proofs.Common.{◌≡◌, ◌≢◌, ℕ, ◌+◌, ◌<◌, Bool, inl, inr, List, [], ◌∷◌, ◌++◌, length, drop, arith, refl, sym, ap, subst, ◌∙◌, length-append}
 use Rattle.std.specs.Str.{chars, IsUtf8}
 use Rattle.std.proofs.lemmas.Str.{IsUtf8-drop, chars-append}
 use Rattle.std.proofs.lemmas.List.{append-nil, drop_at, drop-drop}
@@ -53,7 +53,7 @@ fewer_left text at p u b some =
 -- ---- what holds of the pieces of a text
 
 -- no fault stands right behind a fault
-two_faults : (ts : List Tree) (text : List ℕ) (at : ℕ) (p q : List ℕ) → IsFault ts (drop at text) p → IsFault ts (drop (at + length p) text) q → ⊥
+pub two_faults : (ts : List Tree) (text : List ℕ) (at : ℕ) (p q : List ℕ) → IsFault ts (drop at text) p → IsFault ts (drop (at + length p) text) q → ⊥
 two_faults ts text at p q first second = elim first.ends [
   | inl whole ↦ rest_some q (drop (at + length p) text) second.front second.some
       (sym (drop-drop (length p) at text) ∙ ap (λ (n : ℕ). drop n (drop at text)) (ap length whole) ∙ drop_all (drop at text))

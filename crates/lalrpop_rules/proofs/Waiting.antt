@@ -213,14 +213,3 @@ pub sought_behind_piece : (x : Item) (s : CutToEnd) → IsSoughtFromRest s → I
 sought_behind_piece (Token token) s h = h
 sought_behind_piece (Skipped token) s h = h
 sought_behind_piece (Fault start slice) s h = tt
-
--- another place is the beginning of the rest
-pub waiting_there : (text : List ℕ) (found at : ℕ) (m n : Matching) → IsUtf8 text → IsSoughtFrom text found m → IsCharBoundary text at
-    → n ≡ record m { at = at; spare = n.spare } → IsWaiting text at None n
-waiting_there text found at m n u s b e = record {
-  utf8 = u;
-  boundary = b;
-  first = tt;
-  sought =
-      sought_at text at _ n (omega arith) (record { same = ap (λ (x : Matching). x.text) e ∙ s.same; here = ap (λ (x : Matching). x.at) e; boundary = b });
-}

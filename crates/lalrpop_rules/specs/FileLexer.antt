@@ -1,6 +1,6 @@
 -- cases: proofs/Cases/FileLexer.antt
 -- The lexer of a file of rules, or why there is none.
-use Rattle.std.specs.Prelude.{◌≡◌, ℕ, List, length, map, Option, Some, None, slice_get}
+use Rattle.std.specs.Prelude.{◌≡◌, ℕ, List, length, Option, Some, None, slice_get}
 use Rattle.std.specs.Option.{option_map}
 use Rattle.bajofeki_rules.specs.Lines.{lines}
 use Rattle.bajofeki_rules.specs.declared.mode_rule.ModeRule.{ModeRule}

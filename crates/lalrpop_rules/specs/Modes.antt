@@ -1,6 +1,6 @@
 -- cases: proofs/Cases/Modes.antt
 -- The pieces of a text that is cut to its end by rules with modes.
-use Rattle.std.specs.Prelude.{◌≡◌, ℕ, ◌+◌, ◌<◌, ◌⊎◌, ◌==◌, if◌then◌else◌, Bool, List, [], ◌∷◌, length, drop, map, Option, Some, None, slice_get, Contains}
+use Rattle.std.specs.Prelude.{◌≡◌, ℕ, ◌+◌, ◌<◌, ◌==◌, if◌then◌else◌, Bool, List, [], ◌∷◌, length, drop, map, Option, Some, None}
 use Rattle.std.specs.List.{list_any}
 use Rattle.lalrpop_hir.specs.Tree.{Tree}
 use Rattle.lalrpop_hir.specs.Clash.{NoClash, IsClash}
@@ -10,7 +10,6 @@ use Rattle.lalrpop_rules.specs.Pieces.{IsPiece, slice_of}
 use Rattle.lalrpop_rules.specs.declared.item.Item.{Item}
 use Rattle.lalrpop_rules.specs.declared.item.Item.TheVariants.{Token, Skipped, Fault}
 use Rattle.bajofeki_rules.specs.declared.action.Action.{Action}
-use Rattle.bajofeki_rules.specs.declared.action.Action.TheVariants.{Mode, Push, Pop}
 use Rattle.bajofeki_rules.specs.Stack.{Stack, act_all, actions_of}
 use Rattle.bajofeki_rules.specs.EnteredModes.{CanBeEntered}
 

@@ -4,7 +4,7 @@ use Rattle.std.specs.Prelude.{◌≡◌, ℕ, ◌<◌, Bool, List, [], ◌∷◌
 use Rattle.std.specs.Borrow.{Bor}
 use Rattle.std.specs.Str.{IsCharBoundary}
 use Rattle.lalrpop_hir.specs.Tree.{Tree}
-use Rattle.lalrpop_hir.specs.Report.{NoFault, FirstFault}
+use Rattle.lalrpop_hir.specs.Report.{FirstFault}
 use Rattle.lalrpop_re.specs.declared.from_to_error.FromToError.{FromToError}
 use Rattle.lalrpop_rules.specs.TextTrees.{HasTree, IsBadEnd}
 use Rattle.bajofeki_rules.specs.RuleText.{IsParsed}

@@ -10,7 +10,6 @@ use Rattle.lalrpop_re.specs.UpTo.{IsFromTo}
 use Rattle.lalrpop_re.specs.declared.from_to_error.FromToError.{FromToError}
 use Rattle.lalrpop_re.specs.declared.from_to_error.FromToError.TheVariants.{EmptyEnd, LongEnd, OutOfMemory}
 use Rattle.lalrpop_re.specs.AnyCase.{SameButForCase}
-use Rattle.lalrpop_re.specs.NamedPart.{NamedPart}
 use Rattle.lalrpop_re.specs.Pattern as grammar
 use Rattle.lalrpop_re.specs.Unescaped.{Unescapes}
 use Rattle.lalrpop_lexer.specs.Spelled.{Spells}

@@ -139,17 +139,19 @@ fn first_match_is_found_by_rules_of_one_mode(rt: HostRuntime) {
         Rule::pattern("NUMBER", "[0-9a-f]+h"),
     ];
     match RuleLexer::of_one_mode(rt.alloc(), &rules) {
-        Ok(lexer) => match lexer.find("!? 1ah") {
-            Some(space) => {
-                assert!(rt; space.start == 2 && lexer.is_skipped(space.index));
-                let number = lexer.find("!?1ah");
-                assert!(rt;
-                    number.is_some_and(|token| { token.index.index() == 0 && token.slice == "1ah" })
-                );
-                assert!(rt; lexer.find("!?").is_none());
+        Ok(lexer) => {
+            match lexer.find("!? 1ah") {
+                Some(space) => assert!(rt; space.start == 2 && lexer.is_skipped(space.index)),
+                None => assert!(rt; false),
             }
-            None => assert!(rt; false),
-        },
+            match lexer.find("!?1ah") {
+                Some(number) => {
+                    assert!(rt; number.index.index() == 0 && number.slice == "1ah");
+                }
+                None => assert!(rt; false),
+            }
+            assert!(rt; lexer.find("!?").is_none());
+        }
         Err(_) => assert!(rt; false),
     }
 }

@@ -6,8 +6,8 @@ ghost use Rattle.lalrpop_verdicts.specs.Differences.{TellsApart, label_of};
 
 use crate::answer::accepted;
 use crate::pairs::{Follow, pairs, word_to};
-use lalrpop_hir::NfaIndex;
 use lalrpop_dfa::Dfa;
+use lalrpop_hir::NfaIndex;
 use std::alloc::{AllocError, Global};
 use std::marker::Model;
 

@@ -9,10 +9,9 @@ ghost use Rattle.lalrpop_verdicts.specs.Internal.WonWords.{IsLeastWon, IsOwn, St
 
 use crate::won_word::WonWord;
 use crate::won_words::won_words;
-use lalrpop_hir::{DfaConstructionError, NfaConstructionError, NfaIndex, Precedence};
 use lalrpop_build::build_dfa;
 use lalrpop_dfa::Dfa;
-use lalrpop_hir::Regex;
+use lalrpop_hir::{DfaConstructionError, NfaConstructionError, NfaIndex, Precedence, Regex};
 use lalrpop_nfa::Nfa;
 use std::alloc::{AllocError, Global};
 

@@ -1,5 +1,5 @@
 -- cases: proofs/Cases/ItemLines.antt
--- The lines of the pieces of a text that named rules cut.
+-- The lines of the pieces of a text that rules cut.
 use Rattle.std.specs.Prelude.{ℕ, ◌+◌, nat_lt, Bool, true, false, List, [], ◌∷◌, ◌++◌, length, map, Option, Some, None, option_map, unwrap_or, slice_get, codes, decimal, string_bytes}
 use Rattle.std.specs.Bool.{then_some}
 use Rattle.json.specs.Token as json

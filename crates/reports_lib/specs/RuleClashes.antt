@@ -1,5 +1,5 @@
 -- cases: proofs/Cases/RuleClashes.antt
--- What is written for all clashes of named rules.
+-- What is written for all clashes of rules.
 use Rattle.std.specs.Prelude.{ℕ, ◌+◌, List, [], ◌∷◌, ◌++◌, Option, Some, None, codes, flat_map}
 use Rattle.lalrpop_hir.specs.Clashes.{Entry}
 use Rattle.bajofeki_rules.specs.Quoted.{quoted_word}

@@ -1,4 +1,4 @@
-//! The lines of the clashes of named rules.
+//! The lines of the clashes of rules.
 ghost use Rattle.std.specs.Prelude.{◌≡◌, ◌≢◌, ◌++◌, List, map, flat_map, option_map, false, true, string_bytes, IfOk, OnOk, OnErr, IfErr};
 ghost use Rattle.std.specs.Io.KnownBytes.{Appends};
 ghost use Rattle.lalrpop_rules.specs.ModeSet.{rules_of};

@@ -1,4 +1,4 @@
-//! Why a file of named rules gives no lexer, in words for people.
+//! Why a file of rules gives no lexer, in words for people.
 ghost use Rattle.std.specs.Prelude.{◌≡◌, ◌+◌, ◌≤◌, ℕ, List, false, true, map, option_map, string_bytes, IfOk};
 ghost use Rattle.lalrpop_rules.specs.ModeSet.{rules_of};
 ghost use Rattle.lalrpop_rules.specs.RuleSet.{names_of};

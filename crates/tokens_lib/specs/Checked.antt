@@ -1,5 +1,5 @@
 -- cases: proofs/Cases/Checked.antt
--- What is answered by a check of named rules.
+-- What is answered by a check of rules.
 use Rattle.std.specs.Prelude.{◌≡◌, ℕ, ◌⊎◌, List, [], length, if◌then◌else◌}
 use Rattle.lalrpop_hir.specs.Clashes.{Entry}
 use Rattle.bajofeki_rules.specs.declared.position.Position.{Position}

@@ -1,5 +1,5 @@
 -- cases: proofs/Cases/ItemsWritten.antt
--- What is written for a text that named rules cut.
+-- What is written for a text that rules cut.
 use Rattle.std.specs.Prelude.{ℕ, List, Option}
 use Rattle.std.specs.Io.KnownBytes.{Appends}
 use Rattle.lalrpop_edits.specs.Chunked.{Chunked}

@@ -1,5 +1,5 @@
 -- cases: proofs/Cases/NamedRules.antt
--- What is answered by a file of named rules.
+-- What is answered by a file of rules.
 use Rattle.std.specs.Prelude.{◌≡◌, ℕ, ◌⊎◌, List, [], ◌∷◌, length, map}
 use Rattle.lalrpop_hir.specs.Clashes.{Entry}
 use Rattle.bajofeki_rules.specs.Lines.{lines}

@@ -1,4 +1,4 @@
-//! The lexer of a file of named rules.
+//! The lexer of a file of rules.
 ghost use Rattle.std.specs.Prelude.{◌≡◌, ◌<◌, ℕ, List, length, slice_get, Some, Ok, map, string_bytes, IfOk, OnOk, IfErr};
 ghost use Rattle.bajofeki_rules.specs.Lines.{lines};
 ghost use Rattle.lalrpop_rules.specs.ModeSet.{rules_of};

@@ -1,4 +1,4 @@
-//! A check of named rules: their clashes, or a review.
+//! A check of rules: their clashes, or a review.
 ghost use Rattle.std.specs.Prelude.{◌≡◌, ◌≢◌, ◌<◌, List, [], length, false, true, map, IfOk, OnOk, OnErr, IfErr, if◌then◌else◌};
 ghost use Rattle.bajofeki_rules.specs.Lines.{lines};
 ghost use Rattle.lalrpop_rules.specs.ModeClashes.{IsModesFault};

@@ -1,4 +1,4 @@
-//! One file of named rules compared with another.
+//! One file of rules compared with another.
 ghost use Rattle.std.specs.Prelude.{◌≡◌, ◌≢◌, false, true, map, string_bytes, IfOk, OnOk, OnErr, IfErr};
 ghost use Rattle.reports_lib.specs.Answer.{Answer, Begun};
 ghost use Rattle.tokens_lib.specs.FileAnswers.{Answered};

@@ -13,7 +13,7 @@ use reports_lib::Layout;
 use std::alloc::Global;
 use std::io::{Read, Write};
 
-/// Cuts the text by named rules as it comes, and writes a line for each token and for each fault, but none for skipped pieces.
+/// Cuts the text by rules as it comes, and writes a line for each token and for each fault, but none for skipped pieces.
 /// A plain line is `LINE:COLUMN NAME "SLICE"`, with `FILE:` before it if the file is named. Lines and columns count from 1,
 /// columns in characters, and a fault has `!` for its name. A line of JSON is an object with the members `file`, if the file is
 /// named, `line`, `column`, `start` and `end`, which are offsets in bytes, `rule`, which is `null` for a fault, `mode`, if the

@@ -1,4 +1,4 @@
-//! What is listed of a file of named rules: all clashes, or a review.
+//! What is listed of a file of rules: all clashes, or a review.
 ghost use Rattle.std.specs.Prelude.{◌≡◌, ◌≢◌, ◌<◌, ℕ, List, length, slice_get, Some, false, true, map, IfOk, OnOk, OnErr, IfErr};
 ghost use Rattle.bajofeki_rules.specs.Lines.{lines};
 ghost use Rattle.lalrpop_rule_file.specs.RuleFile.{AreFileParts, AreRules, ArePlaces, NamesMode, without_mark as without_mark_of};

@@ -161,7 +161,7 @@ fn give<W: Write>(
     Ok(ended)
 }
 
-/// Cuts the text by named rules as it comes, and writes the pieces as the sheet says.
+/// Cuts the text by rules as it comes, and writes the pieces as the sheet says.
 ///
 /// # Errors
 ///

@@ -1,5 +1,5 @@
 -- Cases of specs/ModeClashes.antt.
-use Rattle.std.proofs.Common.{◌≡◌, ℕ, [], ◌∷◌, List, length, ap, arith}
+use Rattle.std.proofs.Common.{◌≡◌, ℕ, [], ◌∷◌, List, arith}
 use Rattle.lalrpop_hir.specs.Clashes.{Entry}
 use Rattle.lalrpop_rules.specs.ModeClashes.{AreModeClashes, IsModesFault}
 use Rattle.lalrpop_rules.specs.Modes.{ModeRules}

@@ -1,5 +1,5 @@
 -- Cases of specs/TextTrees.antt.
-use Rattle.std.proofs.Common.{◌≡◌, ℕ, List, [], get_or, codes, refl, sym, ap, arith, ◌∙◌}
+use Rattle.std.proofs.Common.{◌≡◌, ℕ, List, [], codes, refl, sym, ap}
 use Rattle.std.specs.Borrow.{Bor}
 use Rattle.std.specs.Str.{chars}
 use lib.Utf8.{encode}
@@ -9,7 +9,7 @@ use Rattle.lalrpop_re.specs.Unescaped.{at_end, itself}
 use Rattle.lalrpop_hir.specs.Parts.{of_text}
 use Rattle.lalrpop_re.specs.declared.from_to_error.FromToError.TheVariants.{EmptyEnd, OutOfMemory}
 use Rattle.lalrpop_rules.specs.TextTrees.{HasTree, IsAnyCaseTree, IsBadEnd, IsEscapedTree}
-use Rattle.bajofeki_rules.specs.declared.rule_text.RuleText.TheVariants.{Literal, Escaped, AnyCase, Pattern, FromTo}
+use Rattle.bajofeki_rules.specs.declared.rule_text.RuleText.TheVariants.{Literal, FromTo}
 
 -- the empty literal has the tree of the empty word, and no other
 empty_literal : (text : Bor (List ℕ)) → text.now ≡ [] → HasTree (Literal text) empty

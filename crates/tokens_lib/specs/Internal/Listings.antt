@@ -1,4 +1,4 @@
--- What is listed of a file of named rules.
+-- What is listed of a file of rules.
 use Rattle.std.specs.Prelude.{ℕ, Bool, List, Option, Some, None, if◌then◌else◌}
 use Rattle.bajofeki_rules.specs.declared.mode_rule.ModeRule.{ModeRule}
 use Rattle.reports_lib.specs.Answer.{Answer, refusal}

@@ -1,4 +1,4 @@
-use Rattle.std.proofs.Common.{◌≡◌, ◌∙◌, ◌++◌, List, map, length, ap, sym, subst, arith, ◌∷◌, [], length-append}
+use Rattle.std.proofs.Common.{◌∙◌, List, map, length, ap, sym, subst, arith, ◌∷◌, [], length-append}
 use Rattle.lalrpop_hir.specs.Tree.{Tree}
 use Rattle.lalrpop_hir.specs.Clashes.{AreClashes}
 use Rattle.lalrpop_hir.specs.Report.{IsFaultOf}

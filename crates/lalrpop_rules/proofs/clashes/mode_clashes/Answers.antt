@@ -1,4 +1,4 @@
-use Rattle.std.proofs.Common.{◌≡◌, [], ◌∙◌, length, map, ap, sym, refl}
+use Rattle.std.proofs.Common.{[], ◌∙◌, length, map, ap, sym, refl}
 use Rattle.std.specs.Prelude.{IfOk}
 use Rattle.std.proofs.lemmas.Result.{IfOk-weaker, err_from_is_err_and}
 use Rattle.lalrpop_rules.specs.ModeClashes.{AreModeClashes}

@@ -1,4 +1,4 @@
-use Rattle.std.proofs.Common.{◌<◌, ◌≤◌, ℕ, List, length, ◌≡◌, arith}
+use Rattle.std.proofs.Common.{◌<◌, ℕ, List, length, ◌≡◌}
 use Rattle.std.specs.Prelude.{Option, Some, None, IfSome}
 use Rattle.lalrpop_hir.specs.declared.token.Token.{Token}
 use Rattle.lalrpop_rules.specs.Found.{IsFound}
