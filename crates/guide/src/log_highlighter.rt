@@ -1,5 +1,5 @@
 //! Paints the log that standard input brings, by the rules of a file: each piece in the colour of its rule, as soon as it is known.
-//! A file in place of standard input is named behind the rules.
+//! A file in place of standard input is named after the rules.
 #![tactic(auto)]
 
 use anyhow::{Context, Result, bail};

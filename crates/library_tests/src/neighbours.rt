@@ -38,7 +38,7 @@ fn apart(alloc: Global, words: &str) -> Result<String, AllocError> {
 #[test]
 fn tokens_that_run_on_into_others(rt: HostRuntime) {
     expect(&rt, apart(rt.alloc(), WORDS), "00 01 10 11 22 35 66 ");
-    // After `1` no match goes on with a point alone, but one may begin so; a dead state waits for nothing.
+    // After `1` no match goes on with only a point, but one may begin so; a dead state waits for nothing.
     expect(&rt, apart(rt.alloc(), r"[0-9]+(\.[0-9]+)? '.'"), "00 01 ");
     expect(&rt, apart(rt.alloc(), "'m' ma*[a&&b] 'a'"), "");
     expect(&rt, apart(rt.alloc(), "'a' 'aa'"), "00 01 ");

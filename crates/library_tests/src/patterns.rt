@@ -356,7 +356,7 @@ fn push_times(pattern: &mut String, part: &str, times: u32) -> Result<(), AllocE
     Ok(())
 }
 
-// `inner` with `open` in front and `close` behind, so many times.
+// `inner` with `open` before it and `close` after it, as often as is said.
 pub(crate) fn nested(
     alloc: Global,
     open: &str,

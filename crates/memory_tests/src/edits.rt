@@ -22,7 +22,7 @@ fn slices(alloc: Global, lexed: &LexedText<'_>) -> Result<String, AllocError> {
     Ok(line)
 }
 
-// Puts `new` behind the byte in the middle. If that is refused, the text and its pieces are the old ones.
+// Puts `new` after the byte in the middle. If that is refused, the text and its pieces are the old ones.
 fn edit_once(
     alloc: Global,
     lexed: &mut LexedText<'_>,
@@ -64,7 +64,7 @@ A = /a+/ <- aa <- a => aaa";
     expect(&rt, rt.alloc(), Call::Edits, table, 2);
 }
 
-// Adds the pieces that no later chunk can change, `|` behind them. A piece that is refused is asked for again.
+// Adds the pieces that no later chunk can change, and then `|`. A piece that is refused is asked for again.
 fn add_pieces(chunks: &mut Chunks<'_>, text: &str, line: &mut String) -> Result<(), AllocError> {
     let mut is_refused = false;
     // A piece has one byte at least.

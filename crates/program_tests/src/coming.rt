@@ -219,7 +219,7 @@ fn a_failed_read_leaves_the_lines_in_front(rt: HostRuntime) {
     }
 }
 
-// Where the last character begins of which the first bytes have only a part; behind them, if they have none.
+// Where the last character begins of which the first bytes have only a part; after them, if they have none.
 fn whole_front(text: &str, size: usize) -> usize {
     let mut front = 0;
     for at in 0..=size {
@@ -230,7 +230,7 @@ fn whole_front(text: &str, size: usize) -> usize {
     front
 }
 
-// The first bytes come, then one that is of no character. What lies behind isn't asked for.
+// The first bytes come, then one that is of no character. What comes after it isn't asked for.
 fn meets_no_character(
     rt: &impl Abort,
     alloc: Global,
@@ -297,7 +297,7 @@ const FAULTS: [Fault; 8] = [
         found: '\u{e9}',
         size: 2,
     },
-    // What lies behind the fault needn't be a text.
+    // What comes after the fault needn't be a text.
     Fault {
         rules: Rules::Plain,
         text: b"if!\xff",
@@ -350,7 +350,7 @@ const FAULTS: [Fault; 8] = [
     },
 ];
 
-// The fault is told, and nothing is read once it is seen: neither what lies behind it, nor the end or a failure.
+// The fault is told, and nothing is read once it is seen: neither what comes after it, nor the end or a failure.
 fn stops(alloc: Global, lexer: &RuleLexer, job: &Fault, reader: Fed<'_>) -> bool {
     let calls = reads(job.size, reader.at_once);
     let cut = cut(alloc, lexer, &Shape::Lines(PLAIN), reader);

@@ -11,7 +11,7 @@ const RULES: &[u8] = b"WORD = /[a-z]+/\nSPACE skip = / /\n";
 // Files in memory, each with its name.
 struct Named {
     files: &'static [(&'static str, &'static [u8])],
-    // A read of these fails behind their bytes.
+    // A read of these fails after their bytes.
     torn: &'static [(&'static str, &'static [u8])],
 }
 
@@ -139,7 +139,7 @@ fn standard_input_is_read_where_it_stands(rt: HostRuntime) {
     }
 }
 
-// The line of `in` isn't written before more has come, since it may go on; that of a word with a space behind it is.
+// The line of `in` isn't written before more has come, since it may go on; that of a word with a space after it is.
 #[test]
 fn standard_input_is_not_read_again_after_a_failure(rt: HostRuntime) {
     let words = ["r", "-", "g", "-"];
@@ -195,7 +195,7 @@ fn files_may_break_off(rt: HostRuntime) {
     }
 }
 
-// Nothing behind the fault changes it. So it is told, and with --recover what comes behind it.
+// Nothing after the fault changes it. So it is said, and with --recover what comes after it.
 #[test]
 fn a_fault_is_told_before_what_is_wrong_behind_it(rt: HostRuntime) {
     let rows: &[(&[&str], &[u8], &[u8], u8)] = &[

@@ -70,7 +70,7 @@ fn by_names(alloc: Global, bytes: &[u8]) -> Result<String, AllocError> {
     pieces(alloc, &numbers, bytes)
 }
 
-// The last row has the second byte of `é` alone.
+// The last row has only the second byte of `é`.
 #[test]
 fn keywords_names_and_faults(rt: HostRuntime) {
     let rows: [(&[u8], &str); 4] = [
@@ -171,6 +171,6 @@ fn places_count_lines_and_characters(rt: HostRuntime) {
         assert_eq!(rt; byte_position(text, wanted.at), wanted);
     }
     assert_eq!(rt; byte_position(text, 9), place(7, 2, 5));
-    // A byte that can't stand in a character is a column, the second byte of `é` alone is none.
+    // A byte that can't stand in a character is a column, and the second byte of `é` without its first is none.
     assert_eq!(rt; byte_position(b"\xff\xa9a", 3), place(3, 1, 3));
 }

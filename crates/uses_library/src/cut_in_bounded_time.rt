@@ -62,7 +62,7 @@ pub fn begin<'text>(
     lexer.tokens(alloc, text)
 }
 
-// Needs lalrpop_lexer::Lexer::matches_linear: start, built, spare, no_clash.
+// Needs lalrpop_lexer::Lexer::matches: start, built, spare, no_clash.
 /// The first match of the text, and what it costs. No word is ambiguous.
 ///
 /// # Errors
@@ -83,6 +83,6 @@ pub fn find_first<'text>(
         + open_states lexer.now.automaton * (length text.now + 64) + 64) }
     ensures no_clash { NoClash lexer.now.trees lexer.now.precedences }
 {
-    let mut matches = lexer.matches_linear(alloc, text)?;
+    let mut matches = lexer.matches(alloc, text)?;
     Ok(matches.next_match(steps))
 }

@@ -1,6 +1,6 @@
 //! The longest matches of a text, one after another.
 
-ghost use Rattle.std.specs.Prelude.{◌≡◌, ◌≢◌, ℕ, ◌+◌, ◌*◌, ◌≤◌, ◌++◌, [], drop, length, List, true, IfOk, IfNone, IfSome};
+ghost use Rattle.std.specs.Prelude.{◌≡◌, ◌≢◌, ℕ, ◌+◌, ◌*◌, ◌≤◌, ◌++◌, [], drop, length, List, true, IfOk, IfSome};
 ghost use Rattle.std.specs.Option.{option_map};
 ghost use Rattle.std.specs.Char.{encode_utf8};
 ghost use Rattle.std.specs.Str.{chars, IsCharBoundary};
@@ -9,12 +9,10 @@ ghost use Rattle.lalrpop_hir.specs.Prefix.{IsPrefix};
 ghost use Rattle.lalrpop_hir.specs.Tree.{Tree};
 ghost use Rattle.lalrpop_lexer.specs.Matching.{characters_of, open_states, rest_of};
 ghost use Rattle.lalrpop_dfa.specs.Dfa.{Recognizes};
-ghost use Rattle.lalrpop_dfa.specs.Lookahead.{ReadsAtMost};
-ghost use Rattle.lalrpop_hir.specs.Clash.{NoClash};
 
 use lalrpop_dense::DenseDfa;
 use lalrpop_dfa::NfaIndex;
-use lalrpop_lexer::{Lexer, LinearMatches, Matches};
+use lalrpop_lexer::LinearMatches;
 use lalrpop_nfa::Steps;
 use std::alloc::{AllocError, Global};
 
@@ -120,71 +118,4 @@ pub fn find_first<'text>(
 {
     let mut matches = LinearMatches::new(alloc, dense, text)?;
     Ok(matches.next_match(steps))
-}
-
-// Needs lalrpop_lexer::Lexer::matches: start.
-// Needs lalrpop_lexer::Matches::rest: rest.
-/// Before the first match of a lexer the rest is the whole text.
-pub fn all_at_first<'text>(lexer: &'text Lexer, text: &'text str) -> &'text str
-    ensures { result.now ≡ text.now }
-{
-    lexer.matches(text).rest()
-}
-
-// Needs lalrpop_lexer::Lexer::matches: built, no_clash.
-// Needs lalrpop_lexer::Matches::next_match: answer, prefix.
-/// The first match of the text.
-pub fn match_at_front<'text>(
-    lexer: &'text Lexer,
-    text: &'text str,
-) -> Option<(NfaIndex, &'text str)>
-    ensures answer { IsLongest lexer.now.trees lexer.now.precedences text.now
-        (option_map (λ m. (m.0, m.1.now)) result) }
-    ensures prefix { IfSome result (λ m. IsPrefix m.1.now text.now × (m.1.now ≢ [])) }
-    ensures no_clash { NoClash lexer.now.trees lexer.now.precedences }
-{
-    lexer.matches(text).next_match(&mut Steps::new())
-}
-
-// Needs lalrpop_lexer::Matches::next_match: goes_on, stays.
-// Needs lalrpop_lexer::Matches::offset: offset.
-/// Passes over a match, if there is one, and returns where the rest then begins.
-pub fn pass_match(matches: &mut Matches) -> usize
-    ensures { matches.old.at ≤ result }
-{
-    let _found = matches.next_match(&mut Steps::new());
-    matches.offset()
-}
-
-// Needs lalrpop_lexer::Matches::pass_char: first, passes, end.
-/// Passes over the first character of the rest, if there is one. The rest then begins after it.
-pub fn pass_one(matches: &mut Matches) -> Option<char>
-    ensures some { IfSome result (λ c. rest_of matches.old
-        ≡ encode_utf8 c ++ drop (matches.old.at + length (encode_utf8 c)) matches.old.text) }
-    ensures none { IfNone result ((rest_of matches.old ≡ []) × (matches.new ≡ matches.old)) }
-{
-    matches.pass_char()
-}
-
-// Needs lalrpop_lexer::Matches::next_match: paid, cost, read.
-/// The first match of the text, and what it costs.
-pub fn match_and_count<'text>(
-    lexer: &'text Lexer,
-    text: &'text str,
-    steps: &mut Steps,
-) -> Option<(NfaIndex, &'text str)>
-    ensures paid { (n : ℕ) → ReadsAtMost lexer.now.automaton n → IfSome result (λ m.
-        steps.new ≤ steps.old + (n + 2) * length (chars m.1.now)) }
-    ensures cost { IfNone result (steps.new ≤ steps.old + length (chars text.now)) }
-    ensures read { steps.old + characters_of (option_map (λ m. m.1.now) result) ≤ steps.new }
-{
-    lexer.matches(text).next_match(steps)
-}
-
-// Needs lalrpop_lexer::Matches::next_match: never_falls.
-/// After two matches, the steps that are taken and those that are prepaid are no fewer than before.
-pub fn pass_two(matches: &mut Matches, steps: &mut Steps) -> bool
-    ensures { steps.old + matches.old.spare ≤ steps.new + matches.new.spare }
-{
-    matches.next_match(steps).is_some() && matches.next_match(steps).is_some()
 }
