@@ -6,8 +6,8 @@ ghost use Rattle.bajofeki_c.specs.declared.held.BuildError.TheVariants.{File, Nu
 
 use lalrpop_emit::{EmitError, LexerNumbers};
 use lalrpop_lexer::Position;
-use lalrpop_rules::{RuleLexer, RulesError};
 use lalrpop_rule_file::{FileRule, RuleFile, RuleFileError, read_rules};
+use lalrpop_rules::{RuleLexer, RulesError};
 use std::alloc::{AllocError, Global};
 
 /// The lexer of a file's rules, as it is kept between calls.

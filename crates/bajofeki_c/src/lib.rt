@@ -45,8 +45,11 @@ pub use cut::{Cut, Piece, cut_on};
 pub use cutting::{BeginError, Cutting, begin, code_of, let_cutting_go};
 pub use held::{BuildError, BuiltLexer, Held, NamedRule, let_go, make};
 use lalrpop_emit::{EmitError, LexerNumbers};
-use lalrpop_rules::{RuleLexer, RulesError};
+use lalrpop_lexer::Lexer;
+use lalrpop_lexer::lexer::dfa::Precedence;
+use lalrpop_lexer::lexer::re::Regex;
 use lalrpop_rule_file::RuleFileError;
+use lalrpop_rules::{Action, RuleLexer, RulesError};
 pub use look::{Look, look_of, modes_of};
 pub use page::{Markup, Page, ansi_into, html_into};
 pub use position::{Place, place_of};
@@ -57,8 +60,12 @@ use std::alloc::Global;
 // What a lexer and a cut are made of may go to another thread, and several threads may see it.
 fn may_go_to_threads<T: Send + Sync>() {}
 
+// Of a `RuleLexer` its parts: the search for a proof of the whole at once passes its limit.
 fn rules_may_go_to_threads() {
-    may_go_to_threads::<RuleLexer>();
+    may_go_to_threads::<Lexer>();
+    may_go_to_threads::<Regex>();
+    may_go_to_threads::<Precedence>();
+    may_go_to_threads::<Action>();
 }
 
 fn numbers_may_go_to_threads() {

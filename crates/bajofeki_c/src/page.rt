@@ -6,8 +6,7 @@ ghost use Rattle.bajofeki_c.specs.Page.{IsPageOf, IsShown, piece_in};
 use crate::held::Held;
 use crate::rules::write_to;
 use lalrpop_markup::{Painter, push_html};
-use lalrpop_rules::RuleLexer;
-use lalrpop_rules::Item;
+use lalrpop_rules::{Item, RuleLexer};
 use std::alloc::{AllocError, Global};
 use std::str;
 

@@ -5,8 +5,8 @@ ghost use Rattle.bajofeki_c.specs.Report.{place_at, report, report_of_error, rep
 use crate::held::{BuildError, Held, NamedRule};
 use lalrpop_emit::EmitError;
 use lalrpop_lexer::Position;
-use lalrpop_rules::RulesError;
 use lalrpop_rule_file::RuleFileError;
+use lalrpop_rules::RulesError;
 
 /// What became of the rules. Numbers that a code doesn't have are 0. Rules are numbered from 0, in the order of their lines; lines
 /// and columns count from 1, columns in characters.
