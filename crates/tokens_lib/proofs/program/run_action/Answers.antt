@@ -55,7 +55,7 @@ returns-in-Ok-clause-answer g c =
     (λ status x. (x.0, (lexed Gives texts a.verbosity a.action a.rules.now names is x.0 x.1.0, x.1.1)))
     (lexer_answered c.run_by_lexer.result a.verbosity Gives (LexerAnswer Gives texts a.verbosity a.action a.rules.now names)
     a.rules.now c.in-Ok.found.lexer (map string_bytes c.in-Ok.found.modes.items) g.W.Write.contents g.E.Write.contents a.out.now c.run_by_lexer.new.out a.err.now c.lexer_by_name.new.err c.run_by_lexer.new.err
-    (rw c.in-Ok.is at c.in_ok-found.ensures.lexer) c.run_by_lexer.ensures.answer)
+    (rw c.in-Ok.is at c.in_ok-found-in-None.ensures.lexer) c.run_by_lexer.ensures.answer)
 
 pub returns-in-Ok-clause-begun : goal.returns-in-Ok-clause-begun
 returns-in-Ok-clause-begun g c =
@@ -68,14 +68,14 @@ returns-in-Ok-clause-begun g c =
     (Begun-weaker _ _ _ _ (lexed Gives texts a.verbosity a.action a.rules.now names is))
     (lexer_begun c.run_by_lexer.result a.verbosity Gives (LexerAnswer Gives texts a.verbosity a.action a.rules.now names)
     a.rules.now c.in-Ok.found.lexer (map string_bytes c.in-Ok.found.modes.items) g.E.Write.contents a.err.now c.lexer_by_name.new.err _ _
-    (rw c.in-Ok.is at c.in_ok-found.ensures.lexer) c.run_by_lexer.ensures.begun)
+    (rw c.in-Ok.is at c.in_ok-found-in-None.ensures.lexer) c.run_by_lexer.ensures.begun)
 
 pub returns-in-Err-clause-answer : goal.returns-in-Err-clause-answer
 returns-in-Err-clause-answer g c =
     let a = c.args in
     let names = map text a.names.now in
     let is : listing_of a.action ≡ None = sym c.listing_of.ensures ∙ c.in-None.is in
-    let refused = rw c.in-Err.is at c.in_ok-found.ensures.refused in
+    let refused = rw c.in-Err.is at c.in_ok-found-in-None.ensures.refused in
     let Gives = GivesWhole (g.F.Files.gives a.files.now) in
     let texts = TextsAnswer (g.F.Files.gives a.files.now) (StreamGives g.R.Read.remaining) a.input.now a.input.now in (
       refused.0,
@@ -87,5 +87,5 @@ returns-in-Err-clause-answer g c =
     )
 
 -- nothing was written
-pub returns-in_err-found-clause-begun : goal.returns-in_err-found-clause-begun
-returns-in_err-found-clause-begun g c = at_any_error _ c.from_residual.result (Begun-nothing _ _)
+pub returns-in_err-found-in-None-clause-begun : goal.returns-in_err-found-in-None-clause-begun
+returns-in_err-found-in-None-clause-begun g c = at_any_error _ c.from_residual.result (Begun-nothing _ _)
