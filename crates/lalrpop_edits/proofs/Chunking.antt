@@ -250,19 +250,18 @@ after_by actions (Some i) true at slice s = refl
 after_by actions (Some i) false at slice s = refl
 
 -- the piece by this rule at the front of the rest is final, and what is left lies behind it
-module _ (r : ModeRules) (last text rest : List ℕ) (given at size mode : ℕ) (s t : Stack) (over : Bool) (rule number : Option ℕ) (skips : List Bool) (skipped : Bool) (slice : Bor (List ℕ))
-    (same_rest : rest ≡ drop given text) (same_mode : mode ≡ s.mode) (same_skips : skips ≡ r.skips) (same_rule : number ≡ rule) (within : size ≤ length rest)
+module _ (r : ModeRules) (last text rest : List ℕ) (given at size mode : ℕ) (s t : Stack) (over : Bool) (rule number : Option ℕ) (skipped : Bool) (slice : Bor (List ℕ))
+    (same_rest : rest ≡ drop given text) (same_mode : mode ≡ s.mode) (same_rule : number ≡ rule) (within : size ≤ length rest)
     (same_slice : slice.now ≡ take size rest)
     (front : (more : List ℕ) → (over ≡ true → more ≡ []) → IsFront (trees_in r mode) r.precedences (rest ++ more) rule (take size rest))
-    (piece : (ts : List Tree) (ps word : List ℕ) (n : ℕ) (p : Bor (List ℕ)) → IsFront ts ps word rule p.now → IsPiece ts ps skips word 0 (placed 0 (item_by rule skipped n p))) where
+    (piece : (ts : List Tree) (ps word : List ℕ) (n : ℕ) (p : Bor (List ℕ)) → IsFront ts ps word rule p.now → IsPiece ts ps r.skips word 0 (placed 0 (item_by rule skipped n p))) where
   final_here : IsFinal (so_far r last (drop given text) at s over) (item_by number skipped at slice)
   final_here more may =
       let cut = subst (λ (p : List ℕ). IsFront (trees_in r mode) r.precedences (rest ++ more) rule p) (sym same_slice) (front more may) in
       let left = subst (λ (q : List ℕ). IsFront (trees_in r mode) r.precedences (q ++ more) rule slice.now) same_rest cut in
       let here = subst (λ (m : ℕ). IsFront (trees_in r m) r.precedences (drop given text ++ more) rule slice.now) same_mode left in
       let is = piece (trees_in r s.mode) r.precedences (drop given text ++ more) at slice here in
-      let known = subst (λ (b : List Bool). IsPiece (trees_in r s.mode) r.precedences b (drop given text ++ more) 0 (placed 0 (item_by rule skipped at slice))) same_skips is in
-      subst (λ (o : Option ℕ). IsPiece (trees_in r s.mode) r.precedences r.skips (drop given text ++ more) 0 (placed 0 (item_by o skipped at slice))) (sym same_rule) known
+      subst (λ (o : Option ℕ). IsPiece (trees_in r s.mode) r.precedences r.skips (drop given text ++ more) 0 (placed 0 (item_by o skipped at slice))) (sym same_rule) is
 
   size_here : size ≡ length (slice_of (item_by number skipped at slice))
   size_here = sym (ap length (slice_by number skipped at slice) ∙ ap length same_slice ∙ length-take-le size rest within)

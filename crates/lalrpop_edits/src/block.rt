@@ -10,7 +10,7 @@ ghost use Rattle.lalrpop_edits.specs.Internal.BlockPlaces.{IsCounted, AreCounted
 use crate::kept::Kept;
 use crate::place::{Place, pass};
 use lalrpop_lexer::Position;
-use lalrpop_rules::{RuleLexer, ModeStack};
+use lalrpop_rules::{ModeStack, RuleLexer};
 use std::alloc::{AllocError, Global};
 
 // The most pieces of a block; or as many as there are modes on the stack where it begins, if those are more: so the stacks

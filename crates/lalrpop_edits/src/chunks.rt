@@ -23,8 +23,8 @@ use crate::run::longest_settled;
 use crate::walker::Walker;
 use lalrpop_lexer::Lexer;
 use lalrpop_lexer::lexer::dfa::NfaIndex;
-use lalrpop_rules::{RuleLexer, ModeStack};
 use lalrpop_nfa::Steps;
+use lalrpop_rules::{ModeStack, RuleLexer};
 use std::alloc::{AllocError, Global};
 use std::fmt;
 use std::marker::Model;
@@ -191,17 +191,13 @@ fn act_by(
 }
 
 // Whether the rule is skipped. A fault isn't.
-fn is_skipped(skips: &[bool], rule: Option<NfaIndex>) -> bool
+fn is_skipped(lexer: &RuleLexer, rule: Option<NfaIndex>) -> bool
     ensures skipped { (ts : List Tree) (ps text : List ℕ) (at : ℕ) (slice : Bor (List ℕ))
         → IsFront ts ps text rule slice.now
-        → IsPiece ts ps skips.now text 0 (placed 0 (item_by rule result at slice)) }
+        → IsPiece ts ps lexer.now.skips text 0 (placed 0 (item_by rule result at slice)) }
 {
-    let index = match rule {
-        Some(index) => index.index(),
-        None => return false,
-    };
-    match skips.get(index) {
-        Some(skipped) => *skipped,
+    match rule {
+        Some(index) => lexer.is_skipped(index),
         None => false,
     }
 }
@@ -356,7 +352,7 @@ impl<'rules> Chunks<'rules> {
         self.given = from + front.size;
         Ok(Some(GivenPiece {
             rule: number_of(front.rule),
-            is_skipped: is_skipped(self.lexer.skips(), front.rule),
+            is_skipped: is_skipped(self.lexer, front.rule),
             start,
         }))
     }

@@ -22,8 +22,8 @@ use crate::error::EditError;
 use crate::kept::Kept;
 use crate::meet::{Cut, Edit, Old, Spot, cut_to_meet};
 use crate::place::{Place, pass};
-use lalrpop_rules::{RuleLexer, ModeStack};
 use lalrpop_nfa::Steps;
+use lalrpop_rules::{ModeStack, RuleLexer};
 use std::alloc::{AllocError, Global};
 
 // Where the pieces are cut anew from.

@@ -16,8 +16,8 @@ use crate::cutter::Cutter;
 use crate::error::EditError;
 use crate::kept::Kept;
 use crate::place::{Place, cut_piece, pass};
-use lalrpop_rules::RuleLexer;
 use lalrpop_nfa::Steps;
+use lalrpop_rules::RuleLexer;
 use std::alloc::AllocError;
 
 // A place among the pieces of blocks.

@@ -1,6 +1,6 @@
 //! The pieces of a text, one after another.
 
-ghost use Rattle.std.specs.Prelude.{◌≡◌, ◌<◌, ◌+◌, ◌-◌, ◌^◌, ℕ, true, false, Some, length, slice_get, IfSome, IfNone, OnSome};
+ghost use Rattle.std.specs.Prelude.{◌≡◌, ◌<◌, ◌+◌, ◌-◌, ◌^◌, length, IfSome, IfNone, OnSome};
 ghost use Rattle.std.specs.Str.{IsCharBoundary};
 ghost use Rattle.lalrpop_rules.specs.Pieces.{IsSame};
 ghost use Rattle.lalrpop_edits.specs.Lexed.{HandsOut};
@@ -12,22 +12,10 @@ use crate::block::Block;
 use crate::kept::{FAULT, Kept};
 use lalrpop_lexer::Token;
 use lalrpop_lexer::lexer::dfa::NfaIndex;
-use lalrpop_rules::RuleLexer;
-use lalrpop_rules::Item;
+use lalrpop_rules::{Item, RuleLexer};
 use std::fmt;
 use std::iter::FusedIterator;
 use std::marker::Model;
-
-// Whether the rule with this index is skipped.
-fn is_skipped(skips: &[bool], index: usize) -> bool
-    ensures yes { result ≡ true → slice_get skips.now index ≡ Some true }
-    ensures no { result ≡ false → ¬ (slice_get skips.now index ≡ Some true) }
-{
-    match skips.get(index) {
-        Some(skips) => *skips,
-        None => false,
-    }
-}
 
 // The piece of the text at this place of which this is kept.
 pub(crate) fn item_of<'text>(
@@ -44,14 +32,14 @@ pub(crate) fn item_of<'text>(
     if piece.rule == FAULT {
         return Item::Fault { start: at, slice };
     }
-    let rule = piece.rule as usize;
-    let skips = is_skipped(lexer.skips(), rule);
+    let index = NfaIndex::new(piece.rule as usize);
+    let is_skipped = lexer.is_skipped(index);
     let token = Token {
-        index: NfaIndex::new(rule),
+        index,
         slice,
         start: at,
     };
-    if skips {
+    if is_skipped {
         return Item::Skipped(token);
     }
     Item::Token(token)

@@ -13,8 +13,8 @@ use crate::error::EditError;
 use crate::front::{front_piece, kept_of};
 use crate::kept::{FAULT, Kept};
 use lalrpop_dfa::NfaIndex;
-use lalrpop_rules::{RuleLexer, ModeStack};
 use lalrpop_nfa::Steps;
+use lalrpop_rules::{ModeStack, RuleLexer};
 use std::alloc::AllocError;
 
 // Where the next piece begins, and the stack of modes there.

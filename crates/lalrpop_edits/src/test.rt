@@ -1,8 +1,7 @@
 //! Texts that are edited, and texts that come in chunks.
 
 use crate::{Change, Chunks, EditError, LexedText, SettledToken};
-use lalrpop_rules::{Action, RuleLexer, ModeRule, ModeStack, RulesError};
-use lalrpop_rules::Rule;
+use lalrpop_rules::{Action, ModeRule, ModeStack, Rule, RuleLexer, RulesError};
 use std::alloc::Global;
 use std::test::Fail;
 

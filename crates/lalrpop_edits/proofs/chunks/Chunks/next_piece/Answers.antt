@@ -49,7 +49,7 @@ returns c =
       gives = λ slice same.
           let cut : slice.now ≡ take f.size c.range_from-rest.result.now = same ∙ ap (λ n. take n (drop i.given text)) size ∙ ap (take f.size) (sym left) in
           let gives = gives_here i.lexer.now (take (i.given - i.last) (drop i.last text)) text c.range_from-rest.result.now i.given i.at f.size c.top-mode.result i.stack c.act_by.new.stack i.is_ended f.rule
-          c.number_of.result c.skips.result.now c.is_skipped.result slice left c.top-mode.ensures.mode c.skips.ensures.skips c.number_of.ensures.same c.in-Some.ensures.boundary.0 cut c.in-Some.ensures.settled
+          c.number_of.result c.is_skipped.result slice left c.top-mode.ensures.mode c.number_of.ensures.same c.in-Some.ensures.boundary.0 cut c.in-Some.ensures.settled
           c.is_skipped.ensures.skipped (i.at + f.size) last refl same c.in_ok-act_by.ensures.acted in
           subst (λ (s : Chunked). GivesFinal s (Some (item_by c.number_of.result c.is_skipped.result i.at slice))
           (record { rules = i.lexer.now; last = last; rest = drop (i.given + f.size) text; at = i.at + f.size; stack = c.act_by.new.stack; is_ended = i.is_ended })) c.self.view_is gives;
