@@ -49,7 +49,7 @@ use lalrpop_lexer::Lexer;
 use lalrpop_lexer::lexer::dfa::Precedence;
 use lalrpop_lexer::lexer::re::Regex;
 use lalrpop_rule_file::RuleFileError;
-use lalrpop_rules::{Action, RuleLexer, RulesError};
+use lalrpop_rules::{Action, RulesError};
 pub use look::{Look, look_of, modes_of};
 pub use page::{Markup, Page, ansi_into, html_into};
 pub use position::{Place, place_of};

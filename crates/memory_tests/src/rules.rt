@@ -66,10 +66,7 @@ fn rule_of(row: &str) -> Rule {
     }
 }
 
-fn rule_lexer_of(
-    alloc: Global,
-    rows: &str,
-) -> Result<Result<RuleLexer, RulesError>, AllocError> {
+fn rule_lexer_of(alloc: Global, rows: &str) -> Result<Result<RuleLexer, RulesError>, AllocError> {
     let mut rules = Vec::new(alloc);
     for row in rows.split(" / ") {
         rules.push(rule_of(row))?;

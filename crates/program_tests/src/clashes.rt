@@ -1,8 +1,8 @@
 //! The clashes of rules: their lines, and what is written when a writer fails.
 ghost use Rattle.std.specs.Prelude.{◌≡◌, false};
 
-use lexdfa_lib::{RunError, Watched};
 use crate::failing::FailsAfter;
+use lexdfa_lib::{RunError, Watched};
 use std::alloc::Global;
 use std::io;
 use std::io::Write;

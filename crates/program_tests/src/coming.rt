@@ -5,9 +5,9 @@ use crate::cutting::{
     ALL, Answer, CLEAN, Ended, FAULTY, Fed, JOBS, JSON, Job, Lines, PLAIN, RECOVERING, Shape, cut,
     is_end, lexer_of_comments, lexer_of_rules, lexer_of_words, write_lines,
 };
+use crate::failing::FailsAfter;
 use lalrpop_lexer::Position;
 use lexdfa_lib::{RunError, Watched};
-use crate::failing::FailsAfter;
 use std::alloc::{AllocError, Global};
 use std::io;
 use std::process::Abort;

@@ -4,9 +4,9 @@ use crate::cutting::{
     ALL, CLEAN, Ended, Fed, JOBS, Job, PLAIN, Shape, cut, is_end, lexer_of_comments,
     lexer_of_rules, write_shape,
 };
+use crate::failing::FailsAfter;
 use lalrpop_lexer::Position;
 use lexdfa_lib::{RunError, Watched};
-use crate::failing::FailsAfter;
 use std::alloc::Global;
 use std::io;
 use std::process::Abort;

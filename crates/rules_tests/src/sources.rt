@@ -1,7 +1,7 @@
 //! Source files in C and Rust, and lexers that have none.
 
-use crate::rules::expect;
 use crate::bytes::{keyword_and_names, nested_words};
+use crate::rules::expect;
 use lalrpop_emit::{EmitError, LexerNumbers, c_source, rust_source};
 use lalrpop_rules::{Rule, RuleLexer};
 use std::alloc::{AllocError, Global};

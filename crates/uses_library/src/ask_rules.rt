@@ -6,8 +6,8 @@ ghost use Rattle.lalrpop_review.specs.Apart.{IsTokenIn, TellsApart};
 ghost use Rattle.lalrpop_review.specs.Review.{AreThose};
 
 use lalrpop_hir::NfaIndex;
-use lalrpop_rules::RuleLexer;
 use lalrpop_review::{Difference, difference_in, review};
+use lalrpop_rules::RuleLexer;
 use std::alloc::{AllocError, Global};
 
 // Needs lalrpop_review::review: review.

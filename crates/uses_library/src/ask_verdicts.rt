@@ -11,9 +11,8 @@ ghost use Rattle.lalrpop_verdicts.specs.Picture.{dot};
 ghost use Rattle.lalrpop_verdicts.specs.Smallest.{IsCanonical};
 ghost use Rattle.lalrpop_verdicts.specs.Verdicts.{IsWonBy, words_of};
 
-use lalrpop_hir::DfaConstructionError;
 use lalrpop_dfa::Dfa;
-use lalrpop_hir::{Hir, Regex};
+use lalrpop_hir::{DfaConstructionError, Hir, Regex};
 use lalrpop_verdicts::{
     Difference, Verdict, dot, least_difference, matches_empty, minimized, same_language, verdicts,
     winners,

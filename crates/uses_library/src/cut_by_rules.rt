@@ -14,9 +14,7 @@ ghost use Rattle.lalrpop_rules.specs.RuleSet.{names_of};
 ghost use Rattle.lalrpop_rules.specs.declared.item.Item.{Item as ItemValue};
 
 use lalrpop_lexer::lexer::dfa::NfaIndex;
-use lalrpop_rules::{
-    Action, Item, ModeRule, Rule, RuleItems, RuleLexer, RulesError, mode_clashes,
-};
+use lalrpop_rules::{Action, Item, ModeRule, Rule, RuleItems, RuleLexer, RulesError, mode_clashes};
 use std::alloc::{AllocError, Global};
 
 // Needs lalrpop_rules::RuleLexer::from_rules: rules, error.
@@ -286,4 +284,3 @@ pub fn modes_with_lists(
     let found = mode_clashes(alloc, rules, modes)?;
     Ok(found.len())
 }
-

@@ -7,8 +7,7 @@ ghost use Rattle.lalrpop_rules.specs.Pieces.{AreSame, slice_of, start_of};
 ghost use Rattle.lalrpop_rules.specs.declared.item.Item.{Item as ItemValue};
 
 use lalrpop_edits::{Change, EditError, LexedText};
-use lalrpop_rules::RuleLexer;
-use lalrpop_rules::Item;
+use lalrpop_rules::{Item, RuleLexer};
 use std::alloc::{AllocError, Global};
 use std::ops::Range;
 

@@ -5,8 +5,8 @@ ghost use Rattle.lalrpop_rules.specs.ModeCut.{open_in_all};
 ghost use Rattle.lalrpop_edits.specs.Lexed.{ReadsTo};
 
 use lalrpop_edits::{EditError, LexedText};
-use lalrpop_rules::RuleLexer;
 use lalrpop_nfa::Steps;
+use lalrpop_rules::RuleLexer;
 use std::alloc::Global;
 use std::ops::Range;
 

@@ -12,8 +12,7 @@ ghost use Rattle.lalrpop_rules.specs.declared.item.Item.{Item as ItemValue};
 ghost use Rattle.lalrpop_rules.specs.declared.item.Item.TheVariants.{Fault};
 
 use lalrpop_edits::{Chunks, EditError, GivenPiece};
-use lalrpop_rules::RuleLexer;
-use lalrpop_rules::Item;
+use lalrpop_rules::{Item, RuleLexer};
 use std::alloc::Global;
 
 // Needs lalrpop_edits::Chunks::is_ended: ended; lalrpop_edits::Chunks::feed: fed, refused.

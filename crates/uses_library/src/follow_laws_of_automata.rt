@@ -9,9 +9,9 @@ ghost use Rattle.lalrpop_nfa.specs.Compiled.{IsCompiled};
 ghost use Rattle.lalrpop_nfa.specs.Partition.{Alike, IsCovered, IsUniform};
 ghost use Rattle.lalrpop_dfa.specs.Dfa.{Recognizes};
 
-use lalrpop_hir::NfaIndex;
 use lalrpop_dfa::Dfa;
 use lalrpop_dfa::interpret::interpret;
+use lalrpop_hir::NfaIndex;
 use lalrpop_nfa::interpret::interpret as run_alone;
 use lalrpop_nfa::overlap::remove_overlap;
 use lalrpop_nfa::{Nfa, Test};

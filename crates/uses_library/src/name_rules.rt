@@ -113,11 +113,7 @@ pub fn modes_of(lexer: &RuleLexer, index: NfaIndex) -> Option<&[usize]>
 
 // Needs lalrpop_rules::RuleLexer::lexer: trees, precedences.
 /// The token at the front of a text that is in this mode.
-pub fn token_in<'text>(
-    lexer: &RuleLexer,
-    mode: usize,
-    text: &'text str,
-) -> Option<Token<'text>>
+pub fn token_in<'text>(lexer: &RuleLexer, mode: usize, text: &'text str) -> Option<Token<'text>>
     requires there { mode < lexer.now.modes }
     ensures token { IfSome result (λ token.
         IsToken (trees_in lexer.now mode) lexer.now.precedences text.now 0 token) }

@@ -6,8 +6,8 @@ ghost use Rattle.lalrpop_rule_file.specs.declared.file_rule.FileRule.{FileRule a
 ghost use Rattle.lalrpop_rule_file.specs.FileModes.{Said, modes_of};
 
 use lalrpop_lexer::lexer::re::Part;
-use lalrpop_rules::{RuleLexer, ModeRule, RulesError};
 use lalrpop_rule_file::{LineFault, RuleFile, RuleFileError, read_rules, without_mark};
+use lalrpop_rules::{ModeRule, RuleLexer, RulesError};
 use std::alloc::{AllocError, Global};
 
 // Needs lalrpop_rule_file::without_mark: ensures.

@@ -5,8 +5,8 @@ ghost use Rattle.lalrpop_re.specs.Language.{Matches};
 ghost use Rattle.lalrpop_re.specs.Runs.{IsScalar};
 ghost use Rattle.lalrpop_re.specs.UpTo.{IsFromTo};
 
-use lalrpop_re::{FromToError, from_to};
 use lalrpop_lexer::lexer::re::Regex;
+use lalrpop_re::{FromToError, from_to};
 use std::alloc::{AllocError, Global};
 
 // Needs lalrpop_re::from_to: tree, no_fault.

@@ -1,8 +1,8 @@
 //! Refusals of memory other than those of parsing patterns.
 ghost use Rattle.std.specs.Prelude.{◌≡◌, ◌∷◌, [], IfErr};
 
-use lalrpop_re::RegexError;
 use lalrpop_hir::Hir;
+use lalrpop_re::RegexError;
 use std::alloc::Global;
 
 /// Room for the tree. The only error is refused memory.

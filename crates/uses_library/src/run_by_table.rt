@@ -9,10 +9,10 @@ ghost use Rattle.lalrpop_dfa.specs.Dfa.{Recognizes};
 ghost use Rattle.lalrpop_dfa.specs.Lookahead.{ReadsAtMost};
 ghost use Rattle.lalrpop_hir.specs.Longest.{IsLongest};
 
-use lalrpop_hir::NfaIndex;
 use lalrpop_dense::{DenseDfa, Matcher, TokenEnd, TokenEnds};
 use lalrpop_dfa::Dfa;
 use lalrpop_dfa::interpret::interpret;
+use lalrpop_hir::NfaIndex;
 use lalrpop_nfa::Steps;
 use std::alloc::{AllocError, Global};
 

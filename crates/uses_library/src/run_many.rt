@@ -10,9 +10,9 @@ ghost use Rattle.lalrpop_dfa.specs.Dfa.{Recognizes};
 ghost use Rattle.lalrpop_hir.specs.Longest.{IsLongest};
 ghost use Rattle.lalrpop_dfa.specs.Lookahead.{ReadsAtMost};
 
-use lalrpop_hir::NfaIndex;
 use lalrpop_dfa::Dfa;
 use lalrpop_dfa::interpret::{interpret, interpret_counted, interpret_probed};
+use lalrpop_hir::NfaIndex;
 use lalrpop_nfa::Steps;
 
 // Needs lalrpop_dfa::interpret: answer, prefix.
