@@ -7,8 +7,6 @@ mod change;
 mod chunks;
 mod cutter;
 mod decoder;
-#[cfg(test)]
-mod decoder_test;
 mod edit;
 mod error;
 mod front;
@@ -22,8 +20,6 @@ mod pieces;
 mod place;
 mod run;
 mod settled_token;
-#[cfg(test)]
-mod test;
 mod walker;
 
 pub use change::Change;

@@ -10,8 +10,6 @@ mod kind_counts;
 mod look;
 mod mode;
 mod modes;
-#[cfg(test)]
-mod test;
 mod whole;
 
 pub use apart::difference_in;

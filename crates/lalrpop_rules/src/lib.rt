@@ -26,8 +26,6 @@ mod one_mode;
 mod pieces;
 mod rule_items;
 mod rule_lexer;
-#[cfg(test)]
-mod test;
 mod text_error;
 mod trees;
 
