@@ -269,7 +269,7 @@ fn add_pieces(found: &mut Found, chunks: &mut Chunks<'_>) -> Result<(), AllocErr
         match chunks.next_piece() {
             Ok(Some(piece)) => add_item(found, &piece.item(chunks.slice())),
             Ok(None) => break,
-            Err(error) => return Err(error),
+            Err(_) => return Err(AllocError),
         }
     }
     Ok(())

@@ -96,7 +96,7 @@ fn characters_may_come_in_chunks(rt: HostRuntime) {
         (&[b"a\xc3", b"\xa4b"], "a [195] äb [] "),
         (&[b"\xe2", b"\x82", b"\xac"], " [226]  [226, 130] € [] "),
         (&[b"ab\xffc", b"d"], "ab []  [] broken"),
-        (&[b"a\xc3", b"b"], "a [195]  [195] broken"),
+        (&[b"a\xc3", b"b"], "a [195]  [] broken"),
     ];
     for (chunks, wanted) in rows {
         expect(&rt, decoded(rt.alloc(), chunks), wanted);
