@@ -45,7 +45,7 @@ place_of rules (Some i) = option_map (λ r. r.place) (slice_get rules i)
 abbrev pub place_in : List FileRule → RulesError → Option Position
 place_in rules e = place_of rules (rule_of e)
 
--- the lexer is that of the rules that the file says
+-- the lexer has the rules of the file
 abbrev pub IsLexerOfFile : List ℕ → ModeRules → Type 0
 IsLexerOfFile bytes lexer =
     (modes : ℕ) × ((rules : List FileRule) × ((taken : List ModeRule) × (Says bytes modes rules taken × AreModeRules taken modes lexer)))

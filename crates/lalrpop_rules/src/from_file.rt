@@ -1,5 +1,6 @@
 //! A lexer of the rules of a file, in one call.
 ghost use Rattle.std.specs.Prelude.{◌≡◌, ◌<◌, length, IfOk, IfErr};
+ghost use Rattle.lalrpop_rules.specs.Modes.{NoModeClash};
 ghost use Rattle.lalrpop_rules.specs.FileLexer.{IsFileError, IsLexerOfFile, file_error, memory_error, place_in, rule_of as rule_named};
 ghost use Rattle.lalrpop_rules.specs.Internal.FileRules.{IsLexerOfRules, IsRefusalOfRules};
 
@@ -78,6 +79,7 @@ fn place_of(rules: &[FileRule<'_>], error: &RulesError) -> Option<Position>
 fn lexer_of(alloc: Global, file: &RuleFile<'_>) -> Result<RuleLexer, FileError>
     requires some { 0 < length file.now.modes.items }
     ensures lexer { IfOk result (IsLexerOfRules file.now) }
+    ensures no_clash { IfOk result NoModeClash }
     ensures error { IfErr result (IsRefusalOfRules file.now) }
 {
     let rules = file.mode_rules(alloc)?;
@@ -106,6 +108,7 @@ impl RuleLexer {
     /// That of `read_rules`, or else that of `RuleLexer::from_rules` with the place of the rule's text; or out of memory.
     pub fn from_file(alloc: Global, bytes: &[u8]) -> Result<RuleLexer, FileError>
         ensures lexer { IfOk result (IsLexerOfFile bytes.now) }
+        ensures no_clash { IfOk result NoModeClash }
         ensures error { IfErr result (IsFileError bytes.now) }
     {
         let file = read_rules(alloc, bytes)?;

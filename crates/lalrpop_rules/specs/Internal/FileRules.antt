@@ -10,7 +10,7 @@ use Rattle.lalrpop_rules.specs.ModeSet.{AreModeRules, IsRulesError}
 use Rattle.lalrpop_rules.specs.declared.from_file.FileError.{FileError}
 use Rattle.lalrpop_rules.specs.declared.from_file.FileError.TheVariants.{File, Rules}
 
--- the lexer is that of the rules of the file
+-- the lexer has the rules of the file
 abbrev pub IsLexerOfRules : RuleFile → ModeRules → Type 0
 IsLexerOfRules file lexer =
     (taken : List ModeRule) × (KnowTheirParts file.parts.items file.rules.items taken × AreModeRules taken (length file.modes.items) lexer)
