@@ -67,7 +67,7 @@ fn show_all(out: &mut String, subs: &[Hir], between: &str, levels: u32) -> Resul
     out.push_str(")")
 }
 
-// A tree on one line, with the parts of rows and choices in parentheses, and dots below so many levels.
+// A tree on one line, `levels` deep: rows and choices have parentheses, and what lies deeper is shown as dots.
 #[cycle(show)]
 fn show(out: &mut String, tree: &Hir, levels: u32) -> Result<(), AllocError> {
     if levels == 0 {

@@ -131,7 +131,7 @@ fn by_nested_words(alloc: Global, bytes: &[u8]) -> Result<String, AllocError> {
     pieces(alloc, &numbers, bytes)
 }
 
-// How many pieces so many signs have, and whether the modes were too deep.
+// How many pieces a text of `count` signs has, and whether the modes were too deep.
 fn signs(alloc: Global, count: usize) -> Result<String, AllocError> {
     let numbers = nested_words(alloc)?;
     let text = "<".repeat(alloc, count)?;
