@@ -1,7 +1,9 @@
 //! What can go wrong in a run.
 ghost use Rattle.std.specs.Prelude.{◌≡◌};
 ghost use Rattle.lexdfa_lib.specs.Status.{error_status};
+ghost use Rattle.lexdfa_lib.specs.declared.error.RunError.TheVariants.{OutOfMemory};
 
+use std::alloc::AllocError;
 use thiserror::Error;
 
 /// Why a run ended without an outcome.
@@ -34,5 +36,13 @@ impl RunError {
             RunError::Read => 6,
             RunError::Write => 6,
         }
+    }
+}
+
+impl From<AllocError> for RunError {
+    ghost from_gives = { λ _ e. e ≡ OutOfMemory };
+
+    fn from(_error: AllocError) -> RunError {
+        RunError::OutOfMemory
     }
 }

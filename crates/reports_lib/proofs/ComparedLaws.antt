@@ -14,9 +14,6 @@ use Rattle.bajofeki_rules.specs.Stack.{actions_of}
 use Rattle.bajofeki_rules.specs.declared.action.Action.{Action}
 use Rattle.lalrpop_review.specs.Apart.{told}
 use Rattle.lalrpop_verdicts.specs.Differences.{Answers}
-use Rattle.lexdfa_lib.specs.Watch.{AppendsPrefix}
-use Rattle.lexdfa_lib.specs.declared.error.RunError.{RunError}
-use Rattle.reports_lib.specs.Answer.{Begun}
 use Rattle.reports_lib.specs.Compared.{action_text, skip_text, token_text, modes_text, modes_line, IsDifference, AreDifferences, difference_line, difference_lines, IsDifferenceText, DifferenceAnswer, text_status}
 
 -- ---- the names of modes
@@ -108,10 +105,3 @@ module _ (old : List ℕ) (r : ModeRules) (modes : List (List ℕ)) (new : List 
           grows ∙ ap (λ (t : List ℕ). t ++ Line count f) is ∙ ap (λ (n : ℕ). Lines 0 fs ++ Line n f) place ∙ sym (lines_more 0 fs f),
         ),
       )
-
-  -- a prefix of them was written
-  pub difference_begun : (result : Result ℕ RunError) (text bytes : List ℕ) (a b : Option (List ℕ)) → IsDifferenceText old r modes new s others text → bytes ≡ text
-      → AppendsPrefix a b bytes → OnErr result (Begun (DifferenceAnswer old r modes new s others) a b)
-  difference_begun (Ok status) text bytes a b is same part = tt
-  difference_begun (Err error) text bytes a b is same part =
-      inr (record { status = text_status text; out = text; err = [] }, ((text, (is, refl)), subst (AppendsPrefix a b) same part))

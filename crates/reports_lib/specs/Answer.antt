@@ -1,8 +1,6 @@
 -- cases: proofs/Cases/Answer.antt
 -- What the program answers.
-use Rattle.std.specs.Prelude.{ℕ, ◌⊎◌, max, List, [], ◌++◌, Option, codes}
-use Rattle.std.specs.Io.KnownBytes.{Appends}
-use Rattle.lexdfa_lib.specs.Watch.{AppendsPrefix}
+use Rattle.std.specs.Prelude.{ℕ, max, List, [], ◌++◌, codes}
 
 -- an exit status, and what is written to standard output and to standard error
 pub record Answer : Type 0 where
@@ -32,7 +30,3 @@ about file reason = codes "tokens: " ++ (file ++ (codes ": " ++ (reason ++ codes
 -- a message about a file begins with its name
 abbrev pub headed : List ℕ → List ℕ → List ℕ
 headed file rest = codes "tokens: " ++ (file ++ (codes ":" ++ rest))
-
--- nothing was written, or a prefix of what such an answer writes
-abbrev pub Begun : (Answer → Type 0) → Option (List ℕ) → Option (List ℕ) → Type 0
-Begun Is held held_now = Appends held held_now [] ⊎ ((answer : Answer) × (Is answer × AppendsPrefix held held_now answer.out))

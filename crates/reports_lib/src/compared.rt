@@ -1,20 +1,17 @@
 //! Two files of rules that are compared.
 ghost use Rattle.std.specs.Prelude.{◌≡◌, ◌≢◌, ◌<◌, ◌++◌, ◌↔◌, ℕ, List, Option, false, true, map, slice_get, string_bytes, unwrap_or, IsTrue, IfOk, OnOk, OnErr, IfErr};
-ghost use Rattle.std.specs.Io.KnownBytes.{Appends};
 ghost use Rattle.lalrpop_review.specs.Apart.{told};
 ghost use Rattle.lalrpop_verdicts.specs.Differences.{Answers};
-ghost use Rattle.reports_lib.specs.Answer.{Begun};
 ghost use Rattle.reports_lib.specs.Compared.{DifferenceAnswer, IsDifference, IsDifferenceText, action_text, difference_line, modes_line as modes_line_of, modes_text, place_text, skip_text, spaced, text_status, token_text};
 ghost use Rattle.reports_lib.specs.ItemLines.{mode_named, name_at};
 
 use crate::file_lexer::FileLexer;
+use crate::reply::Reply;
 use lalrpop_lexer::ShownWord;
 use lalrpop_lexer::lexer::dfa::NfaIndex;
 use lalrpop_review::{Difference, difference_in};
 use lalrpop_rules::{Action, RuleLexer};
-use lexdfa_lib::{RunError, Watched, write_whole};
 use std::alloc::{AllocError, Global};
-use std::io::Write;
 
 // The name of the mode with this number, or the empty string if no mode has it.
 fn mode_name(modes: &[String], mode: usize) -> &str
@@ -222,47 +219,30 @@ fn status_of(text: &str) -> u8
     if text.is_empty() { 0 } else { 1 }
 }
 
-/// Writes what tells the rules of two files apart, and returns the status: 1 if something does, else 0, and then nothing is
-/// written. For each mode it is the least text that is another token by one file than by the other, as
+/// What tells the rules of two files apart, with the status 1; or nothing, with 0, if nothing does. For each mode it is the least
+/// text that is another token by one file than by the other, as
 ///
 /// ```text
 /// in mode INITIAL, "if" is IF in old.rules, and NAME skip push STRING in new.rules
 /// ```
 ///
-/// without the mode if there is but one; or one line if the modes of the files have other names. All is made before the first
-/// byte is written.
+/// without the mode if there is but one; or one line if the modes of the files have other names.
 ///
 /// # Errors
 ///
-/// `OutOfMemory` if a request for memory was refused: nothing was written. `Write` if a write failed or took no byte: a prefix
-/// was written.
-pub fn write_difference<W: Write>(
+/// `AllocError` if a request for memory was refused.
+pub fn difference_reply(
     alloc: Global,
     old_name: &str,
     old: &FileLexer,
     new_name: &str,
     new: &FileLexer,
-    out: &mut Watched<W>,
-) -> Result<u8, RunError>
-    requires out_good { out.old.failed ≡ false }
-    ensures written { IfOk result (λ status. (text : List ℕ) × (IsDifferenceText
+) -> Result<Reply, AllocError>
+    ensures answer { IfOk result (DifferenceAnswer
         old_name.now old.now.lexer (map string_bytes old.now.modes.items)
-        new_name.now new.now.lexer (map string_bytes new.now.modes.items) text
-        × ((status ≡ text_status text)
-        × Appends (W.contents out.old.inner) (W.contents out.new.inner) text))) }
-    ensures good { OnOk result (out.new.failed ≡ false) }
-    ensures begun { OnErr result (Begun (DifferenceAnswer
-        old_name.now old.now.lexer (map string_bytes old.now.modes.items)
-        new_name.now new.now.lexer (map string_bytes new.now.modes.items))
-        (W.contents out.old.inner) (W.contents out.new.inner)) }
-    ensures memory { IfErr result (λ e. e ≡ RunError.OutOfMemory → out.new.failed ≡ false) }
-    ensures write { IfErr result (λ e. e ≡ RunError.Write → out.new.failed ≡ true) }
-    ensures read { IfErr result (λ e. e ≢ RunError.Read) }
-    ensures no_late_write { out.new.late ≡ out.old.late }
+        new_name.now new.now.lexer (map string_bytes new.now.modes.items)) }
 {
-    let Ok(text) = difference_text(alloc, old_name, old, new_name, new) else {
-        return Err(RunError::OutOfMemory);
-    };
-    write_whole(out, text.as_bytes())?;
-    Ok(status_of(&text))
+    let text = difference_text(alloc, old_name, old, new_name, new)?;
+    let status = status_of(&text);
+    Ok(Reply::written(alloc, status, text.into_bytes()))
 }

@@ -1,8 +1,7 @@
 //! The lexer of the rules of a file.
-ghost use Rattle.std.specs.Prelude.{◌≡◌, map, string_bytes, IfOk, IfErr};
+ghost use Rattle.std.specs.Prelude.{◌≡◌, map, string_bytes, IfOk};
 
 use lalrpop_rules::RuleLexer;
-use lexdfa_lib::RunError;
 use std::alloc::{AllocError, Global};
 
 /// The rules of a file as a lexer, and the names of its modes.
@@ -38,15 +37,12 @@ fn owned_names(alloc: Global, names: &[&str]) -> Result<Vec<String>, AllocError>
 ///
 /// # Errors
 ///
-/// `OutOfMemory` if a request for memory was refused.
-pub fn with_names(alloc: Global, lexer: RuleLexer, names: &[&str]) -> Result<FileLexer, RunError>
+/// `AllocError` if a request for memory was refused.
+pub fn with_names(alloc: Global, lexer: RuleLexer, names: &[&str]) -> Result<FileLexer, AllocError>
     ensures lexer { IfOk result (λ f. f.lexer ≡ lexer) }
     ensures names { IfOk result (λ f.
         map string_bytes f.modes.items ≡ map (λ m. m.now) names.now) }
-    ensures memory { IfErr result (λ e. e ≡ RunError.OutOfMemory) }
 {
-    match owned_names(alloc, names) {
-        Ok(modes) => Ok(FileLexer { lexer, modes }),
-        Err(_) => Err(RunError::OutOfMemory),
-    }
+    let modes = owned_names(alloc, names)?;
+    Ok(FileLexer { lexer, modes })
 }

@@ -3,13 +3,9 @@
 /// What the line of a piece looks like.
 ///
 /// ```
-/// use lexdfa_lib::Watched;
-/// use tokens_lib::{Layout, LineForm, write_items};
+/// use reports_lib::LineForm;
 ///
-/// let layout = Layout { form: LineForm::Json, recovers: true, file: None, modes: &[] };
-/// let mut reader = Watched::new("let x".as_bytes());
-/// let mut writer = Watched::new(Vec::new(alloc));
-/// let end = write_items(alloc, &rules, &layout, &mut reader, &mut writer)?;
+/// let form = LineForm::Json;
 /// ```
 #[derive(Clone, Copy, Debug, PartialEq, Eq)]
 pub enum LineForm {
@@ -22,7 +18,7 @@ pub enum LineForm {
 /// Which lines are written for a text, and what they look like.
 ///
 /// ```
-/// use tokens_lib::{Layout, LineForm};
+/// use reports_lib::{Layout, LineForm};
 ///
 /// // Lines for people, which name the file, up to the first fault.
 /// let layout = Layout { form: LineForm::Plain, recovers: false, file: Some("a.txt"), modes: &[] };

@@ -1,19 +1,15 @@
 //! The lines of the clashes of rules.
 ghost use Rattle.std.specs.Prelude.{◌≡◌, ◌≢◌, ◌++◌, List, map, flat_map, option_map, false, true, string_bytes, IfOk, OnOk, OnErr, IfErr};
-ghost use Rattle.std.specs.Io.KnownBytes.{Appends};
 ghost use Rattle.lalrpop_rules.specs.ModeSet.{rules_of};
 ghost use Rattle.lalrpop_rules.specs.RuleSet.{names_of};
-ghost use Rattle.lexdfa_lib.specs.Watch.{AppendsPrefix};
 ghost use Rattle.reports_lib.specs.ItemLines.{mode_named as mode_named_of, name_at};
 ghost use Rattle.reports_lib.specs.Internal.RuleNames.{name_found as name_found_in};
-ghost use Rattle.reports_lib.specs.RuleClashes.{clash_lines, mode_text, named_line};
+ghost use Rattle.reports_lib.specs.RuleClashes.{clash_lines as lines_of_clashes, mode_text, named_line};
 
 use lalrpop_lexer::ShownWord;
 use lalrpop_lexer::lexer::dfa::Clash;
 use lalrpop_rules::ModeRule;
-use lexdfa_lib::{RunError, Watched, write_whole};
 use std::alloc::{AllocError, Global};
-use std::io::Write;
 
 // The name of the rule that has this index, if there is one.
 fn name_found<'text>(rules: &[ModeRule<'text>], index: usize) -> &'text str
@@ -92,14 +88,27 @@ fn push_clashes(
     Ok(())
 }
 
-fn lines_of(
+/// A line for each of these clashes, mode by mode, as `lalrpop_rules::mode_clashes` finds them: the name of the mode, if there are
+/// several, the names of the two rules, the earlier one first, and the word in quotes.
+///
+/// ```
+/// use tokens_lib::{clash_lines, mode_clashes};
+///
+/// let found = mode_clashes(alloc, &rules, 1)?;
+/// let lines = clash_lines(alloc, &rules, &["INITIAL"], &found)?; // as `IF NAME "if"`
+/// ```
+///
+/// # Errors
+///
+/// `AllocError` if a request for memory was refused.
+pub fn clash_lines(
     alloc: Global,
     rules: &[ModeRule<'_>],
     modes: &[&str],
     found: &[Vec<Clash>],
 ) -> Result<String, AllocError>
-    ensures { IfOk result (λ lines. string_bytes lines
-        ≡ clash_lines (map (λ m. m.now) modes.now) (names_of (rules_of rules.now)) 0
+    ensures lines { IfOk result (λ lines. string_bytes lines
+        ≡ lines_of_clashes (map (λ m. m.now) modes.now) (names_of (rules_of rules.now)) 0
         (map (λ cs. cs.items) found.now)) }
 {
     let mut lines = String::new(alloc);
@@ -113,51 +122,4 @@ fn lines_of(
         )?;
     }
     Ok(lines)
-}
-
-/// Writes a line for each of these clashes, mode by mode, as `lalrpop_rules::mode_clashes` finds them: the name of the mode, if
-/// there are several, the names of the two rules, the earlier one first, and the word in quotes.
-///
-/// ```
-/// use lexdfa_lib::Watched;
-/// use tokens_lib::{mode_clashes, write_rule_clashes};
-///
-/// let found = mode_clashes(alloc, &rules, 1)?;
-/// let mut writer = Watched::new(Vec::new(alloc));
-/// write_rule_clashes(alloc, &rules, &["INITIAL"], &found, &mut writer)?; // as `IF NAME "if"`
-/// ```
-///
-/// # Errors
-///
-/// `OutOfMemory` if a request for memory was refused: nothing was written. `Write` if a write failed or took no byte: a
-/// prefix of the lines was written.
-pub fn write_rule_clashes<W: Write>(
-    alloc: Global,
-    rules: &[ModeRule<'_>],
-    modes: &[&str],
-    found: &[Vec<Clash>],
-    writer: &mut Watched<W>,
-) -> Result<(), RunError>
-    requires writer_good { writer.old.failed ≡ false }
-
-    ensures written { OnOk result (Appends
-        (W.contents writer.old.inner) (W.contents writer.new.inner)
-        (clash_lines (map (λ m. m.now) modes.now) (names_of (rules_of rules.now)) 0
-        (map (λ cs. cs.items) found.now))) }
-    ensures good { OnOk result (writer.new.failed ≡ false) }
-
-    ensures nothing_written { IfErr result (λ e. e ≢ RunError.Write → writer.new ≡ writer.old) }
-    ensures write { IfErr result (λ e. e ≡ RunError.Write → writer.new.failed ≡ true) }
-    ensures prefix { IfErr result (λ e. e ≡ RunError.Write →
-        AppendsPrefix (W.contents writer.old.inner) (W.contents writer.new.inner)
-        (clash_lines (map (λ m. m.now) modes.now) (names_of (rules_of rules.now)) 0
-        (map (λ cs. cs.items) found.now))) }
-    ensures read { IfErr result (λ e. e ≢ RunError.Read) }
-
-    ensures no_late_write { writer.new.late ≡ writer.old.late }
-{
-    let Ok(lines) = lines_of(alloc, rules, modes, found) else {
-        return Err(RunError::OutOfMemory);
-    };
-    write_whole(writer, lines.as_bytes())
 }

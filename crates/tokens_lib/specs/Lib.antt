@@ -4,10 +4,8 @@ pub mod Command
 pub mod CutEnds
 pub mod Emitted
 pub mod FileAnswers
-pub mod ItemsWritten
 pub mod NamedRules
 pub mod OpenModes
-pub mod PageWritten
 pub mod Pictured
 pub mod Program
 pub mod Progress

@@ -1,10 +1,33 @@
 -- cases: proofs/Cases/Streams.antt
--- What the program's streams give and take.
-use Rattle.std.specs.Prelude.{◌≡◌, ◌⊎◌, ℕ, Bool, true, false, List, [], Option, Some, None, Result, Ok, Err, codes, string_bytes}
+-- What a run did to the world: what it read of streams, what it wrote and said, and where a stream broke.
+use Rattle.std.specs.Prelude.{◌≡◌, ◌⊎◌, ◌≤◌, ℕ, Bool, true, false, List, [], length, take, Option, Some, None, Result, Ok, Err, codes, string_bytes}
 use Rattle.std.specs.Io.KnownBytes.{Appends, Consumes, IsAtEnd}
-use Rattle.lexdfa_lib.specs.Watch.{Watch, AppendsPrefix}
+use Rattle.lexdfa_lib.specs.Watch.{AppendsPrefix}
+use Rattle.lexdfa_lib.specs.declared.error.RunError.{RunError}
+use Rattle.lexdfa_lib.specs.declared.error.RunError.TheVariants.{OutOfMemory, Read, Write}
+use Rattle.reports_lib.specs.Answer.{Answer, silence}
 use Rattle.tokens_lib.specs.declared.files.NoBytes.{NoBytes}
-use Rattle.tokens_lib.specs.declared.files.NoBytes.TheVariants.{OutOfMemory, Because}
+use Rattle.tokens_lib.specs.declared.files.NoBytes.TheVariants as no_bytes
+
+-- a stream: the bytes that it still gives, or those that it has taken, where they are known; whether a call can fail; and whether one has
+pub record Stream : Type 0 where
+  pub bytes : Option (List ℕ)
+  pub may_fail : Bool
+  pub is_broken : Bool
+
+-- no call has failed yet
+abbrev pub opened : Option (List ℕ) → Bool → Stream
+opened bytes may_fail = record { bytes = bytes; may_fail = may_fail; is_broken = false }
+
+-- no call fails
+abbrev pub Works : Stream → Stream → Type 0
+Works old new = new ≡ record old { bytes = new.bytes }
+
+-- a call fails, or one had failed before, which only a stream does that may
+abbrev pub Breaks : Stream → Stream → Type 0
+Breaks old new = (old.may_fail ≡ true) × (new ≡ record old { bytes = new.bytes; is_broken = true })
+
+-- ---- reading
 
 -- how reading ends: nothing is left; a read fails; there is nothing to read from, for this reason; or no more is wanted
 pub data ReadEnd : Type 0 where
@@ -17,6 +40,17 @@ pub data ReadEnd : Type 0 where
 pub record Reading : Type 0 where
   pub bytes : List ℕ
   pub end : ReadEnd
+
+-- a stream was read up to this end. One that is broken fails
+abbrev pub EndsReading : Stream → Stream → ReadEnd → Type 0
+EndsReading old new AtEnd = (old.is_broken ≡ false) × (Works old new × IsAtEnd new.bytes)
+EndsReading old new Failed = Breaks old new
+EndsReading old new (NotOpened reason) = ⊥
+EndsReading old new LeftOff = Works old new
+
+-- this was read of a stream
+abbrev pub Reads : Stream → Stream → Reading → Type 0
+Reads old new reading = Consumes old.bytes new.bytes reading.bytes × EndsReading old new reading.end
 
 -- what a file gives that is wanted whole: all its bytes, or the reason why there are none
 abbrev pub Given : Type 0
@@ -31,27 +65,72 @@ GivesWhole Gives file (Err reason) =
 
 -- the reason for which a file gives no bytes, unless memory was refused
 abbrev pub reason_told : NoBytes → Option (List ℕ)
-reason_told OutOfMemory = None
-reason_told (Because reason) = Some (string_bytes reason)
+reason_told no_bytes.OutOfMemory = None
+reason_told (no_bytes.Because reason) = Some (string_bytes reason)
 
--- a stream with these bytes left, one of whose calls has failed or none, was read so
-abbrev pub EndsReading : Option (List ℕ) → Bool → ReadEnd → Type 0
-EndsReading left failed AtEnd = IsAtEnd left × (failed ≡ false)
-EndsReading left failed Failed = failed ≡ true
-EndsReading left failed (NotOpened reason) = ⊥
-EndsReading left failed LeftOff = failed ≡ false
+-- ---- writing
 
--- this was read of a stream
-abbrev pub StreamGives : {R : Type 0} → (R → Option (List ℕ)) → Watch R → Watch R → Reading → Type 0
-StreamGives remaining old new reading =
-    Consumes (remaining old.inner) (remaining new.inner) reading.bytes × EndsReading (remaining new.inner) new.failed reading.end
+-- a stream takes all of these bytes
+abbrev pub Takes : Stream → List ℕ → Stream → Type 0
+Takes old bytes new = Works old new × Appends old.bytes new.bytes bytes
 
--- a stream takes all of the bytes; a prefix of them if it fails, and nothing if it had failed before
-abbrev pub TakesBy : Bool → Bool → Option (List ℕ) → Option (List ℕ) → List ℕ → Type 0
-TakesBy false false held held_now bytes = Appends held held_now bytes
-TakesBy false true held held_now bytes = AppendsPrefix held held_now bytes
-TakesBy true false held held_now bytes = ⊥
-TakesBy true true held held_now bytes = Appends held held_now []
+-- why it doesn't take all: memory was refused; or a write has failed
+abbrev pub IsCause : RunError → Stream → Stream → Type 0
+IsCause OutOfMemory old new = Works old new
+IsCause Read old new = ⊥
+IsCause Write old new = Breaks old new
 
-abbrev pub Takes : {W : Type 0} → (W → Option (List ℕ)) → Watch W → Watch W → List ℕ → Type 0
-Takes contents old new bytes = TakesBy old.failed new.failed (contents old.inner) (contents new.inner) bytes
+-- then it takes a prefix
+abbrev pub TakesPart : Stream → List ℕ → RunError → Stream → Type 0
+TakesPart old bytes error new = IsCause error old new × AppendsPrefix old.bytes new.bytes bytes
+
+-- a stream is told this: it takes all of it; or a prefix, where it breaks; or nothing, since it is broken
+abbrev pub IsToldBy : Bool → Bool → Stream → List ℕ → Stream → Type 0
+IsToldBy false false old bytes new = Takes old bytes new
+IsToldBy false true old bytes new = Breaks old new × AppendsPrefix old.bytes new.bytes bytes
+IsToldBy true false old bytes new = ⊥
+IsToldBy true true old bytes new = new ≡ old
+
+abbrev pub IsTold : Stream → List ℕ → Stream → Type 0
+IsTold old bytes new = IsToldBy old.is_broken new.is_broken old bytes new
+
+-- it is told a prefix of this
+abbrev pub IsToldPart : Stream → List ℕ → Stream → Type 0
+IsToldPart old bytes new = (n : ℕ) × (n ≤ length bytes) × IsTold old (take n bytes) new
+
+-- ---- answering
+
+-- standard output and standard error
+pub record Console : Type 0 where
+  pub out : Stream
+  pub err : Stream
+
+-- these bytes are written, and nothing is said
+abbrev pub Writes : Console → List ℕ → Console → Type 0
+Writes old bytes new = Takes old.out bytes new.out × (new.err ≡ old.err)
+
+-- a prefix of them is written
+abbrev pub WritesPart : Console → List ℕ → RunError → Console → Type 0
+WritesPart old bytes error new = TakesPart old.out bytes error new.out × (new.err ≡ old.err)
+
+-- this is said, and nothing is written
+abbrev pub Says : Console → List ℕ → Console → Type 0
+Says old said new = IsTold old.err said new.err × (new.out ≡ old.out)
+
+-- an answer is given: standard output takes all that it writes, and standard error is told what it says
+pub record Gives (old : Console) (answer : Answer) (new : Console) : Type 0 where
+  pub out : Takes old.out answer.out new.out
+  pub err : IsTold old.err answer.err new.err
+
+-- one of these answers is given, and has this status
+abbrev pub Answers : (Answer → Type 0) → Console → ℕ → Console → Type 0
+Answers Is old status new = (answer : Answer) × (Is answer × ((status ≡ answer.status) × Gives old answer new))
+
+-- nothing, or one of these answers
+abbrev pub Begins : (Answer → Type 0) → Answer → Type 0
+Begins Is answer = (answer ≡ silence) ⊎ Is answer
+
+-- nothing, or one of these answers, is given in part, until this error: a prefix of what it writes, and one of what it says
+abbrev pub Fails : (Answer → Type 0) → Console → RunError → Console → Type 0
+Fails Is old error new =
+    (answer : Answer) × (Begins Is answer × (TakesPart old.out answer.out error new.out × IsToldPart old.err answer.err new.err))

@@ -1,10 +1,12 @@
 -- cases: proofs/Cases/TextAnswer.antt
 -- The answer for what is read of a text.
-use Rattle.std.specs.Prelude.{◌≡◌, ℕ, Bool, true, false, List, [], ◌++◌, Some, None, codes, decimal}
+use Rattle.std.specs.Prelude.{◌≡◌, ℕ, Bool, true, false, List, [], ◌++◌, Some, None, codes, decimal, flat_map}
 use Rattle.std.specs.Bool.{then_some}
 use Rattle.lalrpop_edits.specs.Chunked.{Chunked}
 use Rattle.bajofeki_rules.specs.Quoted.{told}
 use Rattle.bajofeki_rules.specs.declared.position.Position.{Position}
+use Rattle.lalrpop_markup.specs.Markup.{marked}
+use Rattle.lalrpop_markup.specs.Terminal.{painted}
 use Rattle.lalrpop_rules.specs.Modes.{ModeRules}
 use Rattle.bajofeki_rules.specs.Stack.{start}
 use Rattle.lalrpop_rules.specs.declared.item.Item.{Item}
@@ -12,9 +14,9 @@ use Rattle.reports_lib.specs.Answer.{Answer, about}
 use Rattle.reports_lib.specs.ItemLines.{name_at, piece_lines}
 use Rattle.reports_lib.specs.declared.layout.LineForm.{LineForm}
 use Rattle.tokens_lib.specs.CutEnds.{IsTextOf, BeginsWith, AreGiven, IsCutTo, lack_text}
-use Rattle.tokens_lib.specs.PageWritten.{page_of}
 use Rattle.tokens_lib.specs.Streams.{Reading}
 use Rattle.tokens_lib.specs.declared.command.Markup.{Markup}
+use Rattle.tokens_lib.specs.declared.command.Markup.TheVariants.{Html, Ansi}
 use Rattle.tokens_lib.specs.declared.cut_end.CutEnd.{CutEnd}
 use Rattle.tokens_lib.specs.declared.cut_end.CutEnd.TheVariants.{Whole, Stopped, Broken}
 
@@ -55,11 +57,11 @@ CutAnswer rules modes recovers out file reading answer =
     × (IsCutTo rules recovers reading text left xs ended
     × (answer ≡ record { status = cut_status ended; out = out text xs; err = cut_text modes file ended }))))))
 
--- the same for pieces that were given before a run failed
+-- the same for pieces that were given before a run failed; nothing was said yet
 abbrev pub CutPart : ModeRules → Bool → (List ℕ → List Item → List ℕ) → Reading → Answer → Type 0
 CutPart rules recovers out reading answer =
     (text : List ℕ) × ((left : List ℕ) × ((xs : List Item) × ((c : Chunked) × (BeginsWith reading.bytes text left
-    × (AreGiven rules recovers reading text left xs c × (answer.out ≡ out text xs))))))
+    × (AreGiven rules recovers reading text left xs c × (answer ≡ record { status = 0; out = out text xs; err = [] }))))))
 
 -- a line for each piece that has one, with the file's name if there are several
 abbrev pub lines_of : ModeRules → List (List ℕ) → LineForm → Bool → Bool → List ℕ → List ℕ → List Item → List ℕ
@@ -70,6 +72,15 @@ PiecesAnswer rules modes form recovers several file = CutAnswer rules modes reco
 
 abbrev pub PiecesPart : ModeRules → List (List ℕ) → LineForm → Bool → Bool → List ℕ → Reading → Answer → Type 0
 PiecesPart rules modes form recovers several file = CutPart rules recovers (lines_of rules modes form recovers several file)
+
+-- a piece as HTML, or in colours for a terminal
+abbrev pub piece_in : Markup → List (List ℕ) → Item → List ℕ
+piece_in Html = marked
+piece_in Ansi = painted
+
+-- the pieces, one after another
+abbrev pub page_of : Markup → List (List ℕ) → List Item → List ℕ
+page_of markup names xs = flat_map (piece_in markup names) xs
 
 -- as markup
 abbrev pub PageAnswer : ModeRules → List (List ℕ) → Markup → List ℕ → Reading → Answer → Type 0

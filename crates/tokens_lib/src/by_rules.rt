@@ -1,27 +1,27 @@
 //! The lexer of a file of rules.
-ghost use Rattle.std.specs.Prelude.{◌≡◌, ◌<◌, ℕ, List, length, slice_get, Some, Ok, map, string_bytes, IfOk, OnOk, IfErr};
+ghost use Rattle.std.specs.Prelude.{◌≡◌, ◌<◌, ℕ, List, length, slice_get, Some, Ok, map, string_bytes, IfOk, IfErr};
 ghost use Rattle.bajofeki_rules.specs.Lines.{lines};
 ghost use Rattle.lalrpop_rules.specs.ModeSet.{rules_of};
 ghost use Rattle.lalrpop_rule_file.specs.RuleFile.{AreFileParts, AreRules, ArePlaces, NamesMode, without_mark as without_mark_of};
 ghost use Rattle.lalrpop_rule_file.specs.declared.file_rule.FileRule.{FileRule as FileRuleValue};
-ghost use Rattle.reports_lib.specs.Answer.{Answer, headed};
+ghost use Rattle.reports_lib.specs.Answer.{about as about_text, followed, headed, refusal, remark};
 ghost use Rattle.reports_lib.specs.Reasons.{CanBeSaid, SaysBadLine, SaysRules};
-ghost use Rattle.tokens_lib.specs.FileAnswers.{Refused, Reads};
+ghost use Rattle.tokens_lib.specs.FileAnswers.{BytesAnswer};
 ghost use Rattle.tokens_lib.specs.NamedRules.{StandAt, IsSetOf, AreRulesOf, LinesAnswer, RulesOf, RulesRefused, clashes_status, rules_status};
-ghost use Rattle.tokens_lib.specs.Streams.{GivesWhole, Takes};
+ghost use Rattle.tokens_lib.specs.Streams.{GivesWhole};
 ghost use Rattle.tokens_lib.specs.WarningsSaid.{Warned};
 ghost use Rattle.tokens_lib.specs.Internal.Faults.{NameOnly};
 
 use crate::command::Verbosity;
-use crate::files::{Files, NO_TEXT, bytes_of, say_headed};
-use crate::warnings::say_warnings;
+use crate::files::{Files, NO_TEXT, bytes_of};
+use crate::warnings::warnings_said;
 use lalrpop_lexer::lexer::dfa::Clash;
 use lalrpop_rule_file::{RuleFile, RuleFileError, read_rules, without_mark};
 use lalrpop_rules::{RuleLexer, RulesError};
-use lexdfa_lib::{RunError, Watched};
-use reports_lib::{FileLexer, ModeFile, bad_line_explained, rules_explained, with_names};
-use std::alloc::Global;
-use std::io::Write;
+use reports_lib::{
+    FileLexer, ModeFile, Reply, about, bad_line_explained, headed, rules_explained, with_names,
+};
+use std::alloc::{AllocError, Global};
 
 // The status of a line that is no rule, and of a text that has no tree.
 const BAD_LINE: u8 = 3;
@@ -29,25 +29,33 @@ const BAD_LINE: u8 = 3;
 /// The status of rules that can't be compiled or clash.
 pub(crate) const REFUSED: u8 = 2;
 
-/// Says what is wrong with a line, and returns the status.
-pub(crate) fn report_line<E: Write>(
+/// The lexer of a file of rules, and the warnings about the file.
+#[derive(Drop)]
+pub(crate) struct WarnedLexer {
+    pub lexer: FileLexer,
+    pub said: String,
+}
+
+/// What is answered to a file that gives no bytes.
+pub(crate) fn unread(alloc: Global, name: &str, reason: &str) -> Result<Reply, AllocError>
+    ensures answer { IfOk result (λ reply. reply ≡ refusal 6 (about_text name.now reason.now)) }
+{
+    Ok(Reply::refusal(alloc, NO_TEXT, about(alloc, name, reason)?))
+}
+
+/// What is answered to a bad line.
+pub(crate) fn line_refused(
     alloc: Global,
     name: &str,
     bytes: &[u8],
     error: &RuleFileError,
-    err: &mut Watched<E>,
-) -> Result<u8, RunError>
-    ensures status { IfOk result (λ status. status ≡ 3) }
-    ensures said { OnOk result ((said : List ℕ) × (SaysBadLine error.now said
-        × Takes E.contents err.old err.new (headed name.now said))) }
-    ensures memory { IfErr result (λ e. e ≡ RunError.OutOfMemory) }
-    ensures no_late_message { err.new.late ≡ err.old.late }
+) -> Result<Reply, AllocError>
+    ensures answer { IfOk result (λ reply. (said : List ℕ)
+        × (SaysBadLine error.now said × (reply ≡ refusal 3 (headed name.now said)))) }
 {
-    let Ok(message) = bad_line_explained(alloc, bytes, error) else {
-        return Err(RunError::OutOfMemory);
-    };
-    say_headed(alloc, name, message.as_str(), err)?;
-    Ok(BAD_LINE)
+    let said = bad_line_explained(alloc, bytes, error)?;
+    let message = headed(alloc, name, said.as_str())?;
+    Ok(Reply::refusal(alloc, BAD_LINE, message))
 }
 
 // The status of rules with this error.
@@ -60,39 +68,32 @@ fn status_of(error: &RulesError) -> u8
     }
 }
 
-/// Says what is wrong with the rules, and returns the status.
-pub(crate) fn report_rules<E: Write>(
+/// What is answered to rules with an error.
+pub(crate) fn rules_refused(
     alloc: Global,
     name: &str,
     bytes: &[u8],
     file: &ModeFile<'_>,
     error: &RulesError,
-    err: &mut Watched<E>,
-) -> Result<u8, RunError>
+) -> Result<Reply, AllocError>
     requires error { CanBeSaid (rules_of file.now.rules.items) error.now }
-    ensures status { IfOk result (λ status. status ≡ rules_status error.now) }
-    ensures said { OnOk result ((said : List ℕ)
+    ensures answer { IfOk result (λ reply. (said : List ℕ)
         × (SaysRules (map (λ m. m.now) file.now.modes.items) (rules_of file.now.rules.items)
         file.now.places.items error.now said
-        × Takes E.contents err.old err.new (headed name.now said))) }
-    ensures memory { IfErr result (λ e. e ≡ RunError.OutOfMemory) }
-    ensures no_late_message { err.new.late ≡ err.old.late }
+        × (reply ≡ refusal (rules_status error.now) (headed name.now said)))) }
 {
-    let Ok(message) = rules_explained(alloc, bytes, file, error) else {
-        return Err(RunError::OutOfMemory);
-    };
-    say_headed(alloc, name, message.as_str(), err)?;
-    Ok(status_of(error))
+    let said = rules_explained(alloc, bytes, file, error)?;
+    let message = headed(alloc, name, said.as_str())?;
+    Ok(Reply::refusal(alloc, status_of(error), message))
 }
 
-// The lexer of the rules of a file; or the status, if what is wrong was said.
-fn lexer_of_file<E: Write>(
+// The lexer of the rules of a file; or what is answered, if there is none.
+fn lexer_of_file(
     alloc: Global,
     name: &str,
     bytes: &[u8],
     file: &ModeFile<'_>,
-    err: &mut Watched<E>,
-) -> Result<Result<FileLexer, u8>, RunError>
+) -> Result<Result<FileLexer, Reply>, AllocError>
     requires places { StandAt (lines bytes.now) file.now.rules.items file.now.places.items }
     requires some { 0 < length file.now.modes.items }
     requires within { NameOnly file.now.rules.items (length file.now.modes.items) }
@@ -100,28 +101,23 @@ fn lexer_of_file<E: Write>(
         IsSetOf file.now.rules.items (map (λ m. m.now) file.now.modes.items) f.lexer)) }
     ensures names { IfOk result (λ found. IfOk found (λ f.
         map string_bytes f.modes.items ≡ map (λ m. m.now) file.now.modes.items)) }
-    ensures quiet { IfOk result (λ found. OnOk found (err.new ≡ err.old)) }
-    ensures refused { IfOk result (λ found. IfErr found (λ status. (answer : Answer)
-        × (RulesRefused name.now (lines bytes.now) (map (λ m. m.now) file.now.modes.items)
-        file.now.rules.items answer
-        × Refused E.contents err.old err.new status answer))) }
-    ensures memory { IfErr result (λ e. e ≡ RunError.OutOfMemory) }
-    ensures no_late_message { err.new.late ≡ err.old.late }
+    ensures refused { IfOk result (λ found. IfErr found
+        (RulesRefused name.now (lines bytes.now) (map (λ m. m.now) file.now.modes.items)
+        file.now.rules.items)) }
 {
     match RuleLexer::from_rules(alloc, &file.rules, file.modes.len()) {
         Ok(lexer) => Ok(Ok(with_names(alloc, lexer, &file.modes)?)),
-        Err(error) => Ok(Err(report_rules(alloc, name, bytes, file, &error, err)?)),
+        Err(error) => Ok(Err(rules_refused(alloc, name, bytes, file, &error)?)),
     }
 }
 
-// The lexer of the rules of the file that these bytes are; or the status, if what is wrong was said.
-fn lexer_of_rules<E: Write>(
+// The lexer of the rules of the file that these bytes are; or what is answered, if there is none.
+fn lexer_of_rules(
     alloc: Global,
     name: &str,
     bytes: &[u8],
     file: &RuleFile<'_>,
-    err: &mut Watched<E>,
-) -> Result<Result<FileLexer, u8>, RunError>
+) -> Result<Result<FileLexer, Reply>, AllocError>
     requires rules { AreRules (lines (without_mark_of bytes.now)) (map (λ m. m.now) file.now.modes.items)
         file.now.rules.items }
     requires parts { AreFileParts (lines (without_mark_of bytes.now)) file.now.parts.items }
@@ -132,69 +128,72 @@ fn lexer_of_rules<E: Write>(
         → m < length file.now.modes.items }
     ensures lexer { IfOk result (λ found. IfOk found (λ f.
         AreRulesOf bytes.now f.lexer (map string_bytes f.modes.items))) }
-    ensures quiet { IfOk result (λ found. OnOk found (err.new ≡ err.old)) }
-    ensures refused { IfOk result (λ found. IfErr found (λ status. (answer : Answer)
-        × (LinesAnswer RulesRefused name.now (lines (without_mark_of bytes.now)) answer
-        × Refused E.contents err.old err.new status answer))) }
-    ensures memory { IfErr result (λ e. e ≡ RunError.OutOfMemory) }
-    ensures no_late_message { err.new.late ≡ err.old.late }
+    ensures refused { IfOk result (λ found. IfErr found
+        (LinesAnswer RulesRefused name.now (lines (without_mark_of bytes.now)))) }
 {
-    match ModeFile::of(alloc, file) {
-        Ok(file) => lexer_of_file(alloc, name, without_mark(bytes), &file, err),
-        Err(_) => Err(RunError::OutOfMemory),
+    let file = ModeFile::of(alloc, file)?;
+    lexer_of_file(alloc, name, without_mark(bytes), &file)
+}
+
+// The lexer of the rules of the file that these bytes are, with the warnings that are said; or what is answered after them.
+fn warned_lexer(
+    found: Result<FileLexer, Reply>,
+    said: String,
+) -> Result<Result<WarnedLexer, Reply>, AllocError>
+    ensures lexer { IfOk result (λ w. IfOk w (λ w. IfOk found (λ f. (w.lexer ≡ f) × (w.said ≡ said)))) }
+    ensures refused { IfOk result (λ w. IfErr w (λ reply. IfErr found (λ own.
+        reply ≡ followed (remark (string_bytes said)) own))) }
+{
+    match found {
+        Ok(lexer) => Ok(Ok(WarnedLexer { lexer, said })),
+        Err(reply) => Ok(Err(reply.after(0, said)?)),
     }
 }
 
-// The lexer of the rules that these bytes are; or the status, if what is wrong was said.
-fn lexer_of_bytes<E: Write>(
+// The lexer of the rules that these bytes are; or what is answered, if there is none.
+fn lexer_of_bytes(
     alloc: Global,
     verbosity: Verbosity,
     name: &str,
     bytes: &[u8],
-    err: &mut Watched<E>,
-) -> Result<Result<FileLexer, u8>, RunError>
+) -> Result<Result<WarnedLexer, Reply>, AllocError>
     ensures lexer { IfOk result (λ found. IfOk found (λ f.
-        AreRulesOf bytes.now f.lexer (map string_bytes f.modes.items))) }
-    ensures warned { IfOk result (λ found. OnOk found ((said : List ℕ)
-        × (Warned verbosity name.now (lines (without_mark_of bytes.now)) said
-        × Takes E.contents err.old err.new said))) }
-    ensures refused { IfOk result (λ found. IfErr found (λ status. (answer : Answer)
-        × (RulesOf verbosity RulesRefused name.now bytes.now answer
-        × Refused E.contents err.old err.new status answer))) }
-    ensures memory { IfErr result (λ e. e ≡ RunError.OutOfMemory) }
-    ensures no_late_message { err.new.late ≡ err.old.late }
+        AreRulesOf bytes.now f.lexer.lexer (map string_bytes f.lexer.modes.items))) }
+    ensures warned { IfOk result (λ found. IfOk found (λ f.
+        Warned verbosity name.now (lines (without_mark_of bytes.now)) (string_bytes f.said))) }
+    ensures refused { IfOk result (λ found. IfErr found
+        (RulesOf verbosity RulesRefused name.now bytes.now)) }
 {
     match read_rules(alloc, bytes) {
         Ok(file) => {
-            say_warnings(alloc, verbosity, name, &file, err)?;
-            lexer_of_rules(alloc, name, bytes, &file, err)
+            let said = warnings_said(alloc, verbosity, name, &file)?;
+            warned_lexer(lexer_of_rules(alloc, name, bytes, &file)?, said)
         }
-        Err(error) => Ok(Err(report_line(alloc, name, without_mark(bytes), &error, err)?)),
+        Err(error) => Ok(Err(line_refused(alloc, name, without_mark(bytes), &error)?)),
     }
 }
 
-/// The lexer of the rules of a file; or the status, if what is wrong was said.
-pub(crate) fn lexer_by_name<F: Files, E: Write>(
+/// The lexer of the rules of a file; or what is answered, if there is none.
+///
+/// # Errors
+///
+/// `AllocError` if a request for memory was refused.
+pub(crate) fn lexer_by_name<F: Files>(
     alloc: Global,
     verbosity: Verbosity,
     files: &F,
     name: &str,
-    err: &mut Watched<E>,
-) -> Result<Result<FileLexer, u8>, RunError>
+) -> Result<Result<WarnedLexer, Reply>, AllocError>
     ensures lexer { IfOk result (λ found. IfOk found (λ f. (bytes : List ℕ)
         × (GivesWhole (F.gives files.now) name.now (Ok bytes)
-        × (AreRulesOf bytes f.lexer (map string_bytes f.modes.items) × ((said : List ℕ)
-        × (Warned verbosity name.now (lines (without_mark_of bytes)) said
-        × Takes E.contents err.old err.new said)))))) }
-    ensures refused { IfOk result (λ found. IfErr found (λ status. (answer : Answer)
-        × (Reads (GivesWhole (F.gives files.now)) (RulesOf verbosity RulesRefused) name.now answer
-        × Refused E.contents err.old err.new status answer))) }
-    ensures memory { IfErr result (λ e. e ≡ RunError.OutOfMemory) }
-    ensures no_late_message { err.new.late ≡ err.old.late }
+        × (AreRulesOf bytes f.lexer.lexer (map string_bytes f.lexer.modes.items)
+        × Warned verbosity name.now (lines (without_mark_of bytes)) (string_bytes f.said))))) }
+    ensures refused { IfOk result (λ found. IfErr found
+        (BytesAnswer (GivesWhole (F.gives files.now)) (RulesOf verbosity RulesRefused) name.now)) }
 {
-    match bytes_of(alloc, files, name, err)? {
-        Some(bytes) => lexer_of_bytes(alloc, verbosity, name, &bytes, err),
-        None => Ok(Err(NO_TEXT)),
+    match bytes_of(alloc, files, name)? {
+        Ok(bytes) => lexer_of_bytes(alloc, verbosity, name, &bytes),
+        Err(reason) => Ok(Err(unread(alloc, name, reason.as_str())?)),
     }
 }
 

@@ -6,32 +6,21 @@ ghost use Rattle.lalrpop_rules.specs.ModeSet.{IsRulesError, rules_of};
 ghost use Rattle.lalrpop_review.specs.Review.{IsReview};
 ghost use Rattle.lalrpop_review.specs.declared.whole.Review.{Review as ReviewValue};
 ghost use Rattle.lalrpop_rules.specs.RuleSet.{names_of};
-ghost use Rattle.reports_lib.specs.Answer.{Answer, Begun};
-ghost use Rattle.tokens_lib.specs.FileAnswers.{Answered};
 ghost use Rattle.tokens_lib.specs.Checked.{AreToldClashes, CheckAnswer, ClashesTold, IsTold, clashes_answer, review_answer};
 ghost use Rattle.tokens_lib.specs.NamedRules.{StandAt};
 ghost use Rattle.tokens_lib.specs.Internal.Faults.{NameOnly, is_clash};
 
-use crate::by_rules::report_rules;
+use crate::by_rules::rules_refused;
 use lalrpop_lexer::lexer::dfa::Clash;
 use lalrpop_review::review;
 use lalrpop_rules::{RuleLexer, RulesError, mode_clashes};
-use lexdfa_lib::{RunError, Watched, write_whole};
-use reports_lib::{LineForm, ModeFile, clash_report, has_findings, review_text};
+use reports_lib::{LineForm, ModeFile, Reply, clash_report, has_findings, review_text};
 use std::alloc::{AllocError, Global};
-use std::io::Write;
 
 // The status of rules that clash, and of rules of which something else was found.
 const CLASH: u8 = 2;
 
 const FOUND: u8 = 1;
-
-// What a check writes, and its status.
-#[derive(Debug, Drop)]
-struct Told {
-    text: Vec<u8>,
-    status: u8,
-}
 
 // The lines of these clashes.
 fn clash_lines(
@@ -40,8 +29,8 @@ fn clash_lines(
     name: &str,
     file: &ModeFile<'_>,
     found: &[Vec<Clash>],
-) -> Result<Told, AllocError>
-    ensures { IfOk result (λ told. record { status = told.status; out = told.text.items; err = [] }
+) -> Result<Reply, AllocError>
+    ensures { IfOk result (λ told. told
         ≡ clashes_answer form name.now (map (λ m. m.now) file.now.modes.items)
         (names_of (rules_of file.now.rules.items)) file.now.places.items
         (map (λ cs. cs.items) found.now)) }
@@ -55,10 +44,7 @@ fn clash_lines(
         &file.places,
         found,
     )?;
-    Ok(Told {
-        text,
-        status: CLASH,
-    })
+    Ok(Reply::written(alloc, CLASH, text))
 }
 
 // All clashes of these rules; or their first fault, which isn't a clash.
@@ -67,10 +53,10 @@ fn told_clashes(
     form: LineForm,
     name: &str,
     file: &ModeFile<'_>,
-) -> Result<Told, RulesError>
+) -> Result<Reply, RulesError>
     ensures told { IfOk result (λ told. AreToldClashes form name.now
         (map (λ m. m.now) file.now.modes.items) file.now.rules.items file.now.places.items
-        (record { status = told.status; out = told.text.items; err = [] })) }
+        told) }
     ensures fault { IfErr result (IsModesFault file.now.rules.items
         (length (map (λ m. m.now) file.now.modes.items))) }
 {
@@ -95,9 +81,9 @@ fn told_review(
     name: &str,
     file: &ModeFile<'_>,
     lexer: &RuleLexer,
-) -> Result<Told, AllocError>
+) -> Result<Reply, AllocError>
     ensures { IfOk result (λ told. (found : ReviewValue) × (IsReview lexer.now found
-        × (record { status = told.status; out = told.text.items; err = [] }
+        × (told
         ≡ review_answer form name.now (map (λ m. m.now) file.now.modes.items)
         (names_of (rules_of file.now.rules.items)) file.now.places.items found))) }
 {
@@ -112,7 +98,7 @@ fn told_review(
         &found,
     )?;
     let status = review_status(has_findings(&found));
-    Ok(Told { text, status })
+    Ok(Reply::written(alloc, status, text))
 }
 
 // Whether the error is a clash.
@@ -129,12 +115,12 @@ fn told_instead(
     name: &str,
     file: &ModeFile<'_>,
     error: RulesError,
-) -> Result<Told, RulesError>
+) -> Result<Reply, RulesError>
     requires error { IsRulesError file.now.rules.items
         (length (map (λ m. m.now) file.now.modes.items)) error }
     ensures told { IfOk result (λ told. ClashesTold form name.now
         (map (λ m. m.now) file.now.modes.items) file.now.rules.items file.now.places.items
-        (record { status = told.status; out = told.text.items; err = [] })) }
+        told) }
     ensures fault { IfErr result (IsModesFault file.now.rules.items
         (length (map (λ m. m.now) file.now.modes.items))) }
 {
@@ -150,11 +136,11 @@ fn told_of(
     form: LineForm,
     name: &str,
     file: &ModeFile<'_>,
-) -> Result<Told, RulesError>
+) -> Result<Reply, RulesError>
     requires some { 0 < length file.now.modes.items }
     ensures told { IfOk result (λ told. IsTold form name.now (map (λ m. m.now) file.now.modes.items)
         file.now.rules.items file.now.places.items
-        (record { status = told.status; out = told.text.items; err = [] })) }
+        told) }
     ensures fault { IfErr result (IsModesFault file.now.rules.items
         (length (map (λ m. m.now) file.now.modes.items))) }
 {
@@ -168,44 +154,26 @@ fn told_of(
     }
 }
 
-/// Writes all clashes of these rules, or their review if none clash, and returns the status. All is made before the first byte is
-/// written.
+/// What is answered to a check of these rules: all clashes, or if none clash, a review.
 ///
 /// # Errors
 ///
-/// `OutOfMemory` if a request for memory was refused: nothing was written. `Write` if a write failed or took no byte: a prefix was
-/// written.
-pub(crate) fn check_rules<W: Write, E: Write>(
+/// `AllocError` if a request for memory was refused.
+pub(crate) fn check_rules(
     alloc: Global,
     form: LineForm,
     name: &str,
     bytes: &[u8],
     file: &ModeFile<'_>,
-    out: &mut Watched<W>,
-    err: &mut Watched<E>,
-) -> Result<u8, RunError>
+) -> Result<Reply, AllocError>
     requires places { StandAt (lines bytes.now) file.now.rules.items file.now.places.items }
     requires some { 0 < length file.now.modes.items }
     requires within { NameOnly file.now.rules.items (length file.now.modes.items) }
-    requires out_good { out.old.failed ≡ false }
-    ensures answer { IfOk result (λ status. (answer : Answer)
-        × (CheckAnswer form name.now (lines bytes.now) (map (λ m. m.now) file.now.modes.items)
-        file.now.rules.items answer
-        × Answered W.contents E.contents out.old out.new err.old err.new status answer)) }
-    ensures good { OnOk result (out.new.failed ≡ false) }
-    ensures begun { OnErr result (Begun (CheckAnswer form name.now (lines bytes.now)
-        (map (λ m. m.now) file.now.modes.items) file.now.rules.items)
-        (W.contents out.old.inner) (W.contents out.new.inner)) }
-    ensures memory { IfErr result (λ e. e ≡ RunError.OutOfMemory → out.new.failed ≡ false) }
-    ensures write { IfErr result (λ e. e ≡ RunError.Write → out.new.failed ≡ true) }
-    ensures read { IfErr result (λ e. e ≢ RunError.Read) }
-    ensures no_late_write { out.new.late ≡ out.old.late }
-    ensures no_late_message { err.new.late ≡ err.old.late }
+    ensures answer { IfOk result (CheckAnswer form name.now (lines bytes.now)
+        (map (λ m. m.now) file.now.modes.items) file.now.rules.items) }
 {
-    let told = match told_of(alloc, form, name, file) {
-        Ok(told) => told,
-        Err(error) => return report_rules(alloc, name, bytes, file, &error, err),
-    };
-    write_whole(out, &told.text)?;
-    Ok(told.status)
+    match told_of(alloc, form, name, file) {
+        Ok(told) => Ok(told),
+        Err(error) => rules_refused(alloc, name, bytes, file, &error),
+    }
 }

@@ -1,22 +1,24 @@
 //! Cutting files one after another: the lines or the markup of each are written.
-ghost use Rattle.std.specs.Prelude.{◌≡◌, ◌≢◌, max, false, true, map, string_bytes, IfOk, OnOk, OnErr, IfErr};
-ghost use Rattle.reports_lib.specs.Answer.{Answer, Begun};
-ghost use Rattle.tokens_lib.specs.FileAnswers.{Answered, ReadingAnswer, FileAnswer, NumberedAnswer, FilesAnswer, TextsAnswer, FirstFilesAnswer, FirstTextsAnswer};
-ghost use Rattle.tokens_lib.specs.Streams.{Takes, StreamGives};
+ghost use Rattle.std.specs.Prelude.{◌≡◌, max, map, string_bytes, IfOk, OnOk, IfErr};
+ghost use Rattle.reports_lib.specs.Answer.{remark};
+ghost use Rattle.tokens_lib.specs.FileAnswers.{ReadingAnswer, FileAnswer, NumberedAnswer, NumberedPart, FilesAnswer, TextsAnswer, FirstFilesAnswer, FirstTextsAnswer};
+ghost use Rattle.tokens_lib.specs.Streams.{Answers, Fails, Reads, Says};
 ghost use Rattle.tokens_lib.specs.TextAnswer.{cut_status as status_of_cut, cut_text as text_of_cut, PiecesAnswer, PiecesPart, PageAnswer, PagePart};
 ghost use Rattle.tokens_lib.specs.Internal.Tasks.{TaskAnswer, TaskPart, EitherAnswer, ReadAnswer};
 
+use crate::by_rules::unread;
 use crate::command::{Markup, Verbosity};
+use crate::console::Console;
 use crate::cut_end::CutEnd;
 use crate::fault::{fault_message, lack_message, open_message};
-use crate::files::{Files, INPUT, NO_TEXT, NoBytes, is_input, say, say_about, shown_name};
+use crate::files::{Files, INPUT, NO_TEXT, NoBytes, is_input, shown_name};
 use crate::item_lines::{mode_name, write_items};
 use crate::page::write_page;
 use crate::progress::{number_message, total_said};
-use lexdfa_lib::{RunError, Watched};
+use crate::streams::{Reader, Sink, Source};
+use lexdfa_lib::RunError;
 use reports_lib::{FileLexer, Layout, LineForm};
 use std::alloc::{AllocError, Global};
-use std::io::{Read, Write};
 
 /// What is done with each text.
 #[derive(Clone, Copy)]
@@ -74,58 +76,45 @@ fn end_message(
 }
 
 // Says how cutting ended, if something is wrong, and returns the status.
-fn tell_end<E: Write>(
+fn tell_end<O: Sink, E: Sink>(
     alloc: Global,
     modes: &[String],
     name: &str,
     end: &CutEnd,
-    err: &mut Watched<E>,
+    console: &mut Console<O, E>,
 ) -> Result<u8, RunError>
     ensures status { IfOk result (λ status. status ≡ status_of_cut end.now) }
-    ensures said { OnOk result (Takes E.contents err.old err.new
-        (text_of_cut (map string_bytes modes.now) name.now end.now)) }
-    ensures memory { IfErr result (λ e. e ≡ RunError.OutOfMemory) }
-    ensures no_late_message { err.new.late ≡ err.old.late }
+    ensures said { OnOk result (Says console.old
+        (text_of_cut (map string_bytes modes.now) name.now end.now) console.new) }
+    ensures fails { IfErr result (λ e. Fails
+        (λ a. a ≡ remark (text_of_cut (map string_bytes modes.now) name.now end.now))
+        console.old e console.new) }
 {
-    let Ok(message) = end_message(alloc, modes, name, end) else {
-        return Err(RunError::OutOfMemory);
-    };
-    say(message.as_str(), err);
+    let message = end_message(alloc, modes, name, end)?;
+    console.say(message.as_str())?;
     Ok(status_of(end))
 }
 
 // Cuts what is read, writes the lines of its pieces, and returns the status.
-fn cut_pieces<R: Read, W: Write, E: Write>(
+fn cut_pieces<S: Source, O: Sink, E: Sink>(
     alloc: Global,
     rules: &FileLexer,
     form: LineForm,
     recovers: bool,
     several: bool,
     name: &str,
-    reader: &mut Watched<R>,
-    out: &mut Watched<W>,
-    err: &mut Watched<E>,
+    reader: &mut Reader<S>,
+    console: &mut Console<O, E>,
 ) -> Result<u8, RunError>
-    requires out_good { out.old.failed ≡ false }
-    ensures answer { IfOk result (λ status. (answer : Answer)
-        × (ReadAnswer (StreamGives R.remaining reader.old reader.new)
+    ensures answer { IfOk result (λ status. Answers (ReadAnswer (Reads reader.old reader.new)
         (PiecesAnswer rules.now.lexer (map string_bytes rules.now.modes.items)
-        form recovers several name.now) answer
-        × Answered W.contents E.contents out.old out.new err.old err.new status answer)) }
-    ensures good { OnOk result (out.new.failed ≡ false) }
-    ensures begun { OnErr result (Begun (ReadAnswer (StreamGives R.remaining reader.old reader.new)
+        form recovers several name.now)) console.old status console.new) }
+    ensures fails { IfErr result (λ e. Fails (ReadAnswer (Reads reader.old reader.new)
         (EitherAnswer (PiecesAnswer rules.now.lexer (map string_bytes rules.now.modes.items)
         form recovers several)
         (PiecesPart rules.now.lexer (map string_bytes rules.now.modes.items)
         form recovers several)
-        name.now))
-        (W.contents out.old.inner) (W.contents out.new.inner)) }
-    ensures memory { IfErr result (λ e. e ≡ RunError.OutOfMemory → out.new.failed ≡ false) }
-    ensures write { IfErr result (λ e. e ≡ RunError.Write → out.new.failed ≡ true) }
-    ensures read { IfErr result (λ e. e ≢ RunError.Read) }
-    ensures no_late_read { reader.new.late ≡ reader.old.late }
-    ensures no_late_write { out.new.late ≡ out.old.late }
-    ensures no_late_message { err.new.late ≡ err.old.late }
+        name.now)) console.old e console.new) }
 {
     let layout = Layout {
         form,
@@ -133,68 +122,46 @@ fn cut_pieces<R: Read, W: Write, E: Write>(
         file: several.then_some(name),
         modes: &rules.modes,
     };
-    let end = write_items(alloc, &rules.lexer, &layout, reader, out)?;
-    tell_end(alloc, &rules.modes, name, &end, err)
+    let end = write_items(alloc, &rules.lexer, &layout, reader, console)?;
+    tell_end(alloc, &rules.modes, name, &end, console)
 }
 
 // Cuts what is read, writes it as markup, and returns the status.
-fn cut_page<R: Read, W: Write, E: Write>(
+fn cut_page<S: Source, O: Sink, E: Sink>(
     alloc: Global,
     rules: &FileLexer,
     markup: Markup,
     name: &str,
-    reader: &mut Watched<R>,
-    out: &mut Watched<W>,
-    err: &mut Watched<E>,
+    reader: &mut Reader<S>,
+    console: &mut Console<O, E>,
 ) -> Result<u8, RunError>
-    requires out_good { out.old.failed ≡ false }
-    ensures answer { IfOk result (λ status. (answer : Answer)
-        × (ReadAnswer (StreamGives R.remaining reader.old reader.new)
-        (PageAnswer rules.now.lexer (map string_bytes rules.now.modes.items) markup name.now) answer
-        × Answered W.contents E.contents out.old out.new err.old err.new status answer)) }
-    ensures good { OnOk result (out.new.failed ≡ false) }
-    ensures begun { OnErr result (Begun (ReadAnswer (StreamGives R.remaining reader.old reader.new)
+    ensures answer { IfOk result (λ status. Answers (ReadAnswer (Reads reader.old reader.new)
+        (PageAnswer rules.now.lexer (map string_bytes rules.now.modes.items) markup name.now))
+        console.old status console.new) }
+    ensures fails { IfErr result (λ e. Fails (ReadAnswer (Reads reader.old reader.new)
         (EitherAnswer (PageAnswer rules.now.lexer (map string_bytes rules.now.modes.items) markup)
         (PagePart rules.now.lexer (map string_bytes rules.now.modes.items) markup)
-        name.now))
-        (W.contents out.old.inner) (W.contents out.new.inner)) }
-    ensures memory { IfErr result (λ e. e ≡ RunError.OutOfMemory → out.new.failed ≡ false) }
-    ensures write { IfErr result (λ e. e ≡ RunError.Write → out.new.failed ≡ true) }
-    ensures read { IfErr result (λ e. e ≢ RunError.Read) }
-    ensures no_late_read { reader.new.late ≡ reader.old.late }
-    ensures no_late_write { out.new.late ≡ out.old.late }
-    ensures no_late_message { err.new.late ≡ err.old.late }
+        name.now)) console.old e console.new) }
 {
-    let end = write_page(alloc, &rules.lexer, markup, reader, out)?;
-    tell_end(alloc, &rules.modes, name, &end, err)
+    let end = write_page(alloc, &rules.lexer, markup, reader, console)?;
+    tell_end(alloc, &rules.modes, name, &end, console)
 }
 
 // ---- files
 
 // Does the task for what is read, and returns the status.
-fn run_task<R: Read, W: Write, E: Write>(
+fn run_task<S: Source, O: Sink, E: Sink>(
     alloc: Global,
     task: &Task<'_>,
     name: &str,
-    reader: &mut Watched<R>,
-    out: &mut Watched<W>,
-    err: &mut Watched<E>,
+    reader: &mut Reader<S>,
+    console: &mut Console<O, E>,
 ) -> Result<u8, RunError>
-    requires out_good { out.old.failed ≡ false }
-    ensures answer { IfOk result (λ status. (answer : Answer)
-        × (ReadAnswer (StreamGives R.remaining reader.old reader.new)
-        (TaskAnswer task.now name.now) answer
-        × Answered W.contents E.contents out.old out.new err.old err.new status answer)) }
-    ensures good { OnOk result (out.new.failed ≡ false) }
-    ensures begun { OnErr result (Begun (ReadAnswer (StreamGives R.remaining reader.old reader.new)
+    ensures answer { IfOk result (λ status. Answers (ReadAnswer (Reads reader.old reader.new)
+        (TaskAnswer task.now name.now)) console.old status console.new) }
+    ensures fails { IfErr result (λ e. Fails (ReadAnswer (Reads reader.old reader.new)
         (EitherAnswer (TaskAnswer task.now) (TaskPart task.now) name.now))
-        (W.contents out.old.inner) (W.contents out.new.inner)) }
-    ensures memory { IfErr result (λ e. e ≡ RunError.OutOfMemory → out.new.failed ≡ false) }
-    ensures write { IfErr result (λ e. e ≡ RunError.Write → out.new.failed ≡ true) }
-    ensures read { IfErr result (λ e. e ≢ RunError.Read) }
-    ensures no_late_read { reader.new.late ≡ reader.old.late }
-    ensures no_late_write { out.new.late ≡ out.old.late }
-    ensures no_late_message { err.new.late ≡ err.old.late }
+        console.old e console.new) }
 {
     match *task {
         Task::Pieces {
@@ -202,44 +169,29 @@ fn run_task<R: Read, W: Write, E: Write>(
             form,
             recovers,
             several,
-        } => cut_pieces(
-            alloc, rules, form, recovers, several, name, reader, out, err,
-        ),
-        Task::Markup { rules, markup } => { cut_page(alloc, rules, markup, name, reader, out, err) }
+        } => cut_pieces(alloc, rules, form, recovers, several, name, reader, console),
+        Task::Markup { rules, markup } => cut_page(alloc, rules, markup, name, reader, console),
     }
 }
 
 // Does the task for a file, and returns the status. The file is open until then.
-fn cut_file<F: Files, W: Write, E: Write>(
+fn cut_file<F: Files, O: Sink, E: Sink>(
     alloc: Global,
     task: &Task<'_>,
     files: &F,
     name: &str,
-    out: &mut Watched<W>,
-    err: &mut Watched<E>,
+    console: &mut Console<O, E>,
 ) -> Result<u8, RunError>
-    requires out_good { out.old.failed ≡ false }
-    ensures answer { IfOk result (λ status. (answer : Answer)
-        × (ReadAnswer (F.gives files.now name.now)
-        (ReadingAnswer (TaskAnswer task.now) name.now) answer
-        × Answered W.contents E.contents out.old out.new err.old err.new status answer)) }
-    ensures good { OnOk result (out.new.failed ≡ false) }
-    ensures begun { OnErr result (Begun (ReadAnswer (F.gives files.now name.now)
+    ensures answer { IfOk result (λ status. Answers (ReadAnswer (F.gives files.now name.now)
+        (ReadingAnswer (TaskAnswer task.now) name.now)) console.old status console.new) }
+    ensures fails { IfErr result (λ e. Fails (ReadAnswer (F.gives files.now name.now)
         (EitherAnswer (ReadingAnswer (TaskAnswer task.now)) (TaskPart task.now) name.now))
-        (W.contents out.old.inner) (W.contents out.new.inner)) }
-    ensures memory { IfErr result (λ e. e ≡ RunError.OutOfMemory → out.new.failed ≡ false) }
-    ensures write { IfErr result (λ e. e ≡ RunError.Write → out.new.failed ≡ true) }
-    ensures read { IfErr result (λ e. e ≢ RunError.Read) }
-    ensures no_late_write { out.new.late ≡ out.old.late }
-    ensures no_late_message { err.new.late ≡ err.old.late }
+        console.old e console.new) }
 {
     match files.open(alloc, name) {
-        Ok(reader) => run_task(alloc, task, name, &mut Watched::new(reader), out, err),
+        Ok(source) => run_task(alloc, task, name, &mut Reader::new(source), console),
         Err(NoBytes::OutOfMemory) => Err(RunError::OutOfMemory),
-        Err(NoBytes::Because(reason)) => {
-            say_about(alloc, name, reason.as_str(), err)?;
-            Ok(NO_TEXT)
-        }
+        Err(NoBytes::Because(reason)) => console.give(&unread(alloc, name, reason.as_str())?),
     }
 }
 
@@ -251,109 +203,72 @@ pub(crate) fn worse(status: u8, other: u8) -> u8
 }
 
 // Does the task for a file, where `-` is standard input, and returns the status.
-fn cut_file_or_input<F: Files, R: Read, W: Write, E: Write>(
+fn cut_file_or_input<F: Files, S: Source, O: Sink, E: Sink>(
     alloc: Global,
     task: &Task<'_>,
     files: &F,
     name: &str,
-    input: &mut Watched<R>,
-    out: &mut Watched<W>,
-    err: &mut Watched<E>,
+    input: &mut Reader<S>,
+    console: &mut Console<O, E>,
 ) -> Result<u8, RunError>
-    requires out_good { out.old.failed ≡ false }
-    ensures answer { IfOk result (λ status. (answer : Answer)
-        × (FileAnswer (F.gives files.now) (StreamGives R.remaining)
-        (ReadingAnswer (TaskAnswer task.now)) input.old input.new name.now answer
-        × Answered W.contents E.contents out.old out.new err.old err.new status answer)) }
-    ensures good { OnOk result (out.new.failed ≡ false) }
-    ensures begun { OnErr result (Begun (FileAnswer (F.gives files.now) (StreamGives R.remaining)
+    ensures answer { IfOk result (λ status. Answers (FileAnswer (F.gives files.now)
+        (ReadingAnswer (TaskAnswer task.now)) input.old input.new name.now)
+        console.old status console.new) }
+    ensures fails { IfErr result (λ e. Fails (FileAnswer (F.gives files.now)
         (EitherAnswer (ReadingAnswer (TaskAnswer task.now)) (TaskPart task.now))
-        input.old input.new name.now)
-        (W.contents out.old.inner) (W.contents out.new.inner)) }
-    ensures memory { IfErr result (λ e. e ≡ RunError.OutOfMemory → out.new.failed ≡ false) }
-    ensures write { IfErr result (λ e. e ≡ RunError.Write → out.new.failed ≡ true) }
-    ensures read { IfErr result (λ e. e ≢ RunError.Read) }
-    ensures no_late_read { input.new.late ≡ input.old.late }
-    ensures no_late_write { out.new.late ≡ out.old.late }
-    ensures no_late_message { err.new.late ≡ err.old.late }
+        input.old input.new name.now) console.old e console.new) }
 {
     if is_input(name) {
-        run_task(alloc, task, INPUT, input, out, err)
+        run_task(alloc, task, INPUT, input, console)
     } else {
-        cut_file(alloc, task, files, name, out, err)
+        cut_file(alloc, task, files, name, console)
     }
 }
 
 // Says which of the files it is, if their number is said; does the task for it, and returns the status.
-fn cut_numbered<F: Files, R: Read, W: Write, E: Write>(
+fn cut_numbered<F: Files, S: Source, O: Sink, E: Sink>(
     alloc: Global,
     task: &Task<'_>,
     total: Option<usize>,
     number: usize,
     files: &F,
     name: &str,
-    input: &mut Watched<R>,
-    out: &mut Watched<W>,
-    err: &mut Watched<E>,
+    input: &mut Reader<S>,
+    console: &mut Console<O, E>,
 ) -> Result<u8, RunError>
-    requires out_good { out.old.failed ≡ false }
-    ensures answer { IfOk result (λ status. (answer : Answer)
-        × (NumberedAnswer (F.gives files.now) (StreamGives R.remaining)
-        (ReadingAnswer (TaskAnswer task.now)) total number input.old input.new name.now answer
-        × Answered W.contents E.contents out.old out.new err.old err.new status answer)) }
-    ensures good { OnOk result (out.new.failed ≡ false) }
-    ensures begun { OnErr result (Begun (NumberedAnswer (F.gives files.now)
-        (StreamGives R.remaining)
+    ensures answer { IfOk result (λ status. Answers (NumberedAnswer (F.gives files.now)
+        (ReadingAnswer (TaskAnswer task.now)) total number input.old input.new name.now)
+        console.old status console.new) }
+    ensures fails { IfErr result (λ e. Fails (NumberedPart (F.gives files.now)
         (EitherAnswer (ReadingAnswer (TaskAnswer task.now)) (TaskPart task.now))
-        total number input.old input.new name.now)
-        (W.contents out.old.inner) (W.contents out.new.inner)) }
-    ensures memory { IfErr result (λ e. e ≡ RunError.OutOfMemory → out.new.failed ≡ false) }
-    ensures write { IfErr result (λ e. e ≡ RunError.Write → out.new.failed ≡ true) }
-    ensures read { IfErr result (λ e. e ≢ RunError.Read) }
-    ensures no_late_read { input.new.late ≡ input.old.late }
-    ensures no_late_write { out.new.late ≡ out.old.late }
-    ensures no_late_message { err.new.late ≡ err.old.late }
+        total number input.old input.new name.now) console.old e console.new) }
 {
-    let Ok(message) = number_message(alloc, total, number, shown_name(name)) else {
-        return Err(RunError::OutOfMemory);
-    };
-    say(message.as_str(), err);
-    cut_file_or_input(alloc, task, files, name, input, out, err)
+    let message = number_message(alloc, total, number, shown_name(name))?;
+    console.say(message.as_str())?;
+    cut_file_or_input(alloc, task, files, name, input, console)
 }
 
 // Does the task for each file, and returns the greatest status.
-fn cut_each<F: Files, R: Read, W: Write, E: Write>(
+fn cut_each<F: Files, S: Source, O: Sink, E: Sink>(
     alloc: Global,
     task: &Task<'_>,
     total: Option<usize>,
     files: &F,
     names: &[&str],
-    input: &mut Watched<R>,
-    out: &mut Watched<W>,
-    err: &mut Watched<E>,
+    input: &mut Reader<S>,
+    console: &mut Console<O, E>,
 ) -> Result<u8, RunError>
-    requires out_good { out.old.failed ≡ false }
-    ensures answer { IfOk result (λ status. (answer : Answer)
-        × (FilesAnswer (NumberedAnswer (F.gives files.now) (StreamGives R.remaining)
-        (ReadingAnswer (TaskAnswer task.now)) total) 1 input.old input.new
-        (map (λ name. name.now) names.now) answer
-        × Answered W.contents E.contents out.old out.new err.old err.new status answer)) }
-    ensures good { OnOk result (out.new.failed ≡ false) }
-    ensures begun { OnErr result (Begun (FirstFilesAnswer (NumberedAnswer (F.gives files.now)
-        (StreamGives R.remaining) (ReadingAnswer (TaskAnswer task.now)) total)
-        (NumberedAnswer (F.gives files.now) (StreamGives R.remaining) (TaskPart task.now) total)
-        input.old (map (λ name. name.now) names.now))
-        (W.contents out.old.inner) (W.contents out.new.inner)) }
-    ensures memory { IfErr result (λ e. e ≡ RunError.OutOfMemory → out.new.failed ≡ false) }
-    ensures write { IfErr result (λ e. e ≡ RunError.Write → out.new.failed ≡ true) }
-    ensures read { IfErr result (λ e. e ≢ RunError.Read) }
-    ensures no_late_read { input.new.late ≡ input.old.late }
-    ensures no_late_write { out.new.late ≡ out.old.late }
-    ensures no_late_message { err.new.late ≡ err.old.late }
+    ensures answer { IfOk result (λ status. Answers (FilesAnswer (NumberedAnswer
+        (F.gives files.now) (ReadingAnswer (TaskAnswer task.now)) total) 1 input.old input.new
+        (map (λ name. name.now) names.now)) console.old status console.new) }
+    ensures fails { IfErr result (λ e. Fails (FirstFilesAnswer (NumberedAnswer
+        (F.gives files.now) (ReadingAnswer (TaskAnswer task.now)) total)
+        (NumberedPart (F.gives files.now) (TaskPart task.now) total)
+        input.old (map (λ name. name.now) names.now)) console.old e console.new) }
 {
     let mut status = 0u8;
     for (i, name) in names.iter().enumerate() {
-        let own = cut_numbered(alloc, task, total, i + 1, files, name, input, out, err)?;
+        let own = cut_numbered(alloc, task, total, i + 1, files, name, input, console)?;
         status = worse(status, own);
     }
     Ok(status)
@@ -361,37 +276,26 @@ fn cut_each<F: Files, R: Read, W: Write, E: Write>(
 
 /// Does the task for each file, or for standard input if there are none, and returns the greatest status. A file `-` is
 /// standard input too.
-pub(crate) fn cut_all<F: Files, R: Read, W: Write, E: Write>(
+pub(crate) fn cut_all<F: Files, S: Source, O: Sink, E: Sink>(
     alloc: Global,
     task: &Task<'_>,
     verbosity: Verbosity,
     files: &F,
     names: &[&str],
-    input: &mut Watched<R>,
-    out: &mut Watched<W>,
-    err: &mut Watched<E>,
+    input: &mut Reader<S>,
+    console: &mut Console<O, E>,
 ) -> Result<u8, RunError>
-    requires out_good { out.old.failed ≡ false }
-    ensures answer { IfOk result (λ status. (answer : Answer)
-        × (TextsAnswer (F.gives files.now) (StreamGives R.remaining) input.old input.new verbosity
-        (TaskAnswer task.now) (TaskPart task.now) (map (λ name. name.now) names.now) answer
-        × Answered W.contents E.contents out.old out.new err.old err.new status answer)) }
-    ensures good { OnOk result (out.new.failed ≡ false) }
-    ensures begun { OnErr result (Begun (FirstTextsAnswer (F.gives files.now)
-        (StreamGives R.remaining) input.old verbosity (TaskAnswer task.now) (TaskPart task.now)
-        (map (λ name. name.now) names.now))
-        (W.contents out.old.inner) (W.contents out.new.inner)) }
-    ensures memory { IfErr result (λ e. e ≡ RunError.OutOfMemory → out.new.failed ≡ false) }
-    ensures write { IfErr result (λ e. e ≡ RunError.Write → out.new.failed ≡ true) }
-    ensures read { IfErr result (λ e. e ≢ RunError.Read) }
-    ensures no_late_read { input.new.late ≡ input.old.late }
-    ensures no_late_write { out.new.late ≡ out.old.late }
-    ensures no_late_message { err.new.late ≡ err.old.late }
+    ensures answer { IfOk result (λ status. Answers (TextsAnswer (F.gives files.now)
+        input.old input.new verbosity (TaskAnswer task.now) (TaskPart task.now)
+        (map (λ name. name.now) names.now)) console.old status console.new) }
+    ensures fails { IfErr result (λ e. Fails (FirstTextsAnswer (F.gives files.now) input.old
+        verbosity (TaskAnswer task.now) (TaskPart task.now) (map (λ name. name.now) names.now))
+        console.old e console.new) }
 {
     let total = total_said(verbosity, names.len());
     if names.is_empty() {
-        cut_each(alloc, task, total, files, &["-"], input, out, err)
+        cut_each(alloc, task, total, files, &["-"], input, console)
     } else {
-        cut_each(alloc, task, total, files, names, input, out, err)
+        cut_each(alloc, task, total, files, names, input, console)
     }
 }

@@ -1,7 +1,6 @@
 //! A text that is cut piece by piece as it comes, and what is known of its pieces so far.
-ghost use Rattle.std.specs.Prelude.{◌≡◌, ◌≢◌, ◌+◌, ◌≤◌, ◌∷◌, ◌++◌, ◌⊎◌, ◌||◌, ℕ, List, [], is_none, length, reverse, take, false, true, None, Some, Ok, IfOk, IfErr, IfNone, IfSome, OnOk, OnErr};
+ghost use Rattle.std.specs.Prelude.{◌≡◌, ◌≢◌, ◌+◌, ◌≤◌, ◌∷◌, ◌++◌, ◌⊎◌, ◌||◌, ℕ, List, [], is_none, length, reverse, take, false, true, None, Some, Ok, IfOk, IfNone, IfSome, OnOk, OnErr};
 ghost use Rattle.std.specs.Borrow.{Bor};
-ghost use Rattle.std.specs.Io.KnownBytes.{Consumes};
 ghost use Rattle.std.specs.Str.{chars, IsUtf8};
 ghost use Rattle.lalrpop_edits.specs.Chunked.{nothing_come, GivesFinal, BeginsFault, MayMatch};
 ghost use Rattle.lalrpop_edits.specs.Decoded.{nothing_decoded};
@@ -10,16 +9,16 @@ ghost use Rattle.bajofeki_rules.specs.Position.{place_after};
 ghost use Rattle.tokens_lib.specs.OpenModes.{pushed, pushed_all};
 ghost use Rattle.tokens_lib.specs.Internal.CutTexts.{Comes, GivesCut, IsCutInto, end_by, open_place, opened_by};
 ghost use Rattle.tokens_lib.specs.Internal.Incoming.{IsIncoming};
+ghost use Rattle.tokens_lib.specs.Streams.{LeftOff, Reads};
 
 use crate::cut_end::{CutEnd, OpenMode, TextError};
 use crate::incoming::{Brought, Incoming};
+use crate::streams::{Reader, Source};
 use lalrpop_edits::GivenPiece;
 use lalrpop_lexer::Position;
 use lalrpop_lexer::lexer::dfa::NfaIndex;
 use lalrpop_rules::{Action, RuleLexer};
-use lexdfa_lib::{RunError, Watched};
 use std::alloc::{AllocError, Global};
-use std::io::Read;
 
 /// Cuts a text piece by piece as it comes, and knows whether a fault was among the pieces, where the modes were entered that
 /// have one below them, and where the next piece begins.
@@ -188,25 +187,22 @@ impl<'rules> Cutter<'rules> {
     ///
     /// # Errors
     ///
-    /// `OutOfMemory` if a request for memory was refused, or if 2^64 bytes have come.
-    pub(crate) fn next_piece(&mut self) -> Result<Option<Cut>, RunError>
+    /// `AllocError` if a request for memory was refused, or if 2^64 bytes have come.
+    pub(crate) fn next_piece(&mut self) -> Result<Option<Cut>, AllocError>
         ensures none { IfOk result (λ found. IfNone found ((self.new ≡ self.old)
             × GivesFinal self.old.incoming.chunks None self.new.incoming.chunks)) }
         ensures gives { IfOk result (λ found. IfSome found (λ cut.
             (slice : Bor (List ℕ)) → slice.now ≡ self.new.incoming.chunks.last
             → GivesCut self.old (item_of cut.piece slice) cut.place cut.mode self.new)) }
-        ensures memory { IfErr result (λ e. e ≡ RunError.OutOfMemory) }
     {
         let mode = self.incoming.chunks.mode();
         let place = self.here;
         let piece = match self.incoming.chunks.next_piece() {
             Ok(Some(piece)) => piece,
             Ok(None) => return Ok(None),
-            Err(_) => return Err(RunError::OutOfMemory),
+            Err(_) => return Err(AllocError),
         };
-        if self.note(&piece).is_err() {
-            return Err(RunError::OutOfMemory);
-        }
+        self.note(&piece)?;
         Ok(Some(Cut { piece, place, mode }))
     }
 
@@ -225,38 +221,31 @@ impl<'rules> Cutter<'rules> {
     }
 
     // How many bytes of the text have come.
-    fn size(&self) -> Result<usize, RunError>
+    fn size(&self) -> Result<usize, AllocError>
         ensures size { IfOk result (λ n. n ≡ self.now.at + length self.now.incoming.chunks.rest) }
-        ensures memory { IfErr result (λ e. e ≡ RunError.OutOfMemory) }
     {
-        match self.at.checked_add(self.incoming.chunks.rest().len()) {
-            Some(size) => Ok(size),
-            None => Err(RunError::OutOfMemory),
-        }
+        self.at
+            .checked_add(self.incoming.chunks.rest().len())
+            .ok_or(AllocError)
     }
 
     /// Reads more of the text, and says what may still come.
     ///
     /// # Errors
     ///
-    /// `OutOfMemory` if a request for memory was refused, or if 2^64 bytes have come.
-    pub(crate) fn read_on<R: Read>(
+    /// `AllocError` if a request for memory was refused, or if 2^64 bytes have come.
+    pub(crate) fn read_on<S: Source>(
         &mut self,
         alloc: Global,
-        reader: &mut Watched<R>,
-    ) -> Result<Coming, RunError>
-        requires reader_good { reader.old.failed ≡ false }
+        reader: &mut Reader<S>,
+    ) -> Result<Coming, AllocError>
         requires whole { self.old.incoming.decoder.is_broken ≡ false }
         requires goes { self.old.incoming.chunks.is_ended ≡ false }
-        ensures comes { IfOk result (λ coming. Comes self.old.lexer.now
-            (R.remaining reader.old.inner) (R.remaining reader.new.inner) reader.new.failed
-            self.old self.new coming) }
+        ensures comes { IfOk result (λ coming.
+            Comes self.old.lexer.now reader.old reader.new self.old self.new coming) }
         ensures same { OnOk result (self.new.lexer ≡ self.old.lexer) }
         ensures lost { OnErr result ((more : List ℕ)
-            × Consumes (R.remaining reader.old.inner) (R.remaining reader.new.inner) more) }
-        ensures good { OnErr result (reader.new.failed ≡ false) }
-        ensures memory { IfErr result (λ e. e ≡ RunError.OutOfMemory) }
-        ensures no_late_read { reader.new.late ≡ reader.old.late }
+            × Reads reader.old reader.new (record { bytes = more; end = LeftOff })) }
     {
         match self.incoming.read_on(alloc, reader)? {
             Brought::Failure => Ok(Coming::Failure),

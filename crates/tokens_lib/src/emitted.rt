@@ -1,18 +1,18 @@
 //! The lexer of a file of rules as a source file.
-ghost use Rattle.std.specs.Prelude.{◌≡◌, ◌≢◌, false, true, string_bytes, IfOk, OnOk, OnErr, IfErr};
+ghost use Rattle.std.specs.Prelude.{◌≡◌, ◌≢◌, string_bytes, IfOk, OnOk, IfErr};
 ghost use Rattle.lalrpop_emit.specs.NumberedRules.{AreNumbersOf, NumberedRules};
-ghost use Rattle.reports_lib.specs.Answer.{Answer, Begun, about};
-ghost use Rattle.tokens_lib.specs.FileAnswers.{Answered};
+ghost use Rattle.reports_lib.specs.Answer.{about, refusal};
+ghost use Rattle.tokens_lib.specs.Program.{ByLexer};
+ghost use Rattle.tokens_lib.specs.Streams.{GivesWhole};
 ghost use Rattle.tokens_lib.specs.Emitted.{IsFileError, IsNoSource, SourceAnswer, error_reason, prefix_of, source_file};
-ghost use Rattle.tokens_lib.specs.Streams.{Takes};
 
-use crate::command::Language;
-use crate::files::say_about;
+use crate::by_rules::lexer_by_name;
+use crate::command::{Language, Verbosity};
+use crate::files::Files;
 use lalrpop_emit::{EmitError, LexerNumbers, c_source, rust_source};
 use lalrpop_rules::RuleLexer;
-use lexdfa_lib::{RunError, Watched, write_whole};
-use std::alloc::Global;
-use std::io::Write;
+use reports_lib::{Reply, about};
+use std::alloc::{AllocError, Global};
 
 // The status of rules that can't be written.
 const REFUSED: u8 = 2;
@@ -74,54 +74,53 @@ fn source_of(alloc: Global, lexer: &RuleLexer, language: Language<'_>) -> Result
     file_of(alloc, &numbers, language)
 }
 
-// Says why there is no source file, and returns the status.
-fn refuse<E: Write>(
-    alloc: Global,
-    name: &str,
-    error: &EmitError,
-    err: &mut Watched<E>,
-) -> Result<u8, RunError>
-    ensures status { IfOk result (λ status. status ≡ 2) }
+// What is answered where there is no source file.
+fn refused(alloc: Global, name: &str, error: &EmitError) -> Result<Reply, AllocError>
     ensures other { OnOk result (error.now ≢ EmitError.OutOfMemory) }
-    ensures said { OnOk result
-        (Takes E.contents err.old err.new (about name.now (error_reason error.now))) }
-    ensures memory { IfErr result (λ e. e ≡ RunError.OutOfMemory) }
-    ensures no_late_message { err.new.late ≡ err.old.late }
+    ensures answer { IfOk result (λ reply.
+        reply ≡ refusal 2 (about name.now (error_reason error.now))) }
 {
     if let EmitError::OutOfMemory = error {
-        return Err(RunError::OutOfMemory);
+        return Err(AllocError);
     }
-    say_about(alloc, name, error_reason(error), err)?;
-    Ok(REFUSED)
+    let message = about(alloc, name, error_reason(error))?;
+    Ok(Reply::refusal(alloc, REFUSED, message))
 }
 
-/// Writes the source file of the lexer of the rules with this name, or says why there is none, and returns the status.
-pub(crate) fn write_source<W: Write, E: Write>(
+// What is answered where the lexer of the rules with this name is wanted as a source file.
+fn source_reply(
     alloc: Global,
     name: &str,
     lexer: &RuleLexer,
     language: Language<'_>,
-    out: &mut Watched<W>,
-    err: &mut Watched<E>,
-) -> Result<u8, RunError>
-    requires out_good { out.old.failed ≡ false }
-    ensures answer { IfOk result (λ status. (answer : Answer)
-        × (SourceAnswer language.entry name.now lexer.now answer
-        × Answered W.contents E.contents out.old out.new err.old err.new status answer)) }
-    ensures good { OnOk result (out.new.failed ≡ false) }
-    ensures begun { OnErr result (Begun (SourceAnswer language.entry name.now lexer.now)
-        (W.contents out.old.inner) (W.contents out.new.inner)) }
-    ensures memory { IfErr result (λ e. e ≡ RunError.OutOfMemory → out.new.failed ≡ false) }
-    ensures write { IfErr result (λ e. e ≡ RunError.Write → out.new.failed ≡ true) }
-    ensures read { IfErr result (λ e. e ≢ RunError.Read) }
-    ensures no_late_write { out.new.late ≡ out.old.late }
-    ensures no_late_message { err.new.late ≡ err.old.late }
+) -> Result<Reply, AllocError>
+    ensures answer { IfOk result (SourceAnswer language.entry name.now lexer.now) }
 {
     match source_of(alloc, lexer, language) {
-        Ok(source) => {
-            write_whole(out, source.as_bytes())?;
-            Ok(0)
+        Ok(source) => Ok(Reply::written(alloc, 0, source.into_bytes())),
+        Err(error) => refused(alloc, name, &error),
+    }
+}
+
+/// What is answered where the lexer of a file of rules is wanted as a source file.
+///
+/// # Errors
+///
+/// `AllocError` if a request for memory was refused.
+pub(crate) fn emit<F: Files>(
+    alloc: Global,
+    verbosity: Verbosity,
+    files: &F,
+    rules: &str,
+    language: Language<'_>,
+) -> Result<Reply, AllocError>
+    ensures answer { IfOk result (ByLexer (GivesWhole (F.gives files.now)) verbosity
+        (λ r _. SourceAnswer language.entry rules.now r) rules.now) }
+{
+    match lexer_by_name(alloc, verbosity, files, rules)? {
+        Ok(found) => {
+            source_reply(alloc, rules, &found.lexer.lexer, language)?.after(0, found.said)
         }
-        Err(error) => refuse(alloc, name, &error, err),
+        Err(reply) => Ok(reply),
     }
 }

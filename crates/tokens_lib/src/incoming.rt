@@ -1,16 +1,15 @@
 //! A text that is read as it comes, and cut.
 
-ghost use Rattle.std.specs.Prelude.{◌≡◌, ◌≢◌, ◌<◌, ◌≤◌, ◌+◌, ◌/◌, ◌⊎◌, List, ℕ, [], true, false, length, IfOk, IfErr, IfSome, IfNone, OnOk, OnErr};
-ghost use Rattle.std.specs.Io.KnownBytes.{Consumes, IsAtEnd};
+ghost use Rattle.std.specs.Prelude.{◌≡◌, ◌≢◌, ◌<◌, ◌≤◌, ◌+◌, ◌/◌, ◌⊎◌, List, ℕ, [], true, false, length, IfOk, IfSome, IfNone, OnOk, OnErr};
 ghost use Rattle.lalrpop_edits.specs.Chunked.{nothing_come};
 ghost use Rattle.lalrpop_edits.specs.Decoded.{nothing_decoded};
-ghost use Rattle.tokens_lib.specs.Internal.Incoming.{IsIncoming, ReadsOn, GrowsBy, behind_mark, held};
+ghost use Rattle.tokens_lib.specs.Internal.Incoming.{IsIncoming, ReadsOn, GrowsBy, behind_mark, end_of, held};
+ghost use Rattle.tokens_lib.specs.Streams.{AtEnd, Failed, LeftOff, Reads};
 
+use crate::streams::{Reader, Source};
 use lalrpop_edits::{Chunks, TextDecoder};
 use lalrpop_rules::RuleLexer;
-use lexdfa_lib::{RunError, Watched};
 use std::alloc::{AllocError, Global};
-use std::io::Read;
 
 /// How many bytes a read asks for. More than these are much to hold back.
 const AT_ONCE: usize = 65536;
@@ -90,62 +89,50 @@ impl<'rules> Incoming<'rules> {
     }
 
     // Reads once: how many bytes came, or none at the end. Nothing, if the read failed.
-    fn read_once<R: Read>(
+    fn read_once<S: Source>(
         &mut self,
         alloc: Global,
-        reader: &mut Watched<R>,
-    ) -> Result<Option<usize>, RunError>
-        requires reader_good { reader.old.failed ≡ false }
+        reader: &mut Reader<S>,
+    ) -> Result<Option<usize>, AllocError>
         requires whole { self.old.decoder.is_broken ≡ false }
-        ensures brought { OnOk result (ReadsOn (R.remaining reader.old.inner)
-            (R.remaining reader.new.inner) self.old self.new) }
-        ensures count { IfOk result (λ told. IfSome told (λ n. (reader.new.failed ≡ false)
-            × ((n ≡ 0 → IsAtEnd (R.remaining reader.new.inner) × (self.new ≡ self.old))
-            × ((self.new.decoder.is_broken ≡ true) ⊎ (held self.old + n ≤ held self.new))))) }
-        ensures failure { IfOk result (λ told. IfNone told ((reader.new.failed ≡ true)
-            × (self.new ≡ self.old))) }
-        ensures memory { IfErr result (λ e. e ≡ RunError.OutOfMemory) }
-        ensures good { OnErr result (reader.new.failed ≡ false) }
+        ensures more { IfOk result (λ told. IfSome told (λ n.
+            ReadsOn reader.old reader.new LeftOff self.old self.new
+            × ((self.new.decoder.is_broken ≡ true) ⊎ (held self.old + n ≤ held self.new)))) }
+        ensures nothing { IfOk result (λ told. IfSome told (λ n. n ≡ 0
+            → ReadsOn reader.old reader.new AtEnd self.old self.new × (self.new ≡ self.old))) }
+        ensures failure { IfOk result (λ told. IfNone told
+            (ReadsOn reader.old reader.new Failed self.old self.new × (self.new ≡ self.old))) }
         ensures lost { OnErr result ((more : List ℕ)
-            × Consumes (R.remaining reader.old.inner) (R.remaining reader.new.inner) more) }
-        ensures no_late_read { reader.new.late ≡ reader.old.late }
+            × Reads reader.old reader.new (record { bytes = more; end = LeftOff })) }
     {
         let mut buffer = [0u8; AT_ONCE];
         match reader.read(&mut buffer) {
-            Err(_) => Ok(None),
-            Ok(0) => Ok(Some(0)),
-            Ok(n) => {
-                if self.take_bytes(alloc, &buffer[..n]).is_err() {
-                    return Err(RunError::OutOfMemory);
-                }
+            None => Ok(None),
+            Some(0) => Ok(Some(0)),
+            Some(n) => {
+                self.take_bytes(alloc, &buffer[..n])?;
                 Ok(Some(n))
             }
         }
     }
 
     // Reads until `wanted` bytes have come, or a read brings nothing or fails, or a byte has come that is of no character.
-    fn read_much<R: Read>(
+    fn read_much<S: Source>(
         &mut self,
         alloc: Global,
-        reader: &mut Watched<R>,
+        reader: &mut Reader<S>,
         wanted: usize,
-    ) -> Result<Brought, RunError>
-        requires reader_good { reader.old.failed ≡ false }
+    ) -> Result<Brought, AllocError>
         requires whole { self.old.decoder.is_broken ≡ false }
         requires some { 0 < wanted }
-        ensures brought { OnOk result (ReadsOn (R.remaining reader.old.inner)
-            (R.remaining reader.new.inner) self.old self.new) }
-        ensures more { IfOk result (λ b. b ≡ Brought.More → (reader.new.failed ≡ false)
-            × ((self.new.decoder.is_broken ≡ true) ⊎ (held self.old + wanted ≤ held self.new))) }
-        ensures nothing { IfOk result (λ b. b ≡ Brought.Nothing → (reader.new.failed ≡ false)
-            × (IsAtEnd (R.remaining reader.new.inner) × (self.new.decoder.is_broken ≡ false))) }
-        ensures failure { IfOk result (λ b. b ≡ Brought.Failure → (reader.new.failed ≡ true)
-            × (self.new.decoder.is_broken ≡ false)) }
-        ensures memory { IfErr result (λ e. e ≡ RunError.OutOfMemory) }
-        ensures good { OnErr result (reader.new.failed ≡ false) }
+        ensures brought { IfOk result (λ b.
+            ReadsOn reader.old reader.new (end_of b) self.old self.new) }
+        ensures more { IfOk result (λ b. b ≡ Brought.More
+            → (self.new.decoder.is_broken ≡ true) ⊎ (held self.old + wanted ≤ held self.new)) }
+        ensures whole { IfOk result (λ b. b ≢ Brought.More
+            → self.new.decoder.is_broken ≡ false) }
         ensures lost { OnErr result ((more : List ℕ)
-            × Consumes (R.remaining reader.old.inner) (R.remaining reader.new.inner) more) }
-        ensures no_late_read { reader.new.late ≡ reader.old.late }
+            × Reads reader.old reader.new (record { bytes = more; end = LeftOff })) }
     {
         let mut left = wanted;
         loop {
@@ -164,30 +151,24 @@ impl<'rules> Incoming<'rules> {
     ///
     /// # Errors
     ///
-    /// `OutOfMemory` if a request for memory was refused. Then what was read may be lost.
-    pub(crate) fn read_on<R: Read>(
+    /// `AllocError` if a request for memory was refused. Then what was read may be lost.
+    pub(crate) fn read_on<S: Source>(
         &mut self,
         alloc: Global,
-        reader: &mut Watched<R>,
-    ) -> Result<Brought, RunError>
-        requires reader_good { reader.old.failed ≡ false }
+        reader: &mut Reader<S>,
+    ) -> Result<Brought, AllocError>
         requires whole { self.old.decoder.is_broken ≡ false }
-        ensures brought { OnOk result (ReadsOn (R.remaining reader.old.inner)
-            (R.remaining reader.new.inner) self.old self.new) }
-        ensures more { IfOk result (λ b. b ≡ Brought.More → (reader.new.failed ≡ false)
-            × ((self.new.decoder.is_broken ≡ true) ⊎ (held self.old < held self.new))) }
+        ensures brought { IfOk result (λ b.
+            ReadsOn reader.old reader.new (end_of b) self.old self.new) }
+        ensures more { IfOk result (λ b. b ≡ Brought.More
+            → (self.new.decoder.is_broken ≡ true) ⊎ (held self.old < held self.new)) }
         ensures much { IfOk result (λ b. b ≡ Brought.More → 65536 < length self.old.chunks.rest
             → (self.new.decoder.is_broken ≡ true)
             ⊎ (held self.old + length self.old.chunks.rest / 2 ≤ held self.new)) }
-        ensures nothing { IfOk result (λ b. b ≡ Brought.Nothing → (reader.new.failed ≡ false)
-            × (IsAtEnd (R.remaining reader.new.inner) × (self.new.decoder.is_broken ≡ false))) }
-        ensures failure { IfOk result (λ b. b ≡ Brought.Failure → (reader.new.failed ≡ true)
-            × (self.new.decoder.is_broken ≡ false)) }
-        ensures memory { IfErr result (λ e. e ≡ RunError.OutOfMemory) }
-        ensures good { OnErr result (reader.new.failed ≡ false) }
+        ensures whole { IfOk result (λ b. b ≢ Brought.More
+            → self.new.decoder.is_broken ≡ false) }
         ensures lost { OnErr result ((more : List ℕ)
-            × Consumes (R.remaining reader.old.inner) (R.remaining reader.new.inner) more) }
-        ensures no_late_read { reader.new.late ≡ reader.old.late }
+            × Reads reader.old reader.new (record { bytes = more; end = LeftOff })) }
     {
         let held = self.chunks.rest().len();
         let wanted = if held > AT_ONCE { held / 2 } else { 1 };

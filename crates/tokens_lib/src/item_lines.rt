@@ -1,17 +1,19 @@
 //! The lines of the pieces of a text, written as they come.
-ghost use Rattle.std.specs.Prelude.{◌≡◌, ◌≢◌, false, true, IfOk, OnOk, OnErr, IfErr};
-ghost use Rattle.tokens_lib.specs.ItemsWritten.{WritesItems, WritesItemsPart};
-ghost use Rattle.tokens_lib.specs.Streams.{Reading, StreamGives};
+ghost use Rattle.std.specs.Prelude.{IfOk, IfErr};
+ghost use Rattle.reports_lib.specs.ItemLines.{item_lines};
+ghost use Rattle.tokens_lib.specs.Streams.{Reading, Reads};
+ghost use Rattle.tokens_lib.specs.Internal.CutTexts.{WritesCut, WritesCutPart};
 
-use crate::cut_end::{CutEnd, TextError};
+use crate::console::Console;
+use crate::cut_end::CutEnd;
 use crate::pieces::write_pieces;
 pub(crate) use crate::sheet::mode_name;
 use crate::sheet::{Form, Sheet};
+use crate::streams::{Reader, Sink, Source};
 use lalrpop_rules::RuleLexer;
-use lexdfa_lib::{RunError, Watched};
+use lexdfa_lib::RunError;
 use reports_lib::Layout;
 use std::alloc::Global;
-use std::io::{Read, Write};
 
 /// Cuts the text by rules as it comes, and writes a line for each token and for each fault, but none for skipped pieces.
 /// A plain line is `LINE:COLUMN NAME "SLICE"`, with `FILE:` before it if the file is named. Lines and columns count from 1,
@@ -23,42 +25,26 @@ use std::io::{Read, Write};
 /// know that a fault begins there.
 ///
 /// What nothing that comes can change is written before the next read, or about 64 KiB at a time. So a line that a person types
-/// is answered, and memory doesn't grow with the text, but with its longest piece. No call is tried again: if the reader has
-/// failed before, it isn't called.
+/// is answered, and memory doesn't grow with the text, but with its longest piece.
 ///
 /// # Errors
 ///
-/// `OutOfMemory` if a request for memory was refused, and `Write` if a write failed or took no byte: a prefix of the lines
-/// was written. Where a read fails, the text breaks off; that isn't an error.
-pub fn write_items<R: Read, W: Write>(
+/// `OutOfMemory` if a request for memory was refused, and `Write` if a write fails or has failed: a prefix of the lines was
+/// written. Where a read fails, the text breaks off; that isn't an error.
+pub(crate) fn write_items<S: Source, O: Sink, E: Sink>(
     alloc: Global,
     lexer: &RuleLexer,
     layout: &Layout<'_, '_>,
-    reader: &mut Watched<R>,
-    writer: &mut Watched<W>,
+    reader: &mut Reader<S>,
+    console: &mut Console<O, E>,
 ) -> Result<CutEnd, RunError>
-    requires writer_good { writer.old.failed ≡ false }
-
-    ensures written { IfOk result (λ end. (reading : Reading)
-        × (StreamGives R.remaining reader.old reader.new reading
-        × WritesItems lexer.now layout.now reading (W.contents writer.old.inner)
-        (W.contents writer.new.inner) end)) }
-    ensures good { OnOk result (writer.new.failed ≡ false) }
-
-    ensures prefix { OnErr result ((reading : Reading)
-        × (StreamGives R.remaining reader.old reader.new reading
-        × WritesItemsPart lexer.now layout.now reading (W.contents writer.old.inner)
-        (W.contents writer.new.inner))) }
-    ensures memory { IfErr result (λ e. e ≡ RunError.OutOfMemory → writer.new.failed ≡ false) }
-    ensures write { IfErr result (λ e. e ≡ RunError.Write → writer.new.failed ≡ true) }
-    ensures read { IfErr result (λ e. e ≢ RunError.Read) }
-
-    ensures no_late_read { reader.new.late ≡ reader.old.late }
-    ensures no_late_write { writer.new.late ≡ writer.old.late }
+    ensures written { IfOk result (λ end. (reading : Reading) × (Reads reader.old reader.new reading
+        × WritesCut lexer.now layout.now.recovers (item_lines layout.now lexer.now)
+        reading console.old console.new end)) }
+    ensures part { IfErr result (λ e. (reading : Reading) × (Reads reader.old reader.new reading
+        × WritesCutPart lexer.now layout.now.recovers (item_lines layout.now lexer.now)
+        reading console.old e console.new)) }
 {
-    if reader.failed() {
-        return Ok(CutEnd::Broken(TextError::Read));
-    }
     let mut sheet = Sheet::new(alloc, lexer, Form::Lines(*layout));
-    write_pieces(alloc, &mut sheet, reader, writer)
+    write_pieces(alloc, &mut sheet, reader, console)
 }

@@ -1,23 +1,23 @@
 //! Pictures of the automata of a file of rules.
-ghost use Rattle.std.specs.Prelude.{◌≡◌, ◌≢◌, ◌<◌, ◌∷◌, [], ℕ, List, Some, false, true, map, option_map, slice_get, string_bytes, IfOk, IfSome, IfNone, OnOk, OnErr, IfErr};
+ghost use Rattle.std.specs.Prelude.{◌≡◌, ◌<◌, ◌∷◌, [], ℕ, List, Some, false, true, map, option_map, slice_get, string_bytes, IfOk, IfSome, IfNone};
 ghost use Rattle.std.specs.List.{zip};
 ghost use Rattle.lalrpop_dfa.specs.Dfa.{Row};
 ghost use Rattle.lalrpop_verdicts.specs.Picture.{dot};
-ghost use Rattle.reports_lib.specs.Answer.{Answer, Begun, about};
-ghost use Rattle.tokens_lib.specs.FileAnswers.{Answered};
+ghost use Rattle.reports_lib.specs.Answer.{about, refusal};
 ghost use Rattle.tokens_lib.specs.Command.{has};
+ghost use Rattle.tokens_lib.specs.Program.{ByLexer};
+ghost use Rattle.tokens_lib.specs.Streams.{GivesWhole};
 ghost use Rattle.tokens_lib.specs.Pictured.{ArePictures, AreRulePictures, IsDrawn, IsMissing, IsSmallestIn, IsSmallestOf, PictureAnswer, no_rule};
-ghost use Rattle.tokens_lib.specs.Streams.{Takes};
 
-use crate::command::WRONG_ARGUMENTS;
-use crate::files::say_about;
+use crate::by_rules::lexer_by_name;
+use crate::command::{Verbosity, WRONG_ARGUMENTS};
+use crate::files::Files;
 use lalrpop_lexer::lexer::dfa::{Precedence, build_dfa};
 use lalrpop_lexer::lexer::re::Regex;
 use lalrpop_rules::RuleLexer;
 use lalrpop_verdicts::{dot, minimized};
-use lexdfa_lib::{RunError, Watched, write_whole};
+use reports_lib::{Reply, about};
 use std::alloc::{AllocError, Global};
-use std::io::Write;
 use std::slice;
 
 // The picture of the smallest automaton of a mode.
@@ -123,24 +123,14 @@ fn no_rule(alloc: Global, name: &str) -> Result<String, AllocError>
     format!(in alloc; "no rule has the name \"{name}\"; leave it out to draw each mode")
 }
 
-// Says that no rule of the file has the name, and returns the status.
-fn refuse<E: Write>(
-    alloc: Global,
-    file: &str,
-    name: &str,
-    err: &mut Watched<E>,
-) -> Result<u8, RunError>
-    ensures status { IfOk result (λ status. status ≡ 4) }
-    ensures said { OnOk result
-        (Takes E.contents err.old err.new (about file.now (no_rule name.now))) }
-    ensures memory { IfErr result (λ e. e ≡ RunError.OutOfMemory) }
-    ensures no_late_message { err.new.late ≡ err.old.late }
+// What is answered if no rule of the file has the name.
+fn refused(alloc: Global, file: &str, name: &str) -> Result<Reply, AllocError>
+    ensures answer { IfOk result (λ reply.
+        reply ≡ refusal 4 (about file.now (no_rule name.now))) }
 {
-    let Ok(reason) = no_rule(alloc, name) else {
-        return Err(RunError::OutOfMemory);
-    };
-    say_about(alloc, file, reason.as_str(), err)?;
-    Ok(WRONG_ARGUMENTS)
+    let reason = no_rule(alloc, name)?;
+    let message = about(alloc, file, reason.as_str())?;
+    Ok(Reply::refusal(alloc, WRONG_ARGUMENTS, message))
 }
 
 // The first name, if there is one.
@@ -150,37 +140,44 @@ fn first<'name>(names: &[&'name str]) -> Option<&'name str>
     names.first().copied()
 }
 
-/// Writes pictures for Graphviz, and returns the status: of the smallest automata of all modes; or, if a name stands behind
-/// RULES, of each rule of this name alone. If no rule has it, says so of the file. All are made before the first byte is written.
-pub(crate) fn write_pictures<W: Write, E: Write>(
+// What is answered where pictures are wanted for Graphviz: of the smallest automata of all modes; or, if a name stands after
+// RULES, of each rule of this name alone. If no rule has it, this is said of the file.
+fn picture_reply(
     alloc: Global,
     file: &str,
     lexer: &RuleLexer,
     names: &[&str],
-    out: &mut Watched<W>,
-    err: &mut Watched<E>,
-) -> Result<u8, RunError>
-    requires out_good { out.old.failed ≡ false }
-    ensures answer { IfOk result (λ status. (answer : Answer)
-        × (PictureAnswer file.now (slice_get (map (λ n. n.now) names.now) 0) lexer.now answer
-        × Answered W.contents E.contents out.old out.new err.old err.new status answer)) }
-    ensures good { OnOk result (out.new.failed ≡ false) }
-    ensures begun { OnErr result (Begun
-        (PictureAnswer file.now (slice_get (map (λ n. n.now) names.now) 0) lexer.now)
-        (W.contents out.old.inner) (W.contents out.new.inner)) }
-    ensures memory { IfErr result (λ e. e ≡ RunError.OutOfMemory → out.new.failed ≡ false) }
-    ensures write { IfErr result (λ e. e ≡ RunError.Write → out.new.failed ≡ true) }
-    ensures read { IfErr result (λ e. e ≢ RunError.Read) }
-    ensures no_late_write { out.new.late ≡ out.old.late }
-    ensures no_late_message { err.new.late ≡ err.old.late }
+) -> Result<Reply, AllocError>
+    ensures answer { IfOk result
+        (PictureAnswer file.now (slice_get (map (λ n. n.now) names.now) 0) lexer.now) }
 {
     let given = first(names);
     if let Some(name) = missing(lexer, given) {
-        return refuse(alloc, file, name, err);
+        return refused(alloc, file, name);
     }
-    let Ok(text) = drawing(alloc, lexer, given) else {
-        return Err(RunError::OutOfMemory);
-    };
-    write_whole(out, text.as_bytes())?;
-    Ok(0)
+    let text = drawing(alloc, lexer, given)?;
+    Ok(Reply::written(alloc, 0, text.into_bytes()))
+}
+
+/// What is answered where pictures of the automata of a file of rules are wanted.
+///
+/// # Errors
+///
+/// `AllocError` if a request for memory was refused.
+pub(crate) fn draw<F: Files>(
+    alloc: Global,
+    verbosity: Verbosity,
+    files: &F,
+    rules: &str,
+    names: &[&str],
+) -> Result<Reply, AllocError>
+    ensures answer { IfOk result (ByLexer (GivesWhole (F.gives files.now)) verbosity
+        (λ r _. PictureAnswer rules.now (slice_get (map (λ n. n.now) names.now) 0) r) rules.now) }
+{
+    match lexer_by_name(alloc, verbosity, files, rules)? {
+        Ok(found) => {
+            picture_reply(alloc, rules, &found.lexer.lexer, names)?.after(0, found.said)
+        }
+        Err(reply) => Ok(reply),
+    }
 }

@@ -1,126 +1,101 @@
 //! The pieces of a text, written as they come.
-ghost use Rattle.std.specs.Prelude.{◌≡◌, ◌≢◌, ◌++◌, ℕ, List, [], Option, false, true, IfOk, OnOk, OnErr, IfErr};
-ghost use Rattle.std.specs.Io.KnownBytes.{Appends};
+ghost use Rattle.std.specs.Prelude.{◌≡◌, ◌++◌, ℕ, List, [], true, IfOk, IfErr, OnOk};
 ghost use Rattle.lalrpop_edits.specs.Chunked.{Chunked};
 ghost use Rattle.lalrpop_edits.specs.Given.{item_of};
 ghost use Rattle.lalrpop_rules.specs.declared.item.Item.{Item as ItemValue};
-ghost use Rattle.lexdfa_lib.specs.Watch.{AppendsPrefix};
-ghost use Rattle.tokens_lib.specs.Streams.{Reading, StreamGives};
-ghost use Rattle.tokens_lib.specs.Internal.CutTexts.{piece_shown, IsGiven, IsGivenInPart, GivesAll, WritesPieces, WritesPiecesPart};
+ghost use Rattle.tokens_lib.specs.Streams.{Console as ConsoleValue, Reading, Reads, Writes, WritesPart};
+ghost use Rattle.tokens_lib.specs.Internal.CutTexts.{goes_on, piece_shown, shown, IsGiven, IsGivenInPart, GivesAll, WritesCut, WritesCutPart};
 
+use crate::console::Console;
 use crate::cut_end::CutEnd;
 use crate::cutter::{Cut, Cutter, stopped};
 use crate::sheet::Sheet;
-use lexdfa_lib::{RunError, Watched, write_whole};
+use crate::streams::{Reader, Sink, Source};
+use lexdfa_lib::RunError;
 use std::alloc::Global;
-use std::io::{Read, Write};
 
 // What waits is written once it has this many bytes.
 const CHUNK: usize = 65536;
 
 // Writes and clears what waits.
-fn flush<W: Write>(waiting: &mut Vec<u8>, writer: &mut Watched<W>) -> Result<(), RunError>
-    requires writer_good { writer.old.failed ≡ false }
-    ensures all { OnOk result (Appends (W.contents writer.old.inner) (W.contents writer.new.inner)
-        waiting.old.items) }
+fn flush<O: Sink, E: Sink>(
+    waiting: &mut Vec<u8>,
+    console: &mut Console<O, E>,
+) -> Result<(), RunError>
+    ensures all { OnOk result (Writes console.old waiting.old.items console.new) }
     ensures none { OnOk result (waiting.new.items ≡ []) }
-    ensures good { OnOk result (writer.new.failed ≡ false) }
-    ensures prefix { OnErr result (AppendsPrefix (W.contents writer.old.inner)
-        (W.contents writer.new.inner) waiting.old.items) }
-    ensures failed { OnErr result (writer.new.failed ≡ true) }
-    ensures write { IfErr result (λ e. e ≡ RunError.Write) }
-    ensures no_late_write { writer.new.late ≡ writer.old.late }
+    ensures part { IfErr result (λ e. WritesPart console.old waiting.old.items e console.new) }
 {
-    write_whole(writer, waiting)?;
+    console.write(waiting)?;
     waiting.clear();
     Ok(())
 }
 
 // Writes and clears what waits, if it fills a chunk.
-fn pass_on<W: Write>(waiting: &mut Vec<u8>, writer: &mut Watched<W>) -> Result<(), RunError>
-    requires writer_good { writer.old.failed ≡ false }
-    ensures passed { OnOk result ((sent : List ℕ)
-        × (Appends (W.contents writer.old.inner) (W.contents writer.new.inner) sent
+fn pass_on<O: Sink, E: Sink>(
+    waiting: &mut Vec<u8>,
+    console: &mut Console<O, E>,
+) -> Result<(), RunError>
+    ensures passed { OnOk result ((sent : List ℕ) × (Writes console.old sent console.new
         × (waiting.old.items ≡ sent ++ waiting.new.items))) }
-    ensures good { OnOk result (writer.new.failed ≡ false) }
-    ensures prefix { OnErr result (AppendsPrefix (W.contents writer.old.inner)
-        (W.contents writer.new.inner) waiting.old.items) }
-    ensures failed { OnErr result (writer.new.failed ≡ true) }
-    ensures write { IfErr result (λ e. e ≡ RunError.Write) }
-    ensures no_late_write { writer.new.late ≡ writer.old.late }
+    ensures part { IfErr result (λ e. WritesPart console.old waiting.old.items e console.new) }
 {
     if waiting.len() >= CHUNK {
-        flush(waiting, writer)?;
+        flush(waiting, console)?;
     }
     Ok(())
 }
 
 // Appends what is written for a piece with this slice, and writes what waits, if it fills a chunk.
-fn put_piece<W: Write>(
+fn put_piece<O: Sink, E: Sink>(
     alloc: Global,
     sheet: &mut Sheet<'_, '_, '_>,
     cut: &Cut,
     slice: &str,
-    writer: &mut Watched<W>,
+    console: &mut Console<O, E>,
 ) -> Result<(), RunError>
-    requires writer_good { writer.old.failed ≡ false }
-    ensures put { OnOk result ((sent : List ℕ)
-        × (Appends (W.contents writer.old.inner) (W.contents writer.new.inner) sent
+    ensures put { OnOk result ((sent : List ℕ) × (Writes console.old sent console.new
         × (sheet.old.waiting.items ++ piece_shown sheet.old.form sheet.old.lexer.now.names
         cut.now.place cut.now.mode (item_of cut.now.piece slice.entry)
         ≡ sent ++ sheet.new.waiting.items))) }
     ensures form { OnOk result (sheet.new.form ≡ sheet.old.form) }
     ensures lexer { OnOk result (sheet.new.lexer ≡ sheet.old.lexer) }
-    ensures good { OnOk result (writer.new.failed ≡ false) }
-    ensures prefix { OnErr result
-        (AppendsPrefix (W.contents writer.old.inner) (W.contents writer.new.inner)
+    ensures part { IfErr result (λ e. WritesPart console.old
         (sheet.old.waiting.items ++ piece_shown sheet.old.form sheet.old.lexer.now.names
-        cut.now.place cut.now.mode (item_of cut.now.piece slice.entry))) }
-    ensures memory { IfErr result (λ e. e ≡ RunError.OutOfMemory → writer.new.failed ≡ false) }
-    ensures write { IfErr result (λ e. e ≡ RunError.Write → writer.new.failed ≡ true) }
-    ensures read { IfErr result (λ e. e ≢ RunError.Read) }
-    ensures no_late_write { writer.new.late ≡ writer.old.late }
+        cut.now.place cut.now.mode (item_of cut.now.piece slice.entry)) e console.new) }
 {
     let item = cut.piece.item(slice);
-    if sheet.push(alloc, cut.place, cut.mode, &item).is_err() {
-        return Err(RunError::OutOfMemory);
-    }
-    pass_on(&mut sheet.waiting, writer)
+    sheet.push(alloc, cut.place, cut.mode, &item)?;
+    pass_on(&mut sheet.waiting, console)
 }
 
 // Gives the pieces that nothing that comes can change, up to a fault, if cutting ends there.
-fn give_pieces<W: Write>(
+fn give_pieces<O: Sink, E: Sink>(
     alloc: Global,
     sheet: &mut Sheet<'_, '_, '_>,
     cutter: &mut Cutter<'_>,
-    writer: &mut Watched<W>,
+    console: &mut Console<O, E>,
 ) -> Result<Option<CutEnd>, RunError>
-    requires writer_good { writer.old.failed ≡ false }
-    ensures given { IfOk result (λ ended. (held : Option (List ℕ)) (text : List ℕ) (xs : List ItemValue)
+    ensures given { IfOk result (λ ended. (begun : ConsoleValue) (text : List ℕ) (xs : List ItemValue)
         → IsGiven sheet.old.form sheet.old.lexer.now text xs cutter.old sheet.old.waiting.items
-        held (W.contents writer.old.inner)
+        begun console.old
         → GivesAll sheet.old.form sheet.old.lexer.now text cutter.old cutter.new
-        sheet.new.waiting.items held (W.contents writer.new.inner) ended) }
+        sheet.new.waiting.items begun console.new ended) }
     ensures form { OnOk result (sheet.new.form ≡ sheet.old.form) }
     ensures lexer { OnOk result (sheet.new.lexer ≡ sheet.old.lexer) }
-    ensures good { OnOk result (writer.new.failed ≡ false) }
-    ensures prefix { OnErr result ((held : Option (List ℕ)) (text : List ℕ) (xs : List ItemValue)
+    ensures part { IfErr result (λ e. (begun : ConsoleValue) (text : List ℕ) (xs : List ItemValue)
         → IsGiven sheet.old.form sheet.old.lexer.now text xs cutter.old sheet.old.waiting.items
-        held (W.contents writer.old.inner)
+        begun console.old
         → (ys : List ItemValue) × ((c : Chunked)
-        × (IsGivenInPart sheet.old.form sheet.old.lexer.now text ys c held (W.contents writer.new.inner)
+        × (IsGivenInPart sheet.old.form sheet.old.lexer.now text ys c begun e console.new
         × (c.is_ended ≡ cutter.old.incoming.chunks.is_ended)))) }
-    ensures memory { IfErr result (λ e. e ≡ RunError.OutOfMemory → writer.new.failed ≡ false) }
-    ensures write { IfErr result (λ e. e ≡ RunError.Write → writer.new.failed ≡ true) }
-    ensures read { IfErr result (λ e. e ≢ RunError.Read) }
-    ensures no_late_write { writer.new.late ≡ writer.old.late }
 {
     'giving: while let Some(cut) = cutter.next_piece()? {
         let slice = cutter.slice();
         if cut.piece.rule.is_none() && !sheet.goes_on() {
             return Ok(Some(stopped(cut.place, slice)));
         }
-        put_piece(alloc, sheet, &cut, slice, writer)?;
+        put_piece(alloc, sheet, &cut, slice, console)?;
     }
     if sheet.goes_on() {
         return Ok(None);
@@ -129,35 +104,29 @@ fn give_pieces<W: Write>(
 }
 
 // Gives the pieces that can be given, and writes what waits.
-fn give<W: Write>(
+fn give<O: Sink, E: Sink>(
     alloc: Global,
     sheet: &mut Sheet<'_, '_, '_>,
     cutter: &mut Cutter<'_>,
-    writer: &mut Watched<W>,
+    console: &mut Console<O, E>,
 ) -> Result<Option<CutEnd>, RunError>
-    requires writer_good { writer.old.failed ≡ false }
-    ensures given { IfOk result (λ ended. (held : Option (List ℕ)) (text : List ℕ) (xs : List ItemValue)
+    ensures given { IfOk result (λ ended. (begun : ConsoleValue) (text : List ℕ) (xs : List ItemValue)
         → IsGiven sheet.old.form sheet.old.lexer.now text xs cutter.old sheet.old.waiting.items
-        held (W.contents writer.old.inner)
+        begun console.old
         → GivesAll sheet.old.form sheet.old.lexer.now text cutter.old cutter.new
-        [] held (W.contents writer.new.inner) ended) }
+        [] begun console.new ended) }
     ensures none { OnOk result (sheet.new.waiting.items ≡ []) }
     ensures form { OnOk result (sheet.new.form ≡ sheet.old.form) }
     ensures lexer { OnOk result (sheet.new.lexer ≡ sheet.old.lexer) }
-    ensures good { OnOk result (writer.new.failed ≡ false) }
-    ensures prefix { OnErr result ((held : Option (List ℕ)) (text : List ℕ) (xs : List ItemValue)
+    ensures part { IfErr result (λ e. (begun : ConsoleValue) (text : List ℕ) (xs : List ItemValue)
         → IsGiven sheet.old.form sheet.old.lexer.now text xs cutter.old sheet.old.waiting.items
-        held (W.contents writer.old.inner)
+        begun console.old
         → (ys : List ItemValue) × ((c : Chunked)
-        × (IsGivenInPart sheet.old.form sheet.old.lexer.now text ys c held (W.contents writer.new.inner)
+        × (IsGivenInPart sheet.old.form sheet.old.lexer.now text ys c begun e console.new
         × (c.is_ended ≡ cutter.old.incoming.chunks.is_ended)))) }
-    ensures memory { IfErr result (λ e. e ≡ RunError.OutOfMemory → writer.new.failed ≡ false) }
-    ensures write { IfErr result (λ e. e ≡ RunError.Write → writer.new.failed ≡ true) }
-    ensures read { IfErr result (λ e. e ≢ RunError.Read) }
-    ensures no_late_write { writer.new.late ≡ writer.old.late }
 {
-    let ended = give_pieces(alloc, sheet, cutter, writer)?;
-    flush(&mut sheet.waiting, writer)?;
+    let ended = give_pieces(alloc, sheet, cutter, console)?;
+    flush(&mut sheet.waiting, console)?;
     Ok(ended)
 }
 
@@ -165,36 +134,26 @@ fn give<W: Write>(
 ///
 /// # Errors
 ///
-/// `OutOfMemory` if a request for memory was refused, and `Write` if a write failed or took no byte: a prefix of what is written
-/// for the pieces was written.
-pub(crate) fn write_pieces<R: Read, W: Write>(
+/// `OutOfMemory` if a request for memory was refused, and `Write` if a write fails or has failed: a prefix of what is written for
+/// the pieces was written.
+pub(crate) fn write_pieces<S: Source, O: Sink, E: Sink>(
     alloc: Global,
     sheet: &mut Sheet<'_, '_, '_>,
-    reader: &mut Watched<R>,
-    writer: &mut Watched<W>,
+    reader: &mut Reader<S>,
+    console: &mut Console<O, E>,
 ) -> Result<CutEnd, RunError>
-    requires reader_good { reader.old.failed ≡ false }
-    requires writer_good { writer.old.failed ≡ false }
     requires none { sheet.old.waiting.items ≡ [] }
-    ensures written { IfOk result (λ end. (reading : Reading)
-        × (StreamGives R.remaining reader.old reader.new reading
-        × WritesPieces sheet.old.form sheet.old.lexer.now reading (W.contents writer.old.inner)
-        (W.contents writer.new.inner) end)) }
-    ensures good { OnOk result (writer.new.failed ≡ false) }
-    ensures prefix { OnErr result ((reading : Reading)
-        × (StreamGives R.remaining reader.old reader.new reading
-        × WritesPiecesPart sheet.old.form sheet.old.lexer.now reading (W.contents writer.old.inner)
-        (W.contents writer.new.inner))) }
-    ensures memory { IfErr result (λ e. e ≡ RunError.OutOfMemory → writer.new.failed ≡ false) }
-    ensures write { IfErr result (λ e. e ≡ RunError.Write → writer.new.failed ≡ true) }
-    ensures read { IfErr result (λ e. e ≢ RunError.Read) }
-    ensures no_late_read { reader.new.late ≡ reader.old.late }
-    ensures no_late_write { writer.new.late ≡ writer.old.late }
+    ensures written { IfOk result (λ end. (reading : Reading) × (Reads reader.old reader.new reading
+        × WritesCut sheet.old.lexer.now (goes_on sheet.old.form)
+        (shown sheet.old.form sheet.old.lexer.now) reading console.old console.new end)) }
+    ensures part { IfErr result (λ e. (reading : Reading) × (Reads reader.old reader.new reading
+        × WritesCutPart sheet.old.lexer.now (goes_on sheet.old.form)
+        (shown sheet.old.form sheet.old.lexer.now) reading console.old e console.new)) }
 {
     let mut cutter = Cutter::new(alloc, sheet.lexer);
     'reading: for _ in 0..u64::MAX {
         let coming = cutter.read_on(alloc, reader)?;
-        if let Some(ended) = give(alloc, sheet, &mut cutter, writer)? {
+        if let Some(ended) = give(alloc, sheet, &mut cutter, console)? {
             return Ok(ended);
         }
         if let Some(ended) = cutter.end(coming) {

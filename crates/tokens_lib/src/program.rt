@@ -1,51 +1,43 @@
 //! The program `tokens`: its arguments, what it says if it fails, and its exit status.
-ghost use Rattle.std.specs.Prelude.{◌≡◌, ◌≢◌, ◌≤◌, None, false, true, map, length, nat_lt, string_bytes, IfOk, OnOk, OnErr, IfErr};
-ghost use Rattle.std.specs.Io.KnownBytes.{Appends};
+ghost use Rattle.std.specs.Prelude.{◌≡◌, ◌≢◌, ◌≤◌, map, length, nat_lt, string_bytes, IfOk, OnOk, IfErr};
 ghost use Rattle.std.specs.Process.{exit_status};
-ghost use Rattle.lexdfa_lib.specs.Watch.{AppendsPrefix};
-ghost use Rattle.reports_lib.specs.Answer.{Answer, Begun};
-ghost use Rattle.tokens_lib.specs.FileAnswers.{Answered, TextsAnswer, FirstTextsAnswer};
-ghost use Rattle.tokens_lib.specs.Program.{ActionAnswer, CommandAnswer, IsAnswer, IsFirstAnswer, LexerAnswer, failure_text};
-ghost use Rattle.tokens_lib.specs.Progress.{reading_text};
-ghost use Rattle.tokens_lib.specs.Streams.{GivesWhole, StreamGives, Takes};
+ghost use Rattle.reports_lib.specs.Answer.{refusal};
+ghost use Rattle.tokens_lib.specs.FileAnswers.{TextsAnswer, FirstTextsAnswer};
+ghost use Rattle.tokens_lib.specs.Program.{ActionAnswer, ByLexer, CommandAnswer, IsAnswer, IsFirstAnswer, failure_text, information};
+ghost use Rattle.tokens_lib.specs.Streams.{Answers, Begins, Fails, GivesWhole};
+ghost use Rattle.tokens_lib.specs.TextAnswer.{PiecesAnswer, PiecesPart, PageAnswer, PagePart};
 ghost use Rattle.tokens_lib.specs.Usage.{help, version, wrong_text};
-ghost use Rattle.tokens_lib.specs.Internal.Listings.{listing_of};
 
 use crate::arguments::joined;
 use crate::by_rules::lexer_by_name;
-use crate::command::{Action, ArgumentsError, Command, Verbosity, WRONG_ARGUMENTS, command_of};
+use crate::command::{
+    Action, ArgumentsError, Command, Markup, Verbosity, WRONG_ARGUMENTS, command_of,
+};
+use crate::console::Console;
 use crate::cut_files::{Task, cut_all};
-use crate::differing::{compare_with, other_of};
-use crate::emitted::write_source;
-use crate::files::{ErrorStream, Files, SystemFiles, say};
+use crate::differing::compare;
+use crate::emitted::emit;
+use crate::files::{ErrorStream, Files, SystemFiles};
 use crate::listing::{Listing, list_rules};
 use crate::output::Output;
-use crate::pictured::write_pictures;
+use crate::pictured::draw;
 use crate::progress::reading_message;
+use crate::streams::{Reader, Sink, Source, System};
 use crate::usage::{help, version, wrong_text};
-use lexdfa_lib::{Failure, RunError, Watched, flushed, status_of, without_arguments, write_whole};
-use reports_lib::FileLexer;
-use std::alloc::Global;
+use lexdfa_lib::{Failure, RunError, flushed, status_of, without_arguments};
+use reports_lib::{LineForm, Reply};
+use std::alloc::{AllocError, Global};
 use std::env;
-use std::io::{self, Eprint, Read, Write};
+use std::io::{self, Eprint, Write};
 use std::process::ExitCode;
 use std::rt::{Env, Files as RuntimeFiles};
 
-// Writes what was asked for, and returns the status.
-fn inform<W: Write>(text: &str, out: &mut Watched<W>) -> Result<u8, RunError>
-    requires out_good { out.old.failed ≡ false }
-    ensures status { IfOk result (λ status. status ≡ 0) }
-    ensures written { OnOk result
-        (Appends (W.contents out.old.inner) (W.contents out.new.inner) text.now) }
-    ensures good { OnOk result (out.new.failed ≡ false) }
-    ensures prefix { OnErr result
-        (AppendsPrefix (W.contents out.old.inner) (W.contents out.new.inner) text.now) }
-    ensures failed { OnErr result (out.new.failed ≡ true) }
-    ensures write { IfErr result (λ e. e ≡ RunError.Write) }
-    ensures no_late_write { out.new.late ≡ out.old.late }
+// What is answered where something was asked of the program itself.
+fn informed(alloc: Global, text: &str) -> Result<Reply, AllocError>
+    ensures answer { IfOk result (λ reply. reply ≡ information text.now) }
 {
-    write_whole(out, text.as_bytes())?;
-    Ok(0)
+    let text = String::from_str(alloc, text)?;
+    Ok(Reply::written(alloc, 0, text.into_bytes()))
 }
 
 // Whether there are several files, so that each line names its own.
@@ -55,205 +47,159 @@ fn are_several(names: &[&str]) -> bool
     names.len() > 1
 }
 
-// What an action lists, if it lists something.
-fn listing_of(action: Action<'_>) -> Option<Listing>
-    ensures { result ≡ listing_of action.entry }
-{
-    match action {
-        Action::Clashes => Some(Listing::Clashes),
-        Action::Check { form } => Some(Listing::Review(form)),
-        Action::Cut { .. }
-        | Action::Show { .. }
-        | Action::Emit { .. }
-        | Action::Picture
-        | Action::Difference => None,
-    }
-}
-
-// Does an action by the lexer of a file of rules on the files, or on standard input if there are none, and returns the status.
-fn run_by_lexer<F: Files, R: Read, W: Write, E: Write>(
+// Cuts the files by a file of rules, or standard input if there are none; writes lines, and returns the status.
+fn cut_lines<F: Files, S: Source, O: Sink, E: Sink>(
     alloc: Global,
-    action: Action<'_>,
+    form: LineForm,
+    recovers: bool,
     verbosity: Verbosity,
     rules: &str,
-    found: &FileLexer,
     names: &[&str],
     files: &F,
-    input: &mut Watched<R>,
-    out: &mut Watched<W>,
-    err: &mut Watched<E>,
+    input: &mut Reader<S>,
+    console: &mut Console<O, E>,
 ) -> Result<u8, RunError>
-    requires out_good { out.old.failed ≡ false }
-    requires no_list { listing_of action ≡ None }
-    ensures answer { IfOk result (λ status. (answer : Answer)
-        × (LexerAnswer (GivesWhole (F.gives files.now)) (TextsAnswer (F.gives files.now)
-        (StreamGives R.remaining) input.old input.new) verbosity action.entry rules.now
-        (map (λ name. name.now) names.now) found.now.lexer
-        (map string_bytes found.now.modes.items) answer
-        × Answered W.contents E.contents out.old out.new err.old err.new status answer)) }
-    ensures good { OnOk result (out.new.failed ≡ false) }
-    ensures begun { OnErr result (Begun (LexerAnswer (GivesWhole (F.gives files.now))
-        (FirstTextsAnswer (F.gives files.now) (StreamGives R.remaining) input.old) verbosity
-        action.entry rules.now (map (λ name. name.now) names.now) found.now.lexer
-        (map string_bytes found.now.modes.items))
-        (W.contents out.old.inner) (W.contents out.new.inner)) }
-    ensures memory { IfErr result (λ e. e ≡ RunError.OutOfMemory → out.new.failed ≡ false) }
-    ensures write { IfErr result (λ e. e ≡ RunError.Write → out.new.failed ≡ true) }
-    ensures read { IfErr result (λ e. e ≢ RunError.Read) }
-    ensures no_late_read { input.new.late ≡ input.old.late }
-    ensures no_late_write { out.new.late ≡ out.old.late }
-    ensures no_late_message { err.new.late ≡ err.old.late }
+    ensures answer { IfOk result (λ status. Answers (ActionAnswer (GivesWhole (F.gives files.now))
+        (TextsAnswer (F.gives files.now) input.old input.new) verbosity
+        (Action.Cut form recovers) rules.now (map (λ name. name.now) names.now))
+        console.old status console.new) }
+    ensures fails { IfErr result (λ e. Fails (ActionAnswer (GivesWhole (F.gives files.now))
+        (FirstTextsAnswer (F.gives files.now) input.old) verbosity
+        (Action.Cut form recovers) rules.now (map (λ name. name.now) names.now))
+        console.old e console.new) }
 {
-    match action {
-        Action::Cut { form, recovers } => {
+    match lexer_by_name(alloc, verbosity, files, rules)? {
+        Ok(found) => {
+            console.say(found.said.as_str())?;
             let task = Task::Pieces {
-                rules: found,
+                rules: &found.lexer,
                 form,
                 recovers,
                 several: are_several(names),
             };
-            cut_all(alloc, &task, verbosity, files, names, input, out, err)
+            cut_all(alloc, &task, verbosity, files, names, input, console)
         }
-        Action::Show { markup } => {
+        Err(reply) => console.give(&reply),
+    }
+}
+
+// Cuts the files by a file of rules, or standard input if there are none; writes markup, and returns the status.
+fn cut_pages<F: Files, S: Source, O: Sink, E: Sink>(
+    alloc: Global,
+    markup: Markup,
+    verbosity: Verbosity,
+    rules: &str,
+    names: &[&str],
+    files: &F,
+    input: &mut Reader<S>,
+    console: &mut Console<O, E>,
+) -> Result<u8, RunError>
+    ensures answer { IfOk result (λ status. Answers (ActionAnswer (GivesWhole (F.gives files.now))
+        (TextsAnswer (F.gives files.now) input.old input.new) verbosity
+        (Action.Show markup) rules.now (map (λ name. name.now) names.now))
+        console.old status console.new) }
+    ensures fails { IfErr result (λ e. Fails (ActionAnswer (GivesWhole (F.gives files.now))
+        (FirstTextsAnswer (F.gives files.now) input.old) verbosity
+        (Action.Show markup) rules.now (map (λ name. name.now) names.now))
+        console.old e console.new) }
+{
+    match lexer_by_name(alloc, verbosity, files, rules)? {
+        Ok(found) => {
+            console.say(found.said.as_str())?;
             let task = Task::Markup {
-                rules: found,
+                rules: &found.lexer,
                 markup,
             };
-            cut_all(alloc, &task, verbosity, files, names, input, out, err)
+            cut_all(alloc, &task, verbosity, files, names, input, console)
         }
-        Action::Emit { language } => write_source(alloc, rules, &found.lexer, language, out, err),
-        Action::Picture => write_pictures(alloc, rules, &found.lexer, names, out, err),
-        Action::Difference => {
-            let other = other_of(names);
-            compare_with(alloc, verbosity, files, rules, found, other, out, err)
-        }
-        // These list something.
-        Action::Clashes | Action::Check { .. } => unreachable!(),
+        Err(reply) => console.give(&reply),
     }
 }
 
 // Does an action by a file of rules on the files, or on standard input if there are none, and returns the status.
-fn run_action<F: Files, R: Read, W: Write, E: Write>(
+fn run_action<F: Files, S: Source, O: Sink, E: Sink>(
     alloc: Global,
     action: Action<'_>,
     verbosity: Verbosity,
     rules: &str,
     names: &[&str],
     files: &F,
-    input: &mut Watched<R>,
-    out: &mut Watched<W>,
-    err: &mut Watched<E>,
+    input: &mut Reader<S>,
+    console: &mut Console<O, E>,
 ) -> Result<u8, RunError>
-    requires out_good { out.old.failed ≡ false }
-    ensures answer { IfOk result (λ status. (answer : Answer)
-        × (ActionAnswer (GivesWhole (F.gives files.now)) (TextsAnswer (F.gives files.now)
-        (StreamGives R.remaining) input.old input.new) verbosity action.entry rules.now
-        (map (λ name. name.now) names.now) answer
-        × Answered W.contents E.contents out.old out.new err.old err.new status answer)) }
-    ensures good { OnOk result (out.new.failed ≡ false) }
-    ensures begun { OnErr result (Begun (ActionAnswer (GivesWhole (F.gives files.now))
-        (FirstTextsAnswer (F.gives files.now) (StreamGives R.remaining) input.old) verbosity action.entry
-        rules.now (map (λ name. name.now) names.now))
-        (W.contents out.old.inner) (W.contents out.new.inner)) }
-    ensures memory { IfErr result (λ e. e ≡ RunError.OutOfMemory → out.new.failed ≡ false) }
-    ensures write { IfErr result (λ e. e ≡ RunError.Write → out.new.failed ≡ true) }
-    ensures read { IfErr result (λ e. e ≢ RunError.Read) }
-    ensures no_late_read { input.new.late ≡ input.old.late }
-    ensures no_late_write { out.new.late ≡ out.old.late }
-    ensures no_late_message { err.new.late ≡ err.old.late }
+    ensures answer { IfOk result (λ status. Answers (ActionAnswer (GivesWhole (F.gives files.now))
+        (TextsAnswer (F.gives files.now) input.old input.new) verbosity action.entry rules.now
+        (map (λ name. name.now) names.now)) console.old status console.new) }
+    ensures fails { IfErr result (λ e. Fails (ActionAnswer (GivesWhole (F.gives files.now))
+        (FirstTextsAnswer (F.gives files.now) input.old) verbosity action.entry rules.now
+        (map (λ name. name.now) names.now)) console.old e console.new) }
 {
-    match listing_of(action) {
-        Some(listing) => list_rules(alloc, listing, verbosity, files, rules, out, err),
-        None => match lexer_by_name(alloc, verbosity, files, rules, err)? {
-            Ok(found) => run_by_lexer(
-                alloc, action, verbosity, rules, &found, names, files, input, out, err,
-            ),
-            Err(status) => Ok(status),
-        },
+    match action {
+        Action::Cut { form, recovers } => cut_lines(
+            alloc, form, recovers, verbosity, rules, names, files, input, console,
+        ),
+        Action::Show { markup } => cut_pages(
+            alloc, markup, verbosity, rules, names, files, input, console,
+        ),
+        Action::Clashes => {
+            console.give(&list_rules(alloc, Listing::Clashes, verbosity, files, rules)?)
+        }
+        Action::Check { form } => {
+            console.give(&list_rules(alloc, Listing::Review(form), verbosity, files, rules)?)
+        }
+        Action::Emit { language } => {
+            console.give(&emit(alloc, verbosity, files, rules, language)?)
+        }
+        Action::Picture => console.give(&draw(alloc, verbosity, files, rules, names)?),
+        Action::Difference => console.give(&compare(alloc, verbosity, files, rules, names)?),
     }
 }
 
-// Says that the file of rules is read, if progress is said.
-fn say_reading<E: Write>(
-    alloc: Global,
-    verbosity: Verbosity,
-    rules: &str,
-    err: &mut Watched<E>,
-) -> Result<(), RunError>
-    ensures said { OnOk result
-        (Takes E.contents err.old err.new (reading_text verbosity rules.now)) }
-    ensures memory { IfErr result (λ e. e ≡ RunError.OutOfMemory) }
-    ensures no_late_message { err.new.late ≡ err.old.late }
-{
-    let Ok(message) = reading_message(alloc, verbosity, rules) else {
-        return Err(RunError::OutOfMemory);
-    };
-    say(message.as_str(), err);
-    Ok(())
-}
-
 // Does what a command says, and returns the status.
-fn run_command<F: Files, R: Read, W: Write, E: Write>(
+fn run_command<F: Files, S: Source, O: Sink, E: Sink>(
     alloc: Global,
     command: &Command<'_>,
     files: &F,
-    input: &mut Watched<R>,
-    out: &mut Watched<W>,
-    err: &mut Watched<E>,
+    input: &mut Reader<S>,
+    console: &mut Console<O, E>,
 ) -> Result<u8, RunError>
-    requires out_good { out.old.failed ≡ false }
-    ensures answer { IfOk result (λ status. (answer : Answer)
-        × (CommandAnswer (GivesWhole (F.gives files.now)) (TextsAnswer (F.gives files.now)
-        (StreamGives R.remaining) input.old input.new) command.now answer
-        × Answered W.contents E.contents out.old out.new err.old err.new status answer)) }
-    ensures good { OnOk result (out.new.failed ≡ false) }
-    ensures begun { OnErr result (Begun (CommandAnswer (GivesWhole (F.gives files.now))
-        (FirstTextsAnswer (F.gives files.now) (StreamGives R.remaining) input.old) command.now)
-        (W.contents out.old.inner) (W.contents out.new.inner)) }
-    ensures memory { IfErr result (λ e. e ≡ RunError.OutOfMemory → out.new.failed ≡ false) }
-    ensures write { IfErr result (λ e. e ≡ RunError.Write → out.new.failed ≡ true) }
-    ensures read { IfErr result (λ e. e ≢ RunError.Read) }
-    ensures no_late_read { input.new.late ≡ input.old.late }
-    ensures no_late_write { out.new.late ≡ out.old.late }
-    ensures no_late_message { err.new.late ≡ err.old.late }
+    ensures answer { IfOk result (λ status. Answers (CommandAnswer
+        (ActionAnswer (GivesWhole (F.gives files.now))
+        (TextsAnswer (F.gives files.now) input.old input.new)) command.now)
+        console.old status console.new) }
+    ensures fails { IfErr result (λ e. Fails (CommandAnswer
+        (λ action verbosity rules names. Begins (ActionAnswer (GivesWhole (F.gives files.now))
+        (FirstTextsAnswer (F.gives files.now) input.old) verbosity action rules names)) command.now)
+        console.old e console.new) }
 {
     match command {
-        Command::Help => inform(help(), out),
-        Command::Version => inform(version(), out),
+        Command::Help => console.give(&informed(alloc, help())?),
+        Command::Version => console.give(&informed(alloc, version())?),
         Command::Run {
             action,
             verbosity,
             rules,
             files: names,
         } => {
-            say_reading(alloc, *verbosity, rules, err)?;
+            let message = reading_message(alloc, *verbosity, rules)?;
+            console.say(message.as_str())?;
             run_action(
-                alloc, *action, *verbosity, rules, names, files, input, out, err,
+                alloc, *action, *verbosity, rules, names, files, input, console,
             )
         }
     }
 }
 
-// Says what is wrong with the arguments, and returns the status.
-fn refuse<E: Write>(
-    alloc: Global,
-    error: &ArgumentsError<'_>,
-    err: &mut Watched<E>,
-) -> Result<u8, RunError>
-    ensures status { IfOk result (λ status. status ≡ 4) }
+// What is answered to wrong arguments.
+fn arguments_refused(alloc: Global, error: &ArgumentsError<'_>) -> Result<Reply, AllocError>
     ensures other { OnOk result (error.now ≢ ArgumentsError.OutOfMemory) }
-    ensures said { OnOk result (Takes E.contents err.old err.new (wrong_text error.now)) }
-    ensures memory { IfErr result (λ e. e ≡ RunError.OutOfMemory) }
-    ensures no_late_message { err.new.late ≡ err.old.late }
+    ensures answer { IfOk result (λ reply. reply ≡ refusal 4 (wrong_text error.now)) }
 {
     if let ArgumentsError::OutOfMemory = error {
-        return Err(RunError::OutOfMemory);
+        return Err(AllocError);
     }
-    let Ok(message) = wrong_text(alloc, error) else {
-        return Err(RunError::OutOfMemory);
-    };
-    say(message.as_str(), err);
-    Ok(WRONG_ARGUMENTS)
+    let message = wrong_text(alloc, error)?;
+    Ok(Reply::refusal(alloc, WRONG_ARGUMENTS, message))
 }
 
 /// Does what the arguments say (`command_of`): writes what was asked of the program itself; cuts the files, or standard input
@@ -285,48 +231,30 @@ fn refuse<E: Write>(
 ///
 /// `OutOfMemory` if a request for memory was refused, and `Write` if a write to `out` failed or took no byte. In either case
 /// `out` took a prefix of what is written for the texts that were come to, and nothing else.
-pub fn run<F: Files, R: Read, W: Write, E: Write>(
+pub fn run<F: Files, S: Source, O: Sink, E: Sink>(
     alloc: Global,
     words: &[String],
     files: &F,
-    input: &mut Watched<R>,
-    out: &mut Watched<W>,
-    err: &mut Watched<E>,
+    input: &mut Reader<S>,
+    console: &mut Console<O, E>,
 ) -> Result<u8, RunError>
-    requires out_good { out.old.failed ≡ false }
-
-    ensures answer { IfOk result (λ status. (answer : Answer)
-        × (IsAnswer (F.gives files.now) (StreamGives R.remaining) input.old input.new
-        (map string_bytes words.now) answer
-        × Answered W.contents E.contents out.old out.new err.old err.new status answer)) }
+    ensures answer { IfOk result (λ status. Answers (IsAnswer (F.gives files.now)
+        input.old input.new (map string_bytes words.now)) console.old status console.new) }
     ensures status { IfOk result (λ status. status ≤ 6) }
-    ensures good { OnOk result (out.new.failed ≡ false) }
-
-    ensures begun { OnErr result (Begun (IsFirstAnswer (F.gives files.now)
-        (StreamGives R.remaining) input.old (map string_bytes words.now))
-        (W.contents out.old.inner) (W.contents out.new.inner)) }
-    ensures memory { IfErr result (λ e. e ≡ RunError.OutOfMemory → out.new.failed ≡ false) }
-    ensures write { IfErr result (λ e. e ≡ RunError.Write → out.new.failed ≡ true) }
-    ensures read { IfErr result (λ e. e ≢ RunError.Read) }
-
-    ensures no_late_read { input.new.late ≡ input.old.late }
-    ensures no_late_write { out.new.late ≡ out.old.late }
-    ensures no_late_message { err.new.late ≡ err.old.late }
+    ensures fails { IfErr result (λ e. Fails (IsFirstAnswer (F.gives files.now)
+        input.old (map string_bytes words.now)) console.old e console.new) }
 {
-    let Ok(words) = joined(alloc, words) else {
-        return Err(RunError::OutOfMemory);
-    };
+    let words = joined(alloc, words)?;
     match command_of(alloc, &words) {
-        Ok(command) => run_command(alloc, &command, files, input, out, err),
-        Err(error) => refuse(alloc, &error, err),
+        Ok(command) => run_command(alloc, &command, files, input, console),
+        Err(error) => console.give(&arguments_refused(alloc, &error)?),
     }
 }
 
-// `run` over the streams and the files of the system, and a flush after the last line. If the reader of standard output has
-// gone away, that is no failure.
-fn run_in_system<R: Env + RuntimeFiles + Input + Print + Eprint + AllocGlobal>(
+// `run` for the program's arguments, over the files and standard input of the system.
+fn run_in_system<R: Env + RuntimeFiles + Input + AllocGlobal, O: Sink, E: Sink>(
     rt: &R,
-    err: &mut Watched<ErrorStream<'_, R>>,
+    console: &mut Console<O, E>,
 ) -> Result<u8, Failure>
     ensures { IfOk result (λ status. status ≤ 6) }
 {
@@ -334,19 +262,12 @@ fn run_in_system<R: Env + RuntimeFiles + Input + Print + Eprint + AllocGlobal>(
     let Ok(words) = words.skip(1).collect::<Vec<String>>(rt.alloc()) else {
         return Err(Failure::Run(RunError::OutOfMemory));
     };
-    let mut input = Watched::new(rt.reader());
-    let mut out = Watched::new(Output::new(io::writer(rt)));
     let files = SystemFiles { rt };
-    let result = run(rt.alloc(), &words, &files, &mut input, &mut out, err);
-    let mut output = out.into_inner();
-    let ending = match result {
-        Ok(status) => flushed(status, &output.flush()),
+    let mut input = Reader::new(System(rt.reader()));
+    match run(rt.alloc(), &words, &files, &mut input, console) {
+        Ok(status) => Ok(status),
         Err(error) => Err(Failure::Run(error)),
-    };
-    if output.is_closed() {
-        return Ok(0);
     }
-    ending
 }
 
 // What is said of a run that fails.
@@ -361,19 +282,43 @@ fn failure_text(failure: &Failure) -> &'static str
     }
 }
 
+// Flushes standard output after a run, says what failed, and returns the exit status. If the reader of standard output has gone
+// away, that is no failure: nothing is said, and the status is 0.
+fn finish<W: Write + Drop, E: Sink>(
+    found: Result<u8, Failure>,
+    console: Console<System<Output<W>>, E>,
+) -> u8
+    ensures { IfOk found (λ status. status ≤ 6) → result ≤ 6 }
+{
+    let (out, mut err) = console.into_writers();
+    let System(mut output) = out.into_sink();
+    let ending = match found {
+        Ok(status) => flushed(status, &output.flush()),
+        Err(failure) => Err(failure),
+    };
+    if output.is_closed() {
+        return 0;
+    }
+    match ending {
+        Ok(status) => status,
+        Err(failure) => {
+            // If that fails, the exit status still reports the failure.
+            let _ = err.tell(failure_text(&failure));
+            status_of(&Err(failure))
+        }
+    }
+}
+
 /// `run` for the program's arguments, over the files and the streams of the system, and a flush after the last line. A failed
 /// flush is a failed write. If memory was refused or a write failed, it says so, and the exit status is 5 or 6; but if the
 /// reader of standard output has gone away, it says nothing, and the status is 0.
 pub fn run_program<R: Env + RuntimeFiles + Input + Print + Eprint + AllocGlobal>(rt: &R) -> ExitCode
     ensures status { exit_status result ≤ 6 }
 {
-    let mut err = Watched::new(ErrorStream { rt });
-    let status = match run_in_system(rt, &mut err) {
-        Ok(status) => status,
-        Err(failure) => {
-            say(failure_text(&failure), &mut err);
-            status_of(&Err(failure))
-        }
-    };
-    ExitCode::from(status)
+    let mut console = Console::new(
+        System(Output::new(io::writer(rt))),
+        System(ErrorStream { rt }),
+    );
+    let found = run_in_system(rt, &mut console);
+    ExitCode::from(finish(found, console))
 }

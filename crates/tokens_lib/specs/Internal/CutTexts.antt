@@ -1,6 +1,5 @@
 -- A text that comes and is cut: its pieces, where they lie, and what is written for them.
 use Rattle.std.specs.Prelude.{◌≡◌, ℕ, ◌+◌, ◌-◌, ◌==◌, ◌≤◌, ◌⊎◌, if◌then◌else◌, Bool, true, false, ◌||◌, List, [], ◌∷◌, ◌++◌, length, take, map, reverse, Option, Some, None, option_map, is_some, string_bytes}
-use Rattle.std.specs.Io.KnownBytes.{Appends, Consumes}
 use Rattle.std.specs.Str.{chars, IsUtf8}
 use Rattle.lalrpop_edits.specs.Chunked.{Chunked, GivesFinal, Came, IsHeldBack, BeginsFault, MayMatch}
 use Rattle.bajofeki_rules.specs.Position.{place_after, position_of}
@@ -13,12 +12,12 @@ use Rattle.bajofeki_rules.specs.declared.action.Action.{Action}
 use Rattle.lalrpop_rules.specs.Pieces.{joined, slice_of, start_of}
 use Rattle.lalrpop_rules.specs.declared.item.Item.{Item}
 use Rattle.lalrpop_rules.specs.declared.item.Item.TheVariants.{Token, Skipped, Fault}
-use Rattle.lexdfa_lib.specs.Watch.{AppendsPrefix}
 use Rattle.reports_lib.specs.ItemLines.{line_in, mode_named, name_at}
 use Rattle.reports_lib.specs.declared.layout.LineForm.{LineForm}
 use Rattle.tokens_lib.specs.CutEnds.{BreaksOff, first_fault, AreGiven, IsCutTo, IsTextOf, BeginsWith}
 use Rattle.tokens_lib.specs.OpenModes.{open_behind, pushed_all}
-use Rattle.tokens_lib.specs.Streams.{Reading, ReadEnd, AtEnd, Failed, EndsReading}
+use Rattle.tokens_lib.specs.Streams.{Stream, Reading, ReadEnd, AtEnd, Failed, LeftOff, Reads, Console, Writes, WritesPart}
+use Rattle.lexdfa_lib.specs.declared.error.RunError.{RunError}
 use Rattle.tokens_lib.specs.Internal.Incoming.{IsIncoming}
 use Rattle.tokens_lib.specs.declared.command.Markup.{Markup}
 use Rattle.tokens_lib.specs.declared.command.Markup.TheVariants.{Html as MarkupHtml, Ansi as MarkupAnsi}
@@ -85,24 +84,20 @@ pub record IsCutInto (rules : ModeRules) (text : List ℕ) (xs : List Item) (c :
 
 -- ---- what comes
 
--- what may still come, after a read
-abbrev pub IsComing : Option (List ℕ) → Bool → List ℕ → List ℕ → Cutter → Coming → Type 0
-IsComing remaining failed text left c More =
-    (failed ≡ false) × ((c.incoming.decoder.is_broken ≡ false) × (c.incoming.chunks.is_ended ≡ false))
-IsComing remaining failed text left c Nothing =
-    EndsReading remaining failed AtEnd × ((left ≡ []) × (c.incoming.chunks.is_ended ≡ true))
-IsComing remaining failed text left c (NoCharacter at) =
-    (end : ReadEnd) × (EndsReading remaining failed end × (BreaksOff end text left (NotText at) × (c.incoming.chunks.is_ended ≡ false)))
-IsComing remaining failed text left c Failure =
-    EndsReading remaining failed Failed × (BreaksOff Failed text left Read × (c.incoming.chunks.is_ended ≡ false))
+-- what may still come, after a read that ended so
+abbrev pub IsComing : ReadEnd → List ℕ → List ℕ → Cutter → Coming → Type 0
+IsComing end text left c More = (end ≡ LeftOff) × ((c.incoming.decoder.is_broken ≡ false) × (c.incoming.chunks.is_ended ≡ false))
+IsComing end text left c Nothing = (end ≡ AtEnd) × ((left ≡ []) × (c.incoming.chunks.is_ended ≡ true))
+IsComing end text left c (NoCharacter at) = BreaksOff end text left (NotText at) × (c.incoming.chunks.is_ended ≡ false)
+IsComing end text left c Failure = (end ≡ Failed) × (BreaksOff Failed text left Read × (c.incoming.chunks.is_ended ≡ false))
 
--- what a read brings: these bytes, and a part of the text, whatever was read before
-abbrev pub Comes : ModeRules → Option (List ℕ) → Option (List ℕ) → Bool → Cutter → Cutter → Coming → Type 0
-Comes rules remaining remaining_now failed old new coming =
-    (more : List ℕ) × (Consumes remaining remaining_now more
+-- what a read brings: bytes, and a part of the text, whatever was read before
+abbrev pub Comes : ModeRules → Stream → Stream → Cutter → Cutter → Coming → Type 0
+Comes rules s t old new coming =
+    (more : List ℕ) × ((end : ReadEnd) × (Reads s t (record { bytes = more; end = end })
     × ((bytes text left : List ℕ) (xs : List Item) → IsIncoming bytes text left old.incoming → IsCutInto rules text xs old
     → (chunk : List ℕ) × ((behind : List ℕ) × (IsIncoming (bytes ++ more) (text ++ chunk) behind new.incoming
-    × (IsCutInto rules (text ++ chunk) xs new × IsComing remaining_now failed (text ++ chunk) behind new coming)))))
+    × (IsCutInto rules (text ++ chunk) xs new × IsComing end (text ++ chunk) behind new coming))))))
 
 -- ---- how cutting ends
 
@@ -159,23 +154,23 @@ shown form rules text xs = shown_from form rules text start xs
 abbrev pub NoFaultYet : Form → List Item → Type 0
 NoFaultYet form xs = goes_on form ≡ false → first_fault xs ≡ None
 
--- the writer, which held something before, took these bytes, but for those that wait
-pub record IsSent (bytes waiting : List ℕ) (held held_now : Option (List ℕ)) : Type 0 where
+-- these bytes were written, but for those that wait
+pub record IsSent (bytes waiting : List ℕ) (old new : Console) : Type 0 where
   pub sent : List ℕ
-  pub appends : Appends held held_now sent
+  pub writes : Writes old sent new
   pub all : sent ++ waiting ≡ bytes
 
 -- these pieces of a text were given, and are written
-pub record IsGiven (form : Form) (rules : ModeRules) (text : List ℕ) (xs : List Item) (c : Cutter) (waiting : List ℕ) (held held_now : Option (List ℕ)) : Type 0 where
+pub record IsGiven (form : Form) (rules : ModeRules) (text : List ℕ) (xs : List Item) (c : Cutter) (waiting : List ℕ) (old new : Console) : Type 0 where
   pub cut : IsCutInto rules text xs c
   pub no_fault : NoFaultYet form xs
-  pub written : IsSent (shown form rules text xs) waiting held held_now
+  pub written : IsSent (shown form rules text xs) waiting old new
 
--- the same before an error, where the writer took only a prefix of what is written for them
-pub record IsGivenInPart (form : Form) (rules : ModeRules) (text : List ℕ) (xs : List Item) (c : Chunked) (held held_now : Option (List ℕ)) : Type 0 where
+-- the same before an error, where only a prefix was written of what is written for them
+pub record IsGivenInPart (form : Form) (rules : ModeRules) (text : List ℕ) (xs : List Item) (c : Chunked) (old : Console) (error : RunError) (new : Console) : Type 0 where
   pub came : Came rules text xs c
   pub no_fault : NoFaultYet form xs
-  pub prefix : AppendsPrefix held held_now (shown form rules text xs)
+  pub part : WritesPart old (shown form rules text xs) error new
 
 -- a fault begins behind them, where cutting ends
 pub record EndsAtFault (form : Form) (rules : ModeRules) (text : List ℕ) (xs : List Item) (c : Chunked) (ended : CutEnd) : Type 0 where
@@ -199,22 +194,22 @@ pub record IsWaiting (form : Form) (c : Chunked) : Type 0 where
   pub held : IsHeldBack c
   pub may : goes_on form ≡ false → (c.rest ≡ []) ⊎ MayMatch c
 
--- all pieces were given that can be; or cutting ends at a fault behind those that were given
-abbrev pub GivesAll : Form → ModeRules → List ℕ → Cutter → Cutter → List ℕ → Option (List ℕ) → Option (List ℕ) → Option CutEnd → Type 0
-GivesAll form rules text old new waiting held held_now None =
-    (ys : List Item) × (IsGiven form rules text ys new waiting held held_now × (IsWaiting form new.incoming.chunks × IsAsBefore old new))
-GivesAll form rules text old new waiting held held_now (Some ended) =
+-- all pieces were given that can be; or cutting ends at a fault after those that were given
+abbrev pub GivesAll : Form → ModeRules → List ℕ → Cutter → Cutter → List ℕ → Console → Console → Option CutEnd → Type 0
+GivesAll form rules text old new waiting begun now None =
+    (ys : List Item) × (IsGiven form rules text ys new waiting begun now × (IsWaiting form new.incoming.chunks × IsAsBefore old new))
+GivesAll form rules text old new waiting begun now (Some ended) =
     (ys : List Item) × ((c : Chunked) × (EndsAtFault form rules text ys c ended
-    × (IsSent (shown form rules text ys) waiting held held_now × (c.is_ended ≡ old.incoming.chunks.is_ended))))
+    × (IsSent (shown form rules text ys) waiting begun now × (c.is_ended ≡ old.incoming.chunks.is_ended))))
 
--- a writer took exactly what is written for the pieces that are cut of what was read, and cutting ended so
-abbrev pub WritesPieces : Form → ModeRules → Reading → Option (List ℕ) → Option (List ℕ) → CutEnd → Type 0
-WritesPieces form rules reading held held_now ended =
+-- exactly this was written for the pieces that are cut of what was read, and cutting ended so
+abbrev pub WritesCut : ModeRules → Bool → (List ℕ → List Item → List ℕ) → Reading → Console → Console → CutEnd → Type 0
+WritesCut rules recovers out reading old new ended =
     (text : List ℕ) × ((left : List ℕ) × ((xs : List Item) × (IsTextOf reading.bytes text left
-    × (IsCutTo rules (goes_on form) reading text left xs ended × Appends held held_now (shown form rules text xs)))))
+    × (IsCutTo rules recovers reading text left xs ended × Writes old (out text xs) new))))
 
--- a writer took a prefix of what is written for pieces that were given
-abbrev pub WritesPiecesPart : Form → ModeRules → Reading → Option (List ℕ) → Option (List ℕ) → Type 0
-WritesPiecesPart form rules reading held held_now =
+-- a prefix was written of what is written for pieces that were given
+abbrev pub WritesCutPart : ModeRules → Bool → (List ℕ → List Item → List ℕ) → Reading → Console → RunError → Console → Type 0
+WritesCutPart rules recovers out reading old error new =
     (text : List ℕ) × ((left : List ℕ) × ((xs : List Item) × ((c : Chunked) × (BeginsWith reading.bytes text left
-    × (AreGiven rules (goes_on form) reading text left xs c × AppendsPrefix held held_now (shown form rules text xs))))))
+    × (AreGiven rules recovers reading text left xs c × WritesPart old (out text xs) error new)))))

@@ -1,10 +1,12 @@
 -- A text that is read as it comes, and cut.
-use Rattle.std.specs.Prelude.{◌≡◌, ◌⊎◌, ◌+◌, ℕ, Bool, true, false, if◌then◌else◌, List, [], ◌++◌, length, Option}
-use Rattle.std.specs.Io.KnownBytes.{Consumes}
+use Rattle.std.specs.Prelude.{◌≡◌, ◌⊎◌, ◌+◌, ℕ, Bool, true, false, if◌then◌else◌, List, [], ◌++◌, length}
 use Rattle.lalrpop_edits.specs.Chunked.{Chunked}
 use Rattle.lalrpop_edits.specs.Decoded.{IsBegun, IsBad}
 use Rattle.lalrpop_rule_file.specs.RuleFile.{without_mark}
 use Rattle.tokens_lib.specs.CutEnds.{IsTextOf}
+use Rattle.tokens_lib.specs.Streams.{Stream, Reads, ReadEnd, AtEnd, Failed, LeftOff}
+use Rattle.tokens_lib.specs.declared.incoming.Brought.{Brought}
+use Rattle.tokens_lib.specs.declared.incoming.Brought.TheVariants.{More, Nothing, Failure}
 use Rattle.tokens_lib.specs.declared.incoming.Incoming.{Incoming}
 
 -- these bytes were read; they are this text, and these are left
@@ -30,9 +32,15 @@ abbrev pub GrowsBy : Incoming → List ℕ → Incoming → Type 0
 GrowsBy old more new = (chunk : List ℕ) × (IsFed old.chunks chunk new.chunks
     × ((bytes text left : List ℕ) → IsIncoming bytes text left old → (behind : List ℕ) × IsIncoming (bytes ++ more) (text ++ chunk) behind new))
 
--- so reading goes on, by bytes that a reader has left
-abbrev pub ReadsOn : Option (List ℕ) → Option (List ℕ) → Incoming → Incoming → Type 0
-ReadsOn remaining remaining_now old new = (more : List ℕ) × (Consumes remaining remaining_now more × GrowsBy old more new)
+-- so reading goes on, by bytes that a stream gives, up to this end
+abbrev pub ReadsOn : Stream → Stream → ReadEnd → Incoming → Incoming → Type 0
+ReadsOn s t end old new = (more : List ℕ) × (Reads s t (record { bytes = more; end = end }) × GrowsBy old more new)
+
+-- the end of reading that brought this
+abbrev pub end_of : Brought → ReadEnd
+end_of More = LeftOff
+end_of Nothing = AtEnd
+end_of Failure = Failed
 
 -- how many bytes are held: those of the text that are in no piece, of a character that has begun, and of a byte order mark
 abbrev pub held : Incoming → ℕ

@@ -4,7 +4,7 @@ use Rattle.lalrpop_rules.specs.RuleSet.{names_of}
 use Rattle.reports_lib.specs.ItemLines.{mode_named}
 use Rattle.reports_lib.specs.RuleClashes.{named_line}
 use Rattle.reports_lib.proofs.ClashLineLaws.{lines_pushed}
-use Rattle.reports_lib.proofs.named_clashes.lines_of.Goals as goal
+use Rattle.reports_lib.proofs.named_clashes.clash_lines.Goals as goal
 
 pub loop-mode-preserved : goal.loop-mode-preserved
 loop-mode-preserved c =
