@@ -7,11 +7,11 @@ use crate::cutting::{
 };
 use crate::failing::FailsAfter;
 use lalrpop_lexer::Position;
-use lexdfa_lib::{RunError, Watched};
+use lexdfa_lib::RunError;
 use std::alloc::{AllocError, Global};
 use std::io;
 use std::process::Abort;
-use tokens_lib::{Markup, RuleLexer};
+use tokens_lib::{Console, Markup, Reader, RuleLexer, System};
 
 // How many bytes a read gives.
 const SIZES: [usize; 5] = [1, 2, 3, 5, ALL];
@@ -390,12 +390,15 @@ fn is_answered(
     size: usize,
     at_once: usize,
 ) -> bool {
-    let mut reader = Watched::new(Fed::ending(job.text.as_bytes(), at_once));
-    let mut writer = Watched::new(FailsAfter::new(alloc, room, Some(io::ErrorKind::Other)));
-    let end = write_lines(alloc, lexer, job.lines, &mut reader, &mut writer);
+    let mut reader = Reader::new(System(Fed::ending(job.text.as_bytes(), at_once)));
+    let writer = FailsAfter::new(alloc, room, Some(io::ErrorKind::Other));
+    let mut console = Console::new(System(writer), Vec::new(alloc));
+    let end = write_lines(alloc, lexer, job.lines, &mut reader, &mut console);
+    let (System(writer), _) = console.into_sinks();
+    let System(source) = reader.into_source();
     matches!(&end, Err(RunError::Write))
-        && writer.into_inner().taken.len() == room
-        && reader.into_inner().calls == reads(size, at_once)
+        && writer.taken.len() == room
+        && source.calls == reads(size, at_once)
 }
 
 // Each line is written as soon as nothing that comes can change it.

@@ -1,15 +1,14 @@
 //! Texts that named rules cut, what is written for them and how cutting ends, and a reader that gives them bit by bit.
-ghost use Rattle.std.specs.Prelude.{◌≡◌, false};
 
 use lalrpop_lexer::Position;
-use lexdfa_lib::{RunError, Watched};
+use lexdfa_lib::RunError;
 use std::alloc::Global;
 use std::io;
-use std::io::{Read, Write};
+use std::io::Read;
 use std::process::Abort;
 use tokens_lib::{
-    CutEnd, Layout, LineForm, Markup, ModeAction, ModeRule, OpenMode, Rule, RuleLexer, TextError,
-    write_items, write_page,
+    Console, CutEnd, Layout, LineForm, Markup, ModeAction, ModeRule, OpenMode, Reader, Rule,
+    RuleLexer, Sink, Source, System, TextError, write_items, write_page,
 };
 
 /// More bytes than any text here has.
@@ -208,37 +207,33 @@ pub(crate) const RECOVERING_JSON: Lines = Lines {
 };
 
 /// The lines of what is read, by rules whose modes have no names.
-pub(crate) fn write_lines<R: Read, W: Write>(
+pub(crate) fn write_lines<S: Source, O: Sink>(
     alloc: Global,
     lexer: &RuleLexer,
     lines: Lines,
-    reader: &mut Watched<R>,
-    writer: &mut Watched<W>,
-) -> Result<CutEnd, RunError>
-    requires writer_good { writer.old.failed ≡ false }
-{
+    reader: &mut Reader<S>,
+    console: &mut Console<O, Vec<u8>>,
+) -> Result<CutEnd, RunError> {
     let layout = Layout {
         form: lines.form,
         recovers: lines.recovers,
         file: lines.file,
         modes: &[],
     };
-    write_items(alloc, lexer, &layout, reader, writer)
+    write_items(alloc, lexer, &layout, reader, console)
 }
 
 /// The lines or the page of what is read.
-pub(crate) fn write_shape<R: Read, W: Write>(
+pub(crate) fn write_shape<S: Source, O: Sink>(
     alloc: Global,
     lexer: &RuleLexer,
     shape: &Shape,
-    reader: &mut Watched<R>,
-    writer: &mut Watched<W>,
-) -> Result<CutEnd, RunError>
-    requires writer_good { writer.old.failed ≡ false }
-{
+    reader: &mut Reader<S>,
+    console: &mut Console<O, Vec<u8>>,
+) -> Result<CutEnd, RunError> {
     match shape {
-        Shape::Lines(lines) => write_lines(alloc, lexer, *lines, reader, writer),
-        Shape::Page(markup) => write_page(alloc, lexer, *markup, reader, writer),
+        Shape::Lines(lines) => write_lines(alloc, lexer, *lines, reader, console),
+        Shape::Page(markup) => write_page(alloc, lexer, *markup, reader, console),
     }
 }
 
@@ -252,13 +247,15 @@ pub(crate) struct Answer {
 
 /// Cuts what a reader gives.
 pub(crate) fn cut(alloc: Global, lexer: &RuleLexer, shape: &Shape, reader: Fed<'_>) -> Answer {
-    let mut reader = Watched::new(reader);
-    let mut writer = Watched::new(Vec::new(alloc));
-    let end = write_shape(alloc, lexer, shape, &mut reader, &mut writer);
+    let mut reader = Reader::new(System(reader));
+    let mut console = Console::new(Vec::new(alloc), Vec::new(alloc));
+    let end = write_shape(alloc, lexer, shape, &mut reader, &mut console);
+    let (written, _) = console.into_sinks();
+    let System(source) = reader.into_source();
     Answer {
-        written: writer.into_inner(),
+        written,
         end,
-        calls: reader.into_inner().calls,
+        calls: source.calls,
     }
 }
 

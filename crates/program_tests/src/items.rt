@@ -6,11 +6,13 @@ use crate::cutting::{
 };
 use crate::failing::FailsAfter;
 use lalrpop_lexer::Position;
-use lexdfa_lib::{RunError, Watched};
+use lexdfa_lib::RunError;
 use std::alloc::Global;
 use std::io;
 use std::process::Abort;
-use tokens_lib::{CutEnd, Layout, LineForm, OpenMode, RuleLexer, write_items};
+use tokens_lib::{
+    Console, CutEnd, Layout, LineForm, OpenMode, Reader, RuleLexer, System, write_items,
+};
 
 fn is_written(alloc: Global, lexer: &RuleLexer, job: &Job) -> bool {
     let reader = Fed::ending(job.text.as_bytes(), ALL);
@@ -33,12 +35,12 @@ fn leaves_a_prefix(
     room: usize,
     kind: Option<io::ErrorKind>,
 ) -> bool {
-    let mut reader = Watched::new(job.text.as_bytes());
-    let mut writer = Watched::new(FailsAfter::new(alloc, room, kind));
-    let result = write_shape(alloc, lexer, &job.shape, &mut reader, &mut writer);
-    let ended = matches!(&result, Err(RunError::Write)) && writer.failed();
-    let end = writer.into_inner();
-    ended
+    let mut reader = Reader::new(job.text.as_bytes());
+    let writer = FailsAfter::new(alloc, room, kind);
+    let mut console = Console::new(System(writer), Vec::new(alloc));
+    let result = write_shape(alloc, lexer, &job.shape, &mut reader, &mut console);
+    let (System(end), _) = console.into_sinks();
+    matches!(&result, Err(RunError::Write))
         && Some(end.taken.as_slice()) == job.written.get(..room)
         && end.calls == room.saturating_add(1)
 }
@@ -83,10 +85,11 @@ fn comments_of(
         file: None,
         modes: &modes,
     };
-    let mut reader = Watched::new(text.as_bytes());
-    let mut writer = Watched::new(Vec::new(alloc));
-    let result = write_items(alloc, &lexer, &layout, &mut reader, &mut writer);
-    (writer.into_inner(), result)
+    let mut reader = Reader::new(text.as_bytes());
+    let mut console = Console::new(Vec::new(alloc), Vec::new(alloc));
+    let result = write_items(alloc, &lexer, &layout, &mut reader, &mut console);
+    let (written, _) = console.into_sinks();
+    (written, result)
 }
 
 #[test]

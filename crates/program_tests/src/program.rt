@@ -1,10 +1,10 @@
 //! The program over files in memory: standard input among the files, progress, and reads that fail.
 
 use crate::cutting::{ALL, Fed};
-use lexdfa_lib::{RunError, Watched};
+use lexdfa_lib::RunError;
 use std::alloc::{AllocError, Global};
 use std::io::Read;
-use tokens_lib::{Files, NoBytes, run};
+use tokens_lib::{Console, Files, NoBytes, Reader, System, run};
 
 const RULES: &[u8] = b"WORD = /[a-z]+/\nSPACE skip = / /\n";
 
@@ -58,14 +58,14 @@ fn bytes_of(files: &[(&'static str, &'static [u8])], name: &str) -> Option<&'sta
 impl Files for Named {
     ghost gives = { λ files name given. Unit {0} };
 
-    type Reader = Fed<'static>;
+    type Reader = System<Fed<'static>>;
 
-    fn open(&self, alloc: Global, name: &str) -> Result<Fed<'static>, NoBytes> {
+    fn open(&self, alloc: Global, name: &str) -> Result<System<Fed<'static>>, NoBytes> {
         if let Some(bytes) = bytes_of(self.files, name) {
-            return Ok(Fed::ending(bytes, ALL));
+            return Ok(System(Fed::ending(bytes, ALL)));
         }
         match bytes_of(self.torn, name) {
-            Some(bytes) => Ok(Fed::failing(bytes, ALL)),
+            Some(bytes) => Ok(System(Fed::failing(bytes, ALL))),
             None => Err(NoBytes::Because(String::from_str(alloc, "not found")?)),
         }
     }
@@ -88,11 +88,11 @@ fn answer<R: Read + Drop>(
     let Ok(words) = words_of(alloc, words) else {
         return Err(RunError::OutOfMemory);
     };
-    let mut input = Watched::new(input);
-    let mut out = Watched::new(Vec::new(alloc));
-    let mut err = Watched::new(Vec::new(alloc));
-    let status = run(alloc, &words, &FILES, &mut input, &mut out, &mut err)?;
-    Ok((out.into_inner(), err.into_inner(), status))
+    let mut input = Reader::new(System(input));
+    let mut console = Console::new(Vec::new(alloc), Vec::new(alloc));
+    let status = run(alloc, &words, &FILES, &mut input, &mut console)?;
+    let (out, err) = console.into_sinks();
+    Ok((out, err, status))
 }
 
 fn is_answer<R: Read + Drop>(

@@ -1,18 +1,17 @@
 -- One answer after another.
-use Rattle.std.proofs.Common.{◌≡◌, ◌≢◌, ℕ, ◌+◌, ◌<◌, get_or, Bool, true, false, inl, inr, List, [], ◌∷◌, ◌++◌, length, take, map, refl, sym, ap, subst, ◌∙◌, append_assoc, arith, length-append}
-use Rattle.std.specs.Prelude.{max, codes, if◌then◌else◌, Option, Some, None, Result, Ok, Err, IfOk, IfErr, IfSome, IfNone, OnOk, OnErr}
+use Rattle.std.proofs.Common.{◌≡◌, ℕ, ◌+◌, ◌≤◌, Bool, true, false, inl, inr, List, [], ◌++◌, length, take, refl, sym, ap, subst, ◌∙◌, append_assoc, arith, length-append}
+use Rattle.std.specs.Prelude.{max, Option, Result, Ok, Err, IfOk, IfErr}
+use Rattle.std.specs.Result.{IsErrAnd}
 use Rattle.std.specs.Io.KnownBytes.{Appends}
-use Rattle.std.proofs.lemmas.List.{append-nil, take-append-le, take_more, map-append, length-map, length-take-le}
-use Rattle.std.proofs.lemmas.Result.{IfOk-weaker}
-use Rattle.lexdfa_lib.proofs.Known.{Appends-again, Appends-none, AppendsPrefix-behind}
-use Rattle.lexdfa_lib.specs.Watch.{Watch, AppendsPrefix}
+use Rattle.std.proofs.Math.Seq.{take-append-add}
+use Rattle.std.proofs.lemmas.List.{append-nil, take-append-le, take_all}
+use Rattle.lexdfa_lib.proofs.Known.{Appends-again, Appends-none, AppendsPrefix-behind, AppendsPrefix-front}
+use Rattle.lexdfa_lib.specs.Watch.{AppendsPrefix}
 use Rattle.lexdfa_lib.specs.declared.error.RunError.{RunError}
-use Rattle.reports_lib.specs.Answer.{Answer, silence, followed, refusal, remark, about}
-use Rattle.tokens_lib.specs.FileAnswers.{Reads, is_input, FileGives, ReadingAnswer, FileAnswer, NumberedAnswer, FilesAnswer, cut_files, TextsAnswer, Answered, Refused}
-use Rattle.tokens_lib.specs.Progress.{total_said}
-use Rattle.tokens_lib.specs.declared.command.Verbosity.{Verbosity}
-use Rattle.tokens_lib.specs.Streams.{Given, Reading, AtEnd, Failed, NotOpened, GivesWhole, StreamGives, TakesBy, Takes}
-use Rattle.tokens_lib.specs.Internal.Tasks.{ReadAnswer}
+use Rattle.lexdfa_lib.specs.declared.error.RunError.TheVariants.{OutOfMemory, Read, Write}
+use Rattle.reports_lib.specs.Answer.{Answer, silence, followed, refusal, remark}
+use Rattle.tokens_lib.proofs.StreamLaws.{works_again, breaks_later, takes_again, takes_part}
+use Rattle.tokens_lib.specs.Streams.{Stream, Console, Works, Breaks, Takes, TakesPart, IsCause, IsTold, IsToldBy, IsToldPart, Writes, WritesPart, Says, Gives, Answers, Begins, Fails}
 
 -- ---- answers
 
@@ -23,279 +22,196 @@ same_answer : (a b : Answer) → a.status ≡ b.status → a.out ≡ b.out → a
 same_answer a b s o e =
     ap (λ (n : ℕ). answer_of n a.out a.err) s ∙ ap (λ (x : List ℕ). answer_of b.status x a.err) o ∙ ap (λ (x : List ℕ). answer_of b.status b.out x) e
 
-followed-assoc : (a b c : Answer) → followed (followed a b) c ≡ followed a (followed b c)
+pub followed-assoc : (a b c : Answer) → followed (followed a b) c ≡ followed a (followed b c)
 followed-assoc a b c =
     same_answer (followed (followed a b) c) (followed a (followed b c)) (omega arith) (append_assoc a.out b.out c.out) (append_assoc a.err b.err c.err)
 
-silence-followed : (a : Answer) → followed silence a ≡ followed a silence
-silence-followed a =
-    same_answer (followed silence a) (followed a silence) (omega arith) (sym (append-nil a.out)) (sym (append-nil a.err))
+pub followed-silence : (a : Answer) → followed a silence ≡ a
+followed-silence a = same_answer (followed a silence) a (omega arith) (append-nil a.out) (append-nil a.err)
 
--- the answer for one more file, which has the next number
-pub FilesAnswer-more : {I : Type 0} (Own : ℕ → I → I → List ℕ → Answer → Type 0) (n m : ℕ) (i j k : I) (files : List (List ℕ)) (file : List ℕ) (before own : Answer) → m ≡ n + length files
-    → FilesAnswer Own n i j files before → Own m j k file own → FilesAnswer Own n i k (files ++ file ∷ []) (followed before own)
-FilesAnswer-more {I} Own n m i j k [] file before own next (same, is) one =
-    let here : m ≡ n = omega (arith, next) in
-    let first : Own n i k file own = subst (λ (x : I). Own n x k file own) (sym same) (subst (λ (x : ℕ). Own x j k file own) here one) in
-    (k, (own, (silence, (first, ((refl, refl), ap (λ (a : Answer). followed a own) is ∙ silence-followed own)))))
-FilesAnswer-more Own n m i j k (first ∷ files) file before own next (h, (a, (b, (own_first, (rest, e))))) one =
-    let here : m ≡ n + 1 + length files = omega (arith, next) in
-    (h, (a, (followed b own, (own_first, (FilesAnswer-more Own (n + 1) m h j k files file b own here rest one, ap (λ (x : Answer). followed x own) e ∙ followed-assoc a b own)))))
-
--- ---- a FILE
-
--- it is standard input
-pub from_input : {I : Type 0} (Gives : List ℕ → Reading → Type 0) (InputGives : I → I → Reading → Type 0) (IsFor : List ℕ → Reading → Answer → Type 0) (i j : I) (file : List ℕ) (answer : Answer)
-    → is_input file ≡ true → ReadAnswer (InputGives i j) (IsFor (codes "<stdin>")) answer → FileAnswer Gives InputGives IsFor i j file answer
-from_input Gives InputGives IsFor i j file answer is (reading, (gives, done)) = (
-  reading,
-  subst (λ (b : Bool). FileGives Gives InputGives i j b file reading × IsFor (if b then codes "<stdin>" else file) reading answer) (sym is) (gives, done),
-)
-
--- it is read by its name
-pub from_file : {I : Type 0} (Gives : List ℕ → Reading → Type 0) (InputGives : I → I → Reading → Type 0) (IsFor : List ℕ → Reading → Answer → Type 0) (i : I) (file : List ℕ) (answer : Answer)
-    → is_input file ≡ false → ReadAnswer (Gives file) (IsFor file) answer → FileAnswer Gives InputGives IsFor i i file answer
-from_file Gives InputGives IsFor i file answer is (reading, (gives, done)) = (
-  reading,
-  subst (λ (b : Bool). FileGives Gives InputGives i i b file reading × IsFor (if b then codes "<stdin>" else file) reading answer) (sym is) ((refl, gives), done),
-)
-
--- ---- the named FILEs
-
-pub cut_named : (files : List (List ℕ)) → length files ≢ 0 → cut_files files ≡ files
-cut_named [] some = absurd (some refl)
-cut_named (file ∷ files) some = refl
-
-pub cut_unnamed : (files : List (List ℕ)) → length files ≡ 0 → cut_files files ≡ codes "-" ∷ []
-cut_unnamed [] none = refl
-cut_unnamed (file ∷ files) none = absurd (omega (arith, none))
-
-pub texts_answered : {I W E : Type 0} (r : Result ℕ RunError) (Gives : List ℕ → Reading → Type 0) (InputGives : I → I → Reading → Type 0) (IsFor PartFor : List ℕ → Reading → Answer → Type 0) (i k : I)
-    (verbosity : Verbosity) (total : Option ℕ) (cut files : List (List ℕ)) (written : W → Option (List ℕ)) (said : E → Option (List ℕ)) (o p : Watch W) (e f : Watch E)
-    → total ≡ total_said verbosity (length files) → cut ≡ cut_files files
-    → IfOk r (λ status. (answer : Answer) × (FilesAnswer (NumberedAnswer Gives InputGives (ReadingAnswer IsFor) total) 1 i k cut answer × Answered written said o p e f status answer))
-    → IfOk r (λ status. (answer : Answer) × (TextsAnswer Gives InputGives i k verbosity IsFor PartFor files answer × Answered written said o p e f status answer))
-texts_answered r Gives InputGives IsFor PartFor i k verbosity total cut files written said o p e f total_is cut_is h =
-    IfOk-weaker r _ _
-    (λ status x. (
-      x.0,
-      (
-        subst (λ (t : Option ℕ). FilesAnswer (NumberedAnswer Gives InputGives (ReadingAnswer IsFor) t) 1 i k (cut_files files) x.0) total_is
-            (subst (λ (fs : List (List ℕ)). FilesAnswer (NumberedAnswer Gives InputGives (ReadingAnswer IsFor) total) 1 i k fs x.0) cut_is x.1.0),
-        x.1.1,
-      ),
-    ))
-    h
+pub silence-followed : (a : Answer) → followed silence a ≡ a
+silence-followed a = same_answer (followed silence a) a (omega arith) refl refl
 
 -- ---- streams
 
-AppendsPrefix-then : (a b c : Option (List ℕ)) (xs ys : List ℕ) → AppendsPrefix a b xs → Appends b c [] → AppendsPrefix a c (xs ++ ys)
-AppendsPrefix-then a b c xs ys (n, le, h) k = (
-  n,
+pub Takes-nothing : (a : Stream) → Takes a [] a
+Takes-nothing a = (refl, Appends-none a.bytes)
+
+-- a prefix of the first bytes is one of all
+pub TakesPart-first : (a b : Stream) (xs ys : List ℕ) (e : RunError) → TakesPart a xs e b → TakesPart a (xs ++ ys) e b
+TakesPart-first a b xs ys e (cause, part) = (cause, AppendsPrefix-behind a.bytes a.bytes b.bytes [] xs ys (Appends-none a.bytes) part)
+
+-- ---- what is said
+
+flag : (a b : Stream) → Works a b → a.is_broken ≡ b.is_broken
+flag a b w = sym (ap (λ (s : Stream). s.is_broken) w)
+
+told_by : (f g : Bool) (a b : Stream) (xs : List ℕ) → a.is_broken ≡ f → b.is_broken ≡ g → IsToldBy f g a xs b → IsTold a xs b
+told_by f g a b xs before after told =
+    subst (λ (x : Bool). IsToldBy x b.is_broken a xs b) (sym before) (subst (λ (x : Bool). IsToldBy f x a xs b) (sym after) told)
+
+by_told : (f g : Bool) (a b : Stream) (xs : List ℕ) → a.is_broken ≡ f → b.is_broken ≡ g → IsTold a xs b → IsToldBy f g a xs b
+by_told f g a b xs before after told =
+    subst (λ (x : Bool). IsToldBy x g a xs b) before (subst (λ (x : Bool). IsToldBy a.is_broken x a xs b) after told)
+
+pub told_nothing : (a : Stream) → IsTold a [] a
+told_nothing a = by a.is_broken refl
+  where
+    by : (f : Bool) → a.is_broken ≡ f → IsTold a [] a
+    by false is = told_by false false a a [] is is (Takes-nothing a)
+    by true is = told_by true true a a [] is is refl
+
+-- a prefix, and then nothing more
+part_then : (a b : Option (List ℕ)) (xs ys : List ℕ) → AppendsPrefix a b xs → AppendsPrefix a b (xs ++ ys)
+part_then a b xs ys part = AppendsPrefix-behind a a b [] xs ys (Appends-none a) part
+
+pub told_again : (a b c : Stream) (xs ys : List ℕ) → IsTold a xs b → IsTold b ys c → IsTold a (xs ++ ys) c
+told_again a b c xs ys x y = by a.is_broken b.is_broken c.is_broken refl refl refl
+  where
+    by : (f g h : Bool) → a.is_broken ≡ f → b.is_broken ≡ g → c.is_broken ≡ h → IsTold a (xs ++ ys) c
+    by false false false p q r =
+        told_by false false a c (xs ++ ys) p r (takes_again a b c xs ys (by_told false false a b xs p q x) (by_told false false b c ys q r y))
+    by false false true p q r =
+        let first : Takes a xs b = by_told false false a b xs p q x in
+        let second : Breaks b c × AppendsPrefix b.bytes c.bytes ys = by_told false true b c ys q r y in
+        told_by false true a c (xs ++ ys) p r
+        (
+          breaks_later a b c first.0 second.0,
+          subst (λ (l : List ℕ). AppendsPrefix a.bytes c.bytes (xs ++ l)) (append-nil ys) (AppendsPrefix-behind a.bytes b.bytes c.bytes xs ys [] first.1 second.1),
+        )
+    by false true false p q r = absurd (by_told true false b c ys q r y)
+    by false true true p q r =
+        let first : Breaks a b × AppendsPrefix a.bytes b.bytes xs = by_told false true a b xs p q x in
+        let same : c ≡ b = by_told true true b c ys q r y in
+        subst (λ (s : Stream). IsTold a (xs ++ ys) s) (sym same) (told_by false true a b (xs ++ ys) p q (first.0, part_then a.bytes b.bytes xs ys first.1))
+    by true false h p q r = absurd (by_told true false a b xs p q x)
+    by true true false p q r = absurd (by_told true false b c ys q r y)
+    by true true true p q r =
+        let first : b ≡ a = by_told true true a b xs p q x in
+        let second : c ≡ b = by_told true true b c ys q r y in
+        told_by true true a c (xs ++ ys) p r (second ∙ first)
+
+-- all is a part
+pub told_whole : (a b : Stream) (xs : List ℕ) → IsTold a xs b → IsToldPart a xs b
+told_whole a b xs told = (length xs, omega arith, subst (λ (l : List ℕ). IsTold a l b) (sym (take_all (length xs) xs (omega arith))) told)
+
+pub told_part_nothing : (a : Stream) (xs : List ℕ) → IsToldPart a xs a
+told_part_nothing a xs = (0, omega arith, told_nothing a)
+
+pub told_part_after : (a b c : Stream) (xs ys : List ℕ) → IsTold a xs b → IsToldPart b ys c → IsToldPart a (xs ++ ys) c
+told_part_after a b c xs ys told (n, le, part) = (
+  length xs + n,
   omega (arith, length-append xs ys, le),
-  subst (Appends a c) (append-nil (take n xs) ∙ sym (take-append-le n xs ys le)) (Appends-again a b c (take n xs) [] h k),
+  subst (λ (l : List ℕ). IsTold a l c) (sym (take-append-add xs ys n)) (told_again a b c xs (take n ys) told part),
 )
 
-pub TakesBy-none : (f : Bool) (a : Option (List ℕ)) → TakesBy f f a a []
-TakesBy-none false a = Appends-none a
-TakesBy-none true a = Appends-none a
-
-pub TakesBy-again : (f g h : Bool) (a b c : Option (List ℕ)) (xs ys : List ℕ) → TakesBy f g a b xs → TakesBy g h b c ys → TakesBy f h a c (xs ++ ys)
-TakesBy-again false false false a b c xs ys x y = Appends-again a b c xs ys x y
-TakesBy-again false false true a b c xs ys x y =
-    subst (λ (l : List ℕ). AppendsPrefix a c (xs ++ l)) (append-nil ys) (AppendsPrefix-behind a b c xs ys [] x y)
-TakesBy-again false true false a b c xs ys x y = absurd y
-TakesBy-again false true true a b c xs ys x y = AppendsPrefix-then a b c xs ys x y
-TakesBy-again true false h a b c xs ys x y = absurd x
-TakesBy-again true true false a b c xs ys x y = absurd y
-TakesBy-again true true true a b c xs ys x y = Appends-again a b c [] [] x y
-
--- what a stream that hasn't failed takes by one call
-pub taken : (r : Result (Unit {0}) RunError) (f g : Bool) (a b : Option (List ℕ)) (bytes message : List ℕ) → f ≡ false → bytes ≡ message
-    → OnOk r (Appends a b bytes) → OnOk r (g ≡ false) → OnErr r (AppendsPrefix a b bytes) → OnErr r (g ≡ true) → TakesBy f g a b message
-taken r f g a b bytes message was same ok good part bad =
-    subst (λ (m : List ℕ). TakesBy f g a b m) same (subst (λ (h : Bool). TakesBy h g a b bytes) (sym was) (by r ok good part bad))
-  where
-    by : (r : Result (Unit {0}) RunError) → OnOk r (Appends a b bytes) → OnOk r (g ≡ false) → OnErr r (AppendsPrefix a b bytes) → OnErr r (g ≡ true) → TakesBy false g a b bytes
-    by (Ok x) ok good part bad = subst (λ (h : Bool). TakesBy false h a b bytes) (sym good) ok
-    by (Err e) ok good part bad = subst (λ (h : Bool). TakesBy false h a b bytes) (sym bad) part
-
--- it takes nothing if it has failed
-pub taken_before : (f : Bool) (a : Option (List ℕ)) (bytes : List ℕ) → f ≡ true → TakesBy f f a a bytes
-taken_before true a bytes was = Appends-none a
-taken_before false a bytes was = absurd (cc)
+pub told_part_first : (a b : Stream) (xs ys : List ℕ) → IsToldPart a xs b → IsToldPart a (xs ++ ys) b
+told_part_first a b xs ys (n, le, part) =
+    (n, omega (arith, length-append xs ys, le), subst (λ (l : List ℕ). IsTold a l b) (sym (take-append-le n xs ys le)) part)
 
 -- ---- what is answered
 
-pub Answered-again : {W E : Type 0} (written : W → Option (List ℕ)) (said : E → Option (List ℕ)) (o1 o2 o3 : Watch W) (e1 e2 e3 : Watch E) (s t : ℕ) (a b : Answer)
-    → Answered written said o1 o2 e1 e2 s a → Answered written said o2 o3 e2 e3 t b → Answered written said o1 o3 e1 e3 (max s t) (followed a b)
-Answered-again written said o1 o2 o3 e1 e2 e3 s t a b (s_is, (o_is, e_is)) (t_is, (p_is, f_is)) = (
-  ap (λ (n : ℕ). max n t) s_is ∙ ap (λ (n : ℕ). max a.status n) t_is,
+-- one answer, and then one of these
+abbrev pub Then : Answer → (Answer → Type 0) → Answer → Type 0
+Then first Is answer = (own : Answer) × (Is own × (answer ≡ followed first own))
+
+pub Gives-nothing : (c : Console) → Gives c silence c
+Gives-nothing c = record { out = Takes-nothing c.out; err = told_nothing c.err }
+
+pub Gives-again : (a b c : Console) (x y : Answer) → Gives a x b → Gives b y c → Gives a (followed x y) c
+Gives-again a b c x y g h = record {
+  out = takes_again a.out b.out c.out x.out y.out g.out h.out;
+  err = told_again a.err b.err c.err x.err y.err g.err h.err;
+}
+
+-- what is said is an answer
+pub Gives-said : (a b : Console) (said : List ℕ) → Says a said b → Gives a (remark said) b
+Gives-said a b said (told, same) =
+    record { out = subst (λ (s : Stream). Takes a.out [] s) (sym same) (Takes-nothing a.out); err = told }
+
+-- what is written is one
+pub Gives-written : (a b : Console) (bytes : List ℕ) → Writes a bytes b → Gives a (record { status = 0; out = bytes; err = [] }) b
+Gives-written a b bytes (takes, same) =
+    record { out = takes; err = subst (λ (s : Stream). IsTold a.err [] s) (sym same) (told_nothing a.err) }
+
+pub Answers-weaker : (P Q : Answer → Type 0) (a b : Console) (status : ℕ) → ((x : Answer) → P x → Q x) → Answers P a status b → Answers Q a status b
+Answers-weaker P Q a b status then (x, (is, given)) = (x, (then x is, given))
+
+pub Answers-after : (P : Answer → Type 0) (a b c : Console) (status : ℕ) (said : List ℕ) → Says a said b → Answers P b status c → Answers (Then (remark said) P) a status c
+Answers-after P a b c status said says (x, (is, (status_is, given))) =
+    (followed (remark said) x, ((x, (is, refl)), (omega (arith, status_is), Gives-again a b c (remark said) x (Gives-said a b said says) given)))
+
+-- ---- what fails
+
+pub Fails-weaker : (P Q : Answer → Type 0) (a b : Console) (e : RunError) → ((x : Answer) → P x → Q x) → Fails P a e b → Fails Q a e b
+Fails-weaker P Q a b e then (x, (inl none, parts)) = (x, (inl none, parts))
+Fails-weaker P Q a b e then (x, (inr is, parts)) = (x, (inr (then x is), parts))
+
+-- nothing was given yet
+pub fails_at_once : (P : Answer → Type 0) (a : Console) → Fails P a OutOfMemory a
+fails_at_once P a = (silence, (inl refl, ((refl, AppendsPrefix-front a.out.bytes a.out.bytes [] [] (Appends-none a.out.bytes)), told_part_nothing a.err [])))
+
+-- an answer was given, and then one of these, or none, was begun
+pub Fails-after : (P : Answer → Type 0) (a b c : Console) (first : Answer) (e : RunError) → Gives a first b → Fails P b e c → Fails (Then first (Begins P)) a e c
+Fails-after P a b c first e g (x, (begins, (out, err))) = (
+  followed first x,
   (
-    Appends-again (written o1.inner) (written o2.inner) (written o3.inner) a.out b.out o_is p_is,
-    TakesBy-again e1.failed e2.failed e3.failed (said e1.inner) (said e2.inner) (said e3.inner) a.err b.err e_is f_is,
+    inr (x, (begins, refl)),
+    (takes_part a.out b.out c.out first.out x.out e g.out out, told_part_after a.err b.err c.err first.err x.err g.err err),
   ),
 )
 
--- nothing is written or said
-pub Answered-nothing : {W E : Type 0} (written : W → Option (List ℕ)) (said : E → Option (List ℕ)) (o : Watch W) (e : Watch E) → Answered written said o o e e 0 silence
-Answered-nothing written said o e = (refl, (Appends-none (written o.inner), TakesBy-none e.failed (said e.inner)))
+-- it was begun itself, and none of the others
+pub Fails-first : (P : Answer → Type 0) (a b : Console) (first : Answer) (e : RunError) → Fails (λ x. x ≡ first) a e b → Fails (Then first (Begins P)) a e b
+Fails-first P a b first e (x, (inl none, parts)) = (x, (inl none, parts))
+Fails-first P a b first e (x, (inr is, parts)) = (x, (inr (silence, (inl refl, is ∙ sym (followed-silence first))), parts))
 
--- something is said, and then this is answered
-pub Answered-behind : {W E : Type 0} (written : W → Option (List ℕ)) (said : E → Option (List ℕ)) (o p : Watch W) (e m f : Watch E) (message : List ℕ) (status : ℕ) (a : Answer)
-    → Takes said e m message → Answered written said o p m f status a → Answered written said o p e f status (followed (remark message) a)
-Answered-behind written said o p e m f message status a takes (s_is, (o_is, e_is)) = (
-  omega (arith, s_is),
-  (o_is, TakesBy-again e.failed m.failed f.failed (said e.inner) (said m.inner) (said f.inner) message a.err takes e_is),
-)
+pub Fails-begins : (P : Answer → Type 0) (a b : Console) (e : RunError) → Fails (Begins P) a e b → Fails P a e b
+Fails-begins P a b e (x, (inl none, parts)) = (x, (inl none, parts))
+Fails-begins P a b e (x, (inr begins, parts)) = (x, (begins, parts))
 
-pub answered_behind : {W E : Type 0} (r : Result ℕ RunError) (IsFor : Answer → Type 0) (written : W → Option (List ℕ)) (said : E → Option (List ℕ)) (o p : Watch W) (e m f : Watch E) (message : List ℕ)
-    → Takes said e m message → IfOk r (λ status. (answer : Answer) × (IsFor answer × Answered written said o p m f status answer))
-    → IfOk r (λ status. (answer : Answer) × (((own : Answer) × (IsFor own × (answer ≡ followed (remark message) own))) × Answered written said o p e f status answer))
-answered_behind r IsFor written said o p e m f message takes h =
-    IfOk-weaker r _ _
-    (λ status x. (followed (remark message) x.0, ((x.0, (x.1.0, refl)), Answered-behind written said o p e m f message status x.0 takes x.1.1)))
-    h
-
--- only a message
-pub Answered-refusal : {W E : Type 0} (written : W → Option (List ℕ)) (said : E → Option (List ℕ)) (o : Watch W) (e f : Watch E) (status : ℕ) (message : List ℕ)
-    → Takes said e f message → Answered written said o o e f status (refusal status message)
-Answered-refusal written said o e f status message takes = (refl, (Appends-none (written o.inner), takes))
-
-pub refused_answered : {W E : Type 0} (r : Result ℕ RunError) (Is : Answer → Type 0) (status : ℕ) (message : List ℕ) (written : W → Option (List ℕ)) (said : E → Option (List ℕ)) (o : Watch W)
-    (e f : Watch E) → Is (refusal status message) → IfOk r (λ s. s ≡ status) → OnOk r (Takes said e f message)
-    → IfOk r (λ s. (answer : Answer) × (Is answer × Answered written said o o e f s answer))
-refused_answered (Err error) Is status message written said o e f is same takes = tt
-refused_answered (Ok s) Is status message written said o e f is same takes = (refusal status message, (is, (same, (Appends-none (written o.inner), takes))))
-
--- what was refused is answered, since nothing is written
-pub Answered-refused : {W E : Type 0} (written : W → Option (List ℕ)) (said : E → Option (List ℕ)) (o : Watch W) (e f : Watch E) (status : ℕ) (answer : Answer)
-    → Refused said e f status answer → Answered written said o o e f status answer
-Answered-refused written said o e f status answer (s, (none, takes)) =
-    (s, (subst (λ (bytes : List ℕ). Appends (written o.inner) (written o.inner) bytes) (sym none) (Appends-none (written o.inner)), takes))
-
-pub ok_and : {A E : Type 0} (r : Result A E) (P Q : A → Type 0) → IfOk r P → IfOk r Q → IfOk r (λ x. P x × Q x)
-ok_and (Ok x) P Q p q = (p, q)
-ok_and (Err e) P Q p q = tt
-
--- ---- files
-
--- a file gave no bytes
-pub none_read : {E : Type 0} (Gives : List ℕ → Given → Type 0) (IsFor : List ℕ → List ℕ → Answer → Type 0) (file : List ℕ) (said : E → Option (List ℕ)) (e f : Watch E)
-    → (reason : List ℕ) × (Gives file (Err reason) × Takes said e f (about file reason))
-    → (answer : Answer) × (Reads Gives IsFor file answer × Refused said e f 6 answer)
-none_read Gives IsFor file said e f (reason, (gives, takes)) = (refusal 6 (about file reason), (inl (reason, (gives, refl)), (refl, (refl, takes))))
-
-pub none_answered : {W E : Type 0} (Gives : List ℕ → Given → Type 0) (IsFor : List ℕ → List ℕ → Answer → Type 0) (file : List ℕ) (written : W → Option (List ℕ)) (said : E → Option (List ℕ))
-    (o : Watch W) (e f : Watch E) → (reason : List ℕ) × (Gives file (Err reason) × Takes said e f (about file reason))
-    → (answer : Answer) × (Reads Gives IsFor file answer × Answered written said o o e f 6 answer)
-none_answered Gives IsFor file written said o e f (reason, (gives, takes)) =
-    (refusal 6 (about file reason), (inl (reason, (gives, refl)), Answered-refusal written said o e f 6 (about file reason) takes))
-
--- a file gave bytes, with this answer
-pub some_answered : {W E : Type 0} (r : Result ℕ RunError) (Gives : List ℕ → Given → Type 0) (IsFor : List ℕ → List ℕ → Answer → Type 0) (file bytes slice : List ℕ) (written : W → Option (List ℕ))
-    (said : E → Option (List ℕ)) (o p : Watch W) (e m f : Watch E) → Gives file (Ok bytes) → slice ≡ bytes → m ≡ e
-    → IfOk r (λ status. (answer : Answer) × (IsFor file slice answer × Answered written said o p m f status answer))
-    → IfOk r (λ status. (answer : Answer) × (Reads Gives IsFor file answer × Answered written said o p e f status answer))
-some_answered {W} {E} r Gives IsFor file bytes slice written said o p e m f gives same quiet h =
-    IfOk-weaker r _ _
-    (λ status x. (
-      x.0,
-      (
-        inr (bytes, (gives, subst (λ (b : List ℕ). IsFor file b x.0) same x.1.0)),
-        subst (λ (w : Watch E). Answered written said o p w f status x.0) quiet x.1.1,
-      ),
-    ))
-    h
-
--- ---- what is read
-
--- what is read of a file that was opened is what the file gives
-pub opening : {R : Type 0} (remaining : R → Option (List ℕ)) (fresh old new : Watch R) (Gives : Reading → Type 0) → old ≡ fresh
-    → ((w : Watch R) (reading : Reading) → StreamGives remaining fresh w reading → Gives reading) → (reading : Reading) → StreamGives remaining old new reading → Gives reading
-opening {R} remaining fresh old new Gives same opens reading given = opens new reading (subst (λ (w : Watch R). StreamGives remaining w new reading) same given)
-
-pub whole_given : {V : Type 0} (r : Result (Option V) RunError) (items : V → List ℕ) (Here : Reading → Type 0) (Gives : List ℕ → Reading → Type 0) (name : List ℕ)
-    → ((reading : Reading) → Here reading → Gives name reading) → IfOk r (λ found. IfSome found (λ v. Here (record { bytes = items v; end = AtEnd })))
-    → IfOk r (λ found. IfSome found (λ v. GivesWhole Gives name (Ok (items v))))
-whole_given (Err error) items Here Gives name opens h = tt
-whole_given (Ok None) items Here Gives name opens h = tt
-whole_given (Ok (Some v)) items Here Gives name opens h = opens (record { bytes = items v; end = AtEnd }) h
-
-pub unread_given : {V E : Type 0} (r : Result (Option V) RunError) (Here : Reading → Type 0) (Gives : List ℕ → Reading → Type 0) (name : List ℕ) (said : E → Option (List ℕ)) (e f : Watch E)
-    → ((reading : Reading) → Here reading → Gives name reading)
-    → IfOk r (λ found. IfNone found ((bytes : List ℕ) × (Here (record { bytes = bytes; end = Failed }) × Takes said e f (about name (codes "read failed")))))
-    → IfOk r (λ found. IfNone found ((reason : List ℕ) × (GivesWhole Gives name (Err reason) × Takes said e f (about name reason))))
-unread_given (Err error) Here Gives name said e f opens h = tt
-unread_given (Ok (Some v)) Here Gives name said e f opens h = tt
-unread_given (Ok None) Here Gives name said e f opens (bytes, (given, takes)) =
-    (codes "read failed", (inr (bytes, (opens (record { bytes = bytes; end = Failed }) given, refl)), takes))
-
--- it has the same answer
-pub file_answered : {W E : Type 0} (r : Result ℕ RunError) (Here Gives : Reading → Type 0) (IsFor : List ℕ → Reading → Answer → Type 0) (file : List ℕ) (written : W → Option (List ℕ))
-    (said : E → Option (List ℕ)) (o p : Watch W) (e f : Watch E) → ((reading : Reading) → Here reading → Gives reading)
-    → IfOk r (λ status. (answer : Answer) × (ReadAnswer Here (IsFor file) answer × Answered written said o p e f status answer))
-    → IfOk r (λ status. (answer : Answer) × (ReadAnswer Gives (ReadingAnswer IsFor file) answer × Answered written said o p e f status answer))
-file_answered r Here Gives IsFor file written said o p e f opens h =
-    IfOk-weaker r _ _ (λ status x. (x.0, ((x.1.0.0, (opens x.1.0.0 x.1.0.1.0, inr x.1.0.1.1)), x.1.1))) h
-
--- it wasn't opened
-pub unopened : {W E : Type 0} (Gives : Reading → Type 0) (IsFor : List ℕ → Reading → Answer → Type 0) (file reason : List ℕ) (written : W → Option (List ℕ)) (said : E → Option (List ℕ))
-    (o : Watch W) (e f : Watch E) → Gives (record { bytes = []; end = NotOpened reason }) → Takes said e f (about file reason)
-    → (answer : Answer) × (ReadAnswer Gives (ReadingAnswer IsFor file) answer × Answered written said o o e f 6 answer)
-unopened Gives IsFor file reason written said o e f gives takes = (
-  refusal 6 (about file reason),
+-- a part of what was to be said
+pub Fails-said : (a b : Console) (said : List ℕ) (e : RunError) → (e ≡ OutOfMemory) × IsToldPart a.err said b.err → b.out ≡ a.out → Fails (λ x. x ≡ remark said) a e b
+Fails-said a b said e (memory, part) same = (
+  remark said,
   (
-    (record { bytes = []; end = NotOpened reason }, (gives, inl (reason, (refl, refl)))),
-    Answered-refusal written said o e f 6 (about file reason) takes,
-  ),
-)
-
--- one more of the files
-pub files_more : {T I : Type 0} (Own : ℕ → I → I → List ℕ → Answer → Type 0) (text : T → List ℕ) (names : List T) (at : ℕ) (d : T) (file : List ℕ) (i j k : I)
-    (before own : Answer) → at < length names → file ≡ text (get_or names at d) → FilesAnswer Own 1 i j (map text (take at names)) before
-    → Own (at + 1) j k file own → FilesAnswer Own 1 i k (map text (take (at + 1) names)) (followed before own)
-files_more Own text names at d file i j k before own within is files one =
-    let number : at + 1 ≡ 1 + length (map text (take at names)) = omega (arith, length-map (take at names) text, length-take-le at names (omega (arith, within))) in
-    rw (take_more names at d within, map-append)
-    (FilesAnswer-more Own 1 (at + 1) i j k (map text (take at names)) (text (get_or names at d)) before own number files
-    (subst (λ (f : List ℕ). Own (at + 1) j k f own) is one))
-
--- a file gave bytes, for which this was refused
-pub some_refused : {L E : Type 0} (r : Result (Result L ℕ) RunError) (Gives : List ℕ → Given → Type 0) (IsFor : List ℕ → List ℕ → Answer → Type 0) (file bytes slice : List ℕ)
-    (said : E → Option (List ℕ)) (e m f : Watch E) → Gives file (Ok bytes) → slice ≡ bytes → m ≡ e
-    → IfOk r (λ found. IfErr found (λ status. (answer : Answer) × (IsFor file slice answer × Refused said m f status answer)))
-    → IfOk r (λ found. IfErr found (λ status. (answer : Answer) × (Reads Gives IsFor file answer × Refused said e f status answer)))
-some_refused (Err x) Gives IsFor file bytes slice said e m f gives same quiet h = tt
-some_refused (Ok (Ok x)) Gives IsFor file bytes slice said e m f gives same quiet h = tt
-some_refused {L} {E} (Ok (Err status)) Gives IsFor file bytes slice said e m f gives same quiet (answer, (is, refused)) = (
-  answer,
-  (
-    inr (bytes, (gives, subst (λ (b : List ℕ). IsFor file b answer) same is)),
-    subst (λ (w : Watch E). Refused said w f status answer) quiet refused,
-  ),
-)
-
--- something was said, and then this was refused
-pub refused_behind : {L E : Type 0} (r : Result (Result L ℕ) RunError) (Is : Answer → Type 0) (said : E → Option (List ℕ)) (e m f : Watch E) (message : List ℕ)
-    → Takes said e m message → IfOk r (λ found. IfErr found (λ status. (answer : Answer) × (Is answer × Refused said m f status answer)))
-    → IfOk r (λ found. IfErr found (λ status. (answer : Answer) × (((own : Answer) × (Is own × (answer ≡ followed (remark message) own))) × Refused said e f status answer)))
-refused_behind (Err x) Is said e m f message takes h = tt
-refused_behind (Ok (Ok x)) Is said e m f message takes h = tt
-refused_behind (Ok (Err status)) Is said e m f message takes (own, (is, (s, (none, takes_own)))) = (
-  followed (remark message) own,
-  (
-    (own, (is, refl)),
+    inr refl,
     (
-      omega (arith, s),
-      (none, TakesBy-again e.failed m.failed f.failed (said e.inner) (said m.inner) (said f.inner) message own.err takes takes_own),
+      subst (λ (s : Stream). TakesPart a.out [] e s) (sym same)
+          (subst (λ (f : RunError). TakesPart a.out [] f a.out) (sym memory) (refl, AppendsPrefix-front a.out.bytes a.out.bytes [] [] (Appends-none a.out.bytes))),
+      part,
     ),
   ),
 )
 
-pub refused_weaker : {L E : Type 0} (r : Result (Result L ℕ) RunError) (P Q : Answer → Type 0) (said : E → Option (List ℕ)) (e f : Watch E) → ((answer : Answer) → P answer → Q answer)
-    → IfOk r (λ found. IfErr found (λ status. (answer : Answer) × (P answer × Refused said e f status answer)))
-    → IfOk r (λ found. IfErr found (λ status. (answer : Answer) × (Q answer × Refused said e f status answer)))
-refused_weaker (Err x) P Q said e f turn h = tt
-refused_weaker (Ok (Ok x)) P Q said e f turn h = tt
-refused_weaker (Ok (Err status)) P Q said e f turn (answer, (is, refused)) = (answer, (turn answer is, refused))
+-- what is said of an answer was said, and of what it writes a part was written
+pub Fails-written : (a b c : Console) (x : Answer) (e : RunError) → Says a x.err b → WritesPart b x.out e c → Fails (λ y. y ≡ x) a e c
+Fails-written a b c x e (told, same) (part, quiet) = (
+  x,
+  (
+    inr refl,
+    (
+      subst (λ (s : Stream). TakesPart s x.out e c.out) same part,
+      subst (λ (s : Stream). IsToldPart a.err x.err s) (sym quiet) (told_whole a.err b.err x.err told),
+    ),
+  ),
+)
+
+-- of an answer that says what was to be said first, a part
+pub Fails-saying : (a b : Console) (x : Answer) (e : RunError) → Fails (λ y. y ≡ remark x.err) a e b → Fails (λ y. y ≡ x) a e b
+Fails-saying a b x e (y, (inl none, parts)) = (y, (inl none, parts))
+Fails-saying a b x e (y, (inr is, (out, err))) = (
+  x,
+  (
+    inr refl,
+    (
+      TakesPart-first a.out b.out [] x.out e (subst (λ (l : List ℕ). TakesPart a.out l e b.out) (ap (λ (z : Answer). z.out) is) out),
+      subst (λ (l : List ℕ). IsToldPart a.err l b.err) (ap (λ (z : Answer). z.err) is) err,
+    ),
+  ),
+)
+
+-- memory was refused before anything was given
+pub fails_of_memory : (r : Result ℕ RunError) (P : Answer → Type 0) (a : Console) → IsErrAnd r (λ e. e ≡ OutOfMemory) → IfErr r (λ e. Fails P a e a)
+fails_of_memory (Ok x) P a is = absurd is
+fails_of_memory (Err e) P a is = subst (λ (f : RunError). Fails P a f a) (sym is) (fails_at_once P a)

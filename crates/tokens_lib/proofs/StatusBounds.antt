@@ -12,23 +12,22 @@ use Rattle.reports_lib.specs.Answer.{Answer, remark}
 use Rattle.reports_lib.specs.Compared.{DifferenceAnswer, text_status}
 use Rattle.reports_lib.specs.ReviewLines.{has_findings}
 use Rattle.reports_lib.specs.declared.layout.LineForm.{LineForm}
-use Rattle.tokens_lib.specs.FileAnswers.{Reads, shown_name, ReadingAnswer, NumberedAnswer, FilesAnswer, cut_files, TextsAnswer}
+use Rattle.tokens_lib.specs.FileAnswers.{BytesAnswer, shown_name, ReadingAnswer, NumberedAnswer, FilesAnswer, cut_files, TextsAnswer}
 use Rattle.tokens_lib.specs.Checked.{CheckAnswer, finding}
 use Rattle.tokens_lib.specs.Emitted.{SourceAnswer}
 use Rattle.tokens_lib.specs.Pictured.{PictureAnswer}
 use Rattle.tokens_lib.specs.NamedRules.{rules_status, RulesTold, RulesOf, LexerOf, clashes_status, ClashesAnswer}
-use Rattle.tokens_lib.specs.Program.{ActionAnswer, CommandAnswer, ComparedAnswer, LexerAnswer, other_of}
+use Rattle.tokens_lib.specs.Program.{ActionAnswer, CommandAnswer, ComparedAnswer, other_of}
 use Rattle.tokens_lib.specs.WarningsSaid.{is_said}
 use Rattle.tokens_lib.specs.Progress.{total_said}
-use Rattle.tokens_lib.specs.Streams.{Given, Reading, GivesWhole}
-use Rattle.tokens_lib.specs.TextAnswer.{cut_status, CutAnswer, lines_of, PiecesAnswer, PiecesPart, PageAnswer, PagePart}
+use Rattle.tokens_lib.specs.Streams.{Given, Reading, Stream, GivesWhole}
+use Rattle.tokens_lib.specs.TextAnswer.{cut_status, CutAnswer, lines_of, page_of, PiecesAnswer, PiecesPart, PageAnswer, PagePart}
 use Rattle.tokens_lib.specs.declared.command.Command.{Command}
 use Rattle.tokens_lib.specs.declared.command.Language.{Language}
 use Rattle.tokens_lib.specs.declared.command.Markup.{Markup}
 use Rattle.tokens_lib.specs.declared.cut_end.CutEnd.{CutEnd}
 use Rattle.tokens_lib.specs.declared.cut_end.CutEnd.TheVariants.{Whole, Stopped, Broken}
 use Rattle.lalrpop_rules.specs.declared.item.Item.{Item}
-use Rattle.tokens_lib.specs.PageWritten.{page_of}
 use Rattle.tokens_lib.specs.declared.command.Action.{Action}
 use Rattle.tokens_lib.specs.declared.command.Action.TheVariants.{Cut, Show, Clashes, Emit, Picture, Check, Difference}
 use Rattle.tokens_lib.specs.declared.command.Command.TheVariants.{Help, Version, Run}
@@ -57,7 +56,7 @@ rules_low (errors.Clash m i j w) = omega arith
 rules_low errors.OutOfMemory = omega arith
 
 reads_low : (Gives : List ℕ → Given → Type 0) (IsFor : List ℕ → List ℕ → Answer → Type 0) (file : List ℕ) (answer : Answer)
-    → ((bytes : List ℕ) (a : Answer) → IsFor file bytes a → IsLow a) → Reads Gives IsFor file answer → IsLow answer
+    → ((bytes : List ℕ) (a : Answer) → IsFor file bytes a → IsLow a) → BytesAnswer Gives IsFor file answer → IsLow answer
 reads_low Gives IsFor file answer each (inl (reason, (gives, e))) = low answer _ e (omega arith)
 reads_low Gives IsFor file answer each (inr (bytes, (gives, is))) = each bytes answer is
 
@@ -66,27 +65,27 @@ reading_low : (IsFor : List ℕ → Reading → Answer → Type 0) (file : List 
 reading_low IsFor file reading answer each (inl (reason, (unopened, e))) = low answer _ e (omega arith)
 reading_low IsFor file reading answer each (inr is) = each file reading answer is
 
-numbered_low : {I : Type 0} (Gives : List ℕ → Reading → Type 0) (InputGives : I → I → Reading → Type 0) (IsFor : List ℕ → Reading → Answer → Type 0) (total : Option ℕ) (number : ℕ) (i j : I)
+numbered_low : (Gives : List ℕ → Reading → Type 0) (IsFor : List ℕ → Reading → Answer → Type 0) (total : Option ℕ) (number : ℕ) (i j : Stream)
     (file : List ℕ) (answer : Answer) → ((name : List ℕ) (read : Reading) (a : Answer) → IsFor name read a → IsLow a)
-    → NumberedAnswer Gives InputGives (ReadingAnswer IsFor) total number i j file answer → IsLow answer
-numbered_low Gives InputGives IsFor total number i j file answer each (own, ((reading, (gives, is)), e)) =
+    → NumberedAnswer Gives (ReadingAnswer IsFor) total number i j file answer → IsLow answer
+numbered_low Gives IsFor total number i j file answer each (own, ((reading, (gives, is)), e)) =
     let a : IsLow own = reading_low IsFor (shown_name file) reading own each is in
     low answer _ e (omega arith)
 
-files_low : {I : Type 0} (Own : ℕ → I → I → List ℕ → Answer → Type 0) (number : ℕ) (i k : I) (files : List (List ℕ)) (answer : Answer)
-    → ((n : ℕ) (x y : I) (file : List ℕ) (a : Answer) → Own n x y file a → IsLow a) → FilesAnswer Own number i k files answer → IsLow answer
+files_low : (Own : ℕ → Stream → Stream → List ℕ → Answer → Type 0) (number : ℕ) (i k : Stream) (files : List (List ℕ)) (answer : Answer)
+    → ((n : ℕ) (x y : Stream) (file : List ℕ) (a : Answer) → Own n x y file a → IsLow a) → FilesAnswer Own number i k files answer → IsLow answer
 files_low Own number i k [] answer each (same, e) = low answer _ e (omega arith)
 files_low Own number i k (file ∷ files) answer each (j, (own, (rest, (reads, (others, e))))) =
     let a : IsLow own = each number i j file own reads in
     let b : IsLow rest = files_low Own (number + 1) j k files rest each others in
     low answer _ e (omega arith)
 
-texts_low : {I : Type 0} (Gives : List ℕ → Reading → Type 0) (InputGives : I → I → Reading → Type 0) (i k : I) (verbosity : Verbosity) (IsFor PartFor : List ℕ → Reading → Answer → Type 0)
+texts_low : (Gives : List ℕ → Reading → Type 0) (i k : Stream) (verbosity : Verbosity) (IsFor PartFor : List ℕ → Reading → Answer → Type 0)
     (files : List (List ℕ)) (answer : Answer)
-    → ((name : List ℕ) (read : Reading) (a : Answer) → IsFor name read a → IsLow a) → TextsAnswer Gives InputGives i k verbosity IsFor PartFor files answer → IsLow answer
-texts_low Gives InputGives i k verbosity IsFor PartFor files answer each is =
-    files_low (NumberedAnswer Gives InputGives (ReadingAnswer IsFor) (total_said verbosity (length files))) 1 i k (cut_files files) answer
-    (λ n x y file a own. numbered_low Gives InputGives IsFor (total_said verbosity (length files)) n x y file a each own) is
+    → ((name : List ℕ) (read : Reading) (a : Answer) → IsFor name read a → IsLow a) → TextsAnswer Gives i k verbosity IsFor PartFor files answer → IsLow answer
+texts_low Gives i k verbosity IsFor PartFor files answer each is =
+    files_low (NumberedAnswer Gives (ReadingAnswer IsFor) (total_said verbosity (length files))) 1 i k (cut_files files) answer
+    (λ n x y file a own. numbered_low Gives IsFor (total_said verbosity (length files)) n x y file a each own) is
 
 -- what is said of the file has a low status, and so has what is answered for its rules
 rules_told_low : (told : List ℕ → Answer) (verbosity : Verbosity) (IsFor : List ℕ → List (List ℕ) → List (List ℕ) → List ModeRule → Answer → Type 0) (file bytes : List ℕ) (answer : Answer)
@@ -107,7 +106,7 @@ lexer_low IsFor file ls modes rs answer each (inl (error, (is, (places, (are, (s
 lexer_low IsFor file ls modes rs answer each (inr (set, (is, done))) = each set modes answer done
 
 by_rules_low : (verbosity : Verbosity) (Gives : List ℕ → Given → Type 0) (IsFor : ModeRules → List (List ℕ) → Answer → Type 0) (rules : List ℕ) (answer : Answer)
-    → ((set : ModeRules) (names : List (List ℕ)) (a : Answer) → IsFor set names a → IsLow a) → Reads Gives (RulesOf verbosity (LexerOf IsFor)) rules answer → IsLow answer
+    → ((set : ModeRules) (names : List (List ℕ)) (a : Answer) → IsFor set names a → IsLow a) → BytesAnswer Gives (RulesOf verbosity (LexerOf IsFor)) rules answer → IsLow answer
 by_rules_low verbosity Gives IsFor rules answer each reads =
     reads_low Gives (RulesOf verbosity (LexerOf IsFor)) rules answer
     (λ bytes a is. rules_of_low verbosity (LexerOf IsFor) rules bytes a (λ ls modes rs b said. lexer_low IsFor rules ls modes rs b each said) is) reads
@@ -162,41 +161,34 @@ compared_low : (Gives : List ℕ → Given → Type 0) (verbosity : Verbosity) (
 compared_low Gives verbosity rules set modes other answer is =
     by_rules_low verbosity Gives (λ new others. DifferenceAnswer rules set modes other new others) other answer (λ new others a told. difference_low rules set modes other new others a told) is
 
-lexer_answer_low : {I : Type 0} (Gives : List ℕ → Given → Type 0) (Read_of : List ℕ → Reading → Type 0) (InputGives : I → I → Reading → Type 0) (i k : I) (verbosity : Verbosity) (action : Action) (rules : List ℕ)
-    (files : List (List ℕ)) (set : ModeRules) (modes : List (List ℕ)) (answer : Answer) → LexerAnswer Gives (TextsAnswer Read_of InputGives i k) verbosity action rules files set modes answer → IsLow answer
-lexer_answer_low Gives Read_of InputGives i k verbosity (Cut form recovers) rules files set modes answer texts =
-    let several = nat_lt 1 (length files) in
-    texts_low Read_of InputGives i k verbosity (PiecesAnswer set modes form recovers several) (PiecesPart set modes form recovers several) files answer (pieces_low set modes form recovers several) texts
-lexer_answer_low Gives Read_of InputGives i k verbosity (Show markup) rules files set modes answer texts =
-    texts_low Read_of InputGives i k verbosity (PageAnswer set modes markup) (PagePart set modes markup) files answer (page_low set modes markup) texts
-lexer_answer_low Gives Read_of InputGives i k verbosity (Emit language) rules files set modes answer written = source_low language rules set answer written
-lexer_answer_low Gives Read_of InputGives i k verbosity Picture rules files set modes answer drawn = picture_low rules (slice_get files 0) set answer drawn
-lexer_answer_low Gives Read_of InputGives i k verbosity Difference rules files set modes answer told = compared_low Gives verbosity rules set modes (other_of files) answer told
-lexer_answer_low Gives Read_of InputGives i k verbosity Clashes rules files set modes answer none = absurd none
-lexer_answer_low Gives Read_of InputGives i k verbosity (Check form) rules files set modes answer none = absurd none
-
--- any action, if that of a lexer has a low status
-action_low : (Gives : List ℕ → Given → Type 0) (texts : Verbosity → (List ℕ → Reading → Answer → Type 0) → (List ℕ → Reading → Answer → Type 0) → List (List ℕ) → Answer → Type 0)
-    (verbosity : Verbosity) (action : Action) (rules : List ℕ) (files : List (List ℕ)) (answer : Answer)
-    → ((set : ModeRules) (names : List (List ℕ)) (a : Answer) → LexerAnswer Gives texts verbosity action rules files set names a → IsLow a)
-    → ActionAnswer Gives texts verbosity action rules files answer → IsLow answer
-action_low Gives texts verbosity Clashes rules files answer each is =
+-- any action
+action_low : (Gives : List ℕ → Given → Type 0) (Read_of : List ℕ → Reading → Type 0) (i k : Stream) (verbosity : Verbosity) (action : Action) (rules : List ℕ) (files : List (List ℕ))
+    (answer : Answer) → ActionAnswer Gives (TextsAnswer Read_of i k) verbosity action rules files answer → IsLow answer
+action_low Gives Read_of i k verbosity Clashes rules files answer is =
     reads_low Gives (RulesOf verbosity ClashesAnswer) rules answer (λ bytes a said. rules_of_low verbosity ClashesAnswer rules bytes a (list_low rules) said) is
-action_low Gives texts verbosity (Check form) rules files answer each is =
+action_low Gives Read_of i k verbosity (Check form) rules files answer is =
     reads_low Gives (RulesTold finding verbosity (CheckAnswer form)) rules answer
     (λ bytes a said. rules_told_low finding verbosity (CheckAnswer form) rules bytes a (check_low form rules) (λ words. one_low (is_said words)) said) is
-action_low Gives texts verbosity (Cut form recovers) rules files answer each is = by_rules_low verbosity Gives (LexerAnswer Gives texts verbosity (Cut form recovers) rules files) rules answer each is
-action_low Gives texts verbosity (Show markup) rules files answer each is = by_rules_low verbosity Gives (LexerAnswer Gives texts verbosity (Show markup) rules files) rules answer each is
-action_low Gives texts verbosity (Emit language) rules files answer each is = by_rules_low verbosity Gives (LexerAnswer Gives texts verbosity (Emit language) rules files) rules answer each is
-action_low Gives texts verbosity Picture rules files answer each is = by_rules_low verbosity Gives (LexerAnswer Gives texts verbosity Picture rules files) rules answer each is
-action_low Gives texts verbosity Difference rules files answer each is = by_rules_low verbosity Gives (LexerAnswer Gives texts verbosity Difference rules files) rules answer each is
+action_low Gives Read_of i k verbosity (Cut form recovers) rules files answer is =
+    let several = nat_lt 1 (length files) in
+    by_rules_low verbosity Gives (λ r modes. TextsAnswer Read_of i k verbosity (PiecesAnswer r modes form recovers several) (PiecesPart r modes form recovers several) files) rules answer
+    (λ r modes a texts. texts_low Read_of i k verbosity (PiecesAnswer r modes form recovers several) (PiecesPart r modes form recovers several) files a (pieces_low r modes form recovers several) texts) is
+action_low Gives Read_of i k verbosity (Show markup) rules files answer is =
+    by_rules_low verbosity Gives (λ r modes. TextsAnswer Read_of i k verbosity (PageAnswer r modes markup) (PagePart r modes markup) files) rules answer
+    (λ r modes a texts. texts_low Read_of i k verbosity (PageAnswer r modes markup) (PagePart r modes markup) files a (page_low r modes markup) texts) is
+action_low Gives Read_of i k verbosity (Emit language) rules files answer is =
+    by_rules_low verbosity Gives (λ r modes. SourceAnswer language rules r) rules answer (λ r modes a written. source_low language rules r a written) is
+action_low Gives Read_of i k verbosity Picture rules files answer is =
+    by_rules_low verbosity Gives (λ r modes. PictureAnswer rules (slice_get files 0) r) rules answer (λ r modes a drawn. picture_low rules (slice_get files 0) r a drawn) is
+action_low Gives Read_of i k verbosity Difference rules files answer is =
+    by_rules_low verbosity Gives (λ r modes. ComparedAnswer Gives verbosity rules r modes (other_of files)) rules answer
+    (λ r modes a told. compared_low Gives verbosity rules r modes (other_of files) a told) is
 
-pub command_low : {I : Type 0} (Gives : List ℕ → Reading → Type 0) (InputGives : I → I → Reading → Type 0) (i k : I) (command : Command) (answer : Answer)
-    → CommandAnswer (GivesWhole Gives) (TextsAnswer Gives InputGives i k) command answer → IsLow answer
-command_low Gives InputGives i k Help answer is = low answer _ is (omega arith)
-command_low Gives InputGives i k Version answer is = low answer _ is (omega arith)
-command_low Gives InputGives i k (Run action verbosity rules files) answer (own, (is, e)) =
+pub command_low : (Gives : List ℕ → Reading → Type 0) (i k : Stream) (command : Command) (answer : Answer)
+    → CommandAnswer (λ action verbosity rules files. ActionAnswer (GivesWhole Gives) (TextsAnswer Gives i k) verbosity action rules files) command answer → IsLow answer
+command_low Gives i k Help answer is = low answer _ is (omega arith)
+command_low Gives i k Version answer is = low answer _ is (omega arith)
+command_low Gives i k (Run action verbosity rules files) answer (own, (is, e)) =
     let names = map (λ file. file.now) files.items in
-    let a : IsLow own = action_low (GivesWhole Gives) (TextsAnswer Gives InputGives i k) verbosity action rules.now names own
-    (lexer_answer_low (GivesWhole Gives) Gives InputGives i k verbosity action rules.now names) is in
+    let a : IsLow own = action_low (GivesWhole Gives) Gives i k verbosity action rules.now names own is in
     low answer _ e (omega arith)

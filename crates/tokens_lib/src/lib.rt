@@ -31,12 +31,14 @@ pub use command::{Action, ArgumentsError, Command, Language, Markup, Verbosity, 
 pub use console::Console;
 pub use cut_end::{CutEnd, OpenMode, TextError};
 pub use files::{Files, NoBytes};
+pub use item_lines::write_items;
 pub use lalrpop_rule_file::{RuleFile, RuleFileError, Warning, read_rules};
 pub use lalrpop_rules::{
     Action as ModeAction, ModeRule, Rule, RuleLexer, RulesError, mode_clashes,
 };
+pub use page::write_page;
 pub use program::{run, run_program};
 pub use reports_lib::{
     Layout, LineForm, ModeFile, bad_line_message, clash_lines, rules_message, warnings_message,
 };
-pub use streams::{Reader, Sink, Source};
+pub use streams::{Reader, Sink, Source, System};

@@ -89,9 +89,16 @@ impl Sink for Vec<u8> {
     }
 }
 
-/// A stream of the system, whose calls may fail. None is tried again.
+/// A reader or a writer whose calls may fail, as those of the system. No call is tried again.
+///
+/// ```
+/// use tokens_lib::{Console, Reader, System};
+///
+/// let mut input = Reader::new(System(rt.reader()));
+/// let mut console = Console::new(System(io::writer(rt)), Vec::new(alloc));
+/// ```
 #[derive(Drop)]
-pub(crate) struct System<T>(pub T);
+pub struct System<T>(pub T);
 
 impl<R: Read + Drop> Source for System<R> {
     ghost left = { λ s. R.remaining s.0 };
@@ -152,6 +159,17 @@ impl<S: Source> Reader<S> {
             source,
             is_broken: false,
         }
+    }
+
+    /// The source.
+    pub fn into_source(self) -> S
+        ensures left { S.left result ≡ self.bytes }
+    {
+        let Reader {
+            source,
+            is_broken: _,
+        } = self;
+        source
     }
 
     /// Puts bytes at the front of `buf`, and returns their number: 0 only at the end, or if there is no room. None if a read
