@@ -13,6 +13,7 @@ file is cut no further, and the exit status is 1; so it is where a text ends in 
 import functools
 import re
 import sys
+import unicodedata
 import warnings
 from pathlib import Path
 
@@ -33,6 +34,9 @@ UNSEEN = re.compile(
 PROPERTIES = {
     "XID_Start": lambda c: c.isidentifier() and c != "_",
     "XID_Continue": lambda c: ("_" + c).isidentifier(),
+    "L": lambda c: unicodedata.category(c)[0] == "L",
+    "Nd": lambda c: unicodedata.category(c) == "Nd",
+    "Sc": lambda c: unicodedata.category(c) == "Sc",
 }
 
 
