@@ -20,7 +20,7 @@ INSERT INTO orders ("user", cents, note) VALUES
    ** the dearest first. */
 SELECT DISTINCT o.id, o.cents::int % 7 AS rest, b'101' & x'1F'::bit(3),
        o.note ->> 'a', o.note #>> '{a,b}', o.note @> '{}' AND o.note ? 'x',
-       CASE WHEN o.cents >= :least AND o."user" = :'name' THEN -1 ELSE |/ 4 || 'x' END "a ""b"""
+       CASE WHEN o.cents >= :least AND o."user" = :'name' THEN -1 ELSE |/ 4 #- '{a}' || 'x' END "a ""b"""
 FROM orders o
 LEFT JOIN LATERAL (SELECT count(*) FROM orders p WHERE p.id<o.id AND p.cents!=o.cents-1) n ON true
 WHERE o.größe[1:2] && ARRAY[1, 2] AND o."user" !~* '^o''h' AND NOT o.id IN ($1, $2)
