@@ -30,7 +30,7 @@ UNSEEN = re.compile(
     "\U0001bca0-\U0001bca3\U0001d173-\U0001d17a\U000e0000-\U000e0fff]"
 )
 
-# An identifier in Python is an underscore or a character of XID_Start, and then characters of XID_Continue.
+# An identifier in Python is an underscore or a character of XID_Start, and then characters of XID_Continue. The others are categories.
 PROPERTIES = {
     "XID_Start": lambda c: c.isidentifier() and c != "_",
     "XID_Continue": lambda c: ("_" + c).isidentifier(),
