@@ -13,6 +13,7 @@ file is cut no further, and the exit status is 1; so it is where a text ends in 
 import functools
 import re
 import sys
+import unicodedata
 import warnings
 from pathlib import Path
 
@@ -29,10 +30,13 @@ UNSEEN = re.compile(
     "\U0001bca0-\U0001bca3\U0001d173-\U0001d17a\U000e0000-\U000e0fff]"
 )
 
-# An identifier in Python is an underscore or a character of XID_Start, and then characters of XID_Continue.
+# An identifier in Python is an underscore or a character of XID_Start, and then characters of XID_Continue. The others are categories.
 PROPERTIES = {
     "XID_Start": lambda c: c.isidentifier() and c != "_",
     "XID_Continue": lambda c: ("_" + c).isidentifier(),
+    "L": lambda c: unicodedata.category(c)[0] == "L",
+    "Nd": lambda c: unicodedata.category(c) == "Nd",
+    "Sc": lambda c: unicodedata.category(c) == "Sc",
 }
 
 

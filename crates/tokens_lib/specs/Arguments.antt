@@ -1,6 +1,6 @@
 -- cases: proofs/Cases/Arguments.antt
 -- The options and the names among the arguments.
-use Rattle.std.specs.Prelude.{ℕ, ◌==◌, ◌||◌, Bool, not, List, [], ◌∷◌, ◌++◌, filter, codes, if◌then◌else◌}
+use Rattle.std.specs.Prelude.{ℕ, ◌==◌, ◌&&◌, ◌||◌, Bool, not, List, [], ◌∷◌, ◌++◌, filter, codes, if◌then◌else◌}
 use Rattle.std.specs.List.{before_first, after_first, starts_with}
 use Rattle.std.specs.Str.{bytes_eq}
 
@@ -8,9 +8,9 @@ use Rattle.std.specs.Str.{bytes_eq}
 abbrev pub is_end : List ℕ → Bool
 is_end word = bytes_eq word (codes "--")
 
--- the argument begins with two dashes
+-- the argument begins with a dash, and isn't the dash alone, which is the name of standard input
 abbrev pub is_option : List ℕ → Bool
-is_option word = starts_with ◌==◌ word (codes "--")
+is_option word = starts_with ◌==◌ word (codes "-") && not (bytes_eq word (codes "-"))
 
 -- the option has a value
 abbrev pub takes_value : List ℕ → Bool
@@ -25,10 +25,10 @@ joined (word ∷ next ∷ words) =
     else if takes_value word then (word ++ (codes "=" ++ next)) ∷ joined words
     else word ∷ joined (next ∷ words)
 
--- options are the arguments before the first `--` that begin with two dashes
+-- options are such arguments before the first `--`
 abbrev pub options : List (List ℕ) → List (List ℕ)
 options words = filter is_option (before_first is_end words)
 
--- names are the others, and all behind it
+-- names are the others, and all after it
 abbrev pub names : List (List ℕ) → List (List ℕ)
 names words = filter (λ word. not (is_option word)) (before_first is_end words) ++ after_first is_end words

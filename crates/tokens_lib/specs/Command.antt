@@ -76,7 +76,7 @@ is_known option = has action_options option || (has verbosity_options option || 
 abbrev pub unknown : List (List ℕ) → Option (List ℕ)
 unknown options = find (λ option. not (is_known option)) options
 
--- an action by a file of rules on the names behind it
+-- an action by a file of rules on the names after it
 abbrev pub IsFilesRun : Action → Verbosity → List ℕ → List (List ℕ) → Command → Type 0
 IsFilesRun action verbosity rules named (Run its_action its_verbosity its_rules files) =
     (its_action ≡ action) × ((its_verbosity ≡ verbosity) × ((its_rules.now ≡ rules) × (TakesNames action named × (map (λ file. file.now) files.items ≡ named))))
@@ -100,14 +100,22 @@ IsRunError options names (Apart apart) = (names ≢ []) × ((given options ≡ m
 IsRunError options names error =
     (action : Action) × ((given options ≡ options_of action) × ((rules : List ℕ) × ((named : List (List ℕ)) × ((names ≡ rules ∷ named) × IsFilesError action named error))))
 
--- neither the help nor the version is asked for
+-- the help is asked for
+abbrev pub asks_help : List (List ℕ) → Bool
+asks_help options = has options (codes "--help") || has options (codes "-h")
+
+-- the version is
+abbrev pub asks_version : List (List ℕ) → Bool
+asks_version options = has options (codes "--version") || has options (codes "-V")
+
+-- neither is asked for
 abbrev pub AsksNoHelp : List (List ℕ) → Type 0
-AsksNoHelp options = (has options (codes "--help") ≡ false) × (has options (codes "--version") ≡ false)
+AsksNoHelp options = (asks_help options ≡ false) × (asks_version options ≡ false)
 
 -- the options and the names ask for the command
 abbrev pub IsCommand : List (List ℕ) → List (List ℕ) → Command → Type 0
-IsCommand options names Help = has options (codes "--help") ≡ true
-IsCommand options names Version = (has options (codes "--help") ≡ false) × (has options (codes "--version") ≡ true)
+IsCommand options names Help = asks_help options ≡ true
+IsCommand options names Version = (asks_help options ≡ false) × (asks_version options ≡ true)
 IsCommand options names command = AsksNoHelp options × ((unknown options ≡ None) × IsRun options names command)
 
 -- they ask for none

@@ -15,7 +15,7 @@ pub(crate) struct Parted<'words> {
 fn is_option(word: &str) -> bool
     ensures { result ≡ is_option word.now }
 {
-    word.starts_with("--")
+    word.starts_with("-") && word != "-"
 }
 
 // Whether the argument ends the options.
@@ -40,7 +40,7 @@ fn with_value(alloc: Global, option: &str, value: &str) -> Result<String, AllocE
 }
 
 /// The arguments with each option that has a value, and its value, in one word: `--emit c` becomes `--emit=c`. What stands
-/// behind the first `--` stays as it is.
+/// after the first `--` stays as it is.
 ///
 /// # Errors
 ///
@@ -79,7 +79,7 @@ fn end_of(words: &[String]) -> usize
     words.len()
 }
 
-// The arguments before the first `--`, and those behind it.
+// The arguments before the first `--`, and those after it.
 fn around_end(words: &[String]) -> (&[String], &[String])
     ensures before { map string_bytes result.0.now
         ≡ before_first is_end (map string_bytes words.now) }
@@ -94,7 +94,7 @@ fn around_end(words: &[String]) -> (&[String], &[String])
     }
 }
 
-/// The options, which begin with two dashes and stand before the first `--`, and the names, which are all others.
+/// The options, which begin with a dash, are more than it and stand before the first `--`, and the names, which are all others.
 ///
 /// # Errors
 ///

@@ -1,7 +1,7 @@
 //! The program's arguments.
 ghost use Rattle.std.specs.Prelude.{codes, ◌≡◌, ◌≢◌, [], ◌∷◌, ◌++◌, not, map, find, filter, option_map, string_bytes, IfOk, IfErr, IfSome, IfNone};
 ghost use Rattle.tokens_lib.specs.Arguments.{options, names};
-ghost use Rattle.tokens_lib.specs.Command.{action_options, given, IsCommand, IsFilesRun, IsFilesError, IsRun, IsRunError, IsArgumentsError, has, is_known, is_prefix_option, most_names, options_of, verbosity_of};
+ghost use Rattle.tokens_lib.specs.Command.{action_options, asks_help, asks_version, given, IsCommand, IsFilesRun, IsFilesError, IsRun, IsRunError, IsArgumentsError, has, is_known, is_prefix_option, most_names, options_of, verbosity_of};
 ghost use Rattle.tokens_lib.specs.Internal.Prefixes.{HasPrefix};
 ghost use Rattle.tokens_lib.specs.declared.command.Action.{Action as AnAction};
 ghost use Rattle.tokens_lib.specs.declared.command.ArgumentsError.TheVariants.{OutOfMemory};
@@ -455,6 +455,20 @@ fn command_by_rules<'words>(
     }
 }
 
+// Whether the help is asked for.
+fn asks_help(options: &[&str]) -> bool
+    ensures { result ≡ asks_help (map (λ w. w.now) options.now) }
+{
+    has(options, "--help") || has(options, "-h")
+}
+
+// Whether the version is asked for.
+fn asks_version(options: &[&str]) -> bool
+    ensures { result ≡ asks_version (map (λ w. w.now) options.now) }
+{
+    has(options, "--version") || has(options, "-V")
+}
+
 // The command that these options and names ask for.
 fn command_with<'words>(
     alloc: Global,
@@ -466,10 +480,10 @@ fn command_with<'words>(
     ensures error { IfErr result (λ e. e ≢ OutOfMemory →
         IsArgumentsError (map (λ w. w.now) options.now) (map (λ w. w.now) names.entry.items) e) }
 {
-    if has(options, "--help") {
+    if asks_help(options) {
         return Ok(Command::Help);
     }
-    if has(options, "--version") {
+    if asks_version(options) {
         return Ok(Command::Version);
     }
     match unknown(options) {
@@ -479,8 +493,8 @@ fn command_with<'words>(
 }
 
 /// The command that the arguments ask for, in which an option and its value are one word: `--emit=c`. An argument that begins
-/// with two dashes and stands before the first `--` is an option; the others are RULES and files. The order of options, and
-/// how often each stands, don't matter, but there is at most one prefix.
+/// with a dash, is more than it and stands before the first `--` is an option; the others are RULES and files. The order of
+/// options, and how often each stands, don't matter, but there is at most one prefix.
 ///
 /// # Errors
 ///

@@ -18,6 +18,7 @@
 #define TEXT_OF(tokens) #tokens
 #define TEXT(macro) TEXT_OF(macro)
 #define JOIN(a, b) a##b
+#define VERSION "version " TEXT(2.1.5) " of the " TEXT(29th)
 
 // Swaps two values of a type. The name of the third one is made of two parts, \
    so that it hides nothing outside; this comment goes on over the end of a line \\
@@ -107,6 +108,7 @@ int main(int argc, char **argv)
 
     if (argc > 2 || (argc == 2 && (h.bins = strtoul(argv[1], NULL, 10)) - 1 >= MAX_BINS)) {
         fputs(usage, stderr);
+        fputs(VERSION "\n", stderr);
         return 2;
     }
     while (count < sizeof values / sizeof *values && read_value(stdin, &values[count], &line)) {

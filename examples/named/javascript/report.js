@@ -1,3 +1,4 @@
+#!/usr/bin/env node
 // Renders the lines of an order as text.
 const RATE = 19 / 100, SPACES = /[ \t/]+/gu;
 const half = (n) => n / 2 / 1.0;

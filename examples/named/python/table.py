@@ -25,6 +25,11 @@ def table(rows, title=None):
 {{{row.tags["sum"] if "sum" in row.tags else -1j}}} "quoted" {(lambda n: n ** 2)(number)=}"""
 
 
+def pattern(name, width=0o12):
+    note = f'''{name!r} isn't {{empty}}: it's at most ''{width:_>{width}}'' \N{EM DASH} or \'\'\'{"".join(f"{c}" for c in name)}'''
+    return re.compile(rf"\N{name}\.{{1,{width}}}\"$"), Rf'^\{name}' fR'''\''{note}''' F"\{name}\N{BULLET}\t" rf""""{name}\""""
+
+
 def main():
     rows = [Row("tea", 350), Row('br\'ead', 4_20, {'sum': 7.})]
     print(*table(rows, "Today's prices"), sep="\n")  # a comment with f"{"

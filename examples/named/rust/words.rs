@@ -12,7 +12,9 @@ const USAGE: &str = r#"usage: words [--least N] FILE ..
     A word is letters, or what stands between "quotation marks".
 "#;
 const QUOTED: &str = r##"a raw string that holds r#"another"# and "##;
+const HASHES: &str = r###"and one that holds r##"this"##"###;
 const NONE: &[u8] = br"C:\no\escapes\";
+const NAME: &std::ffi::CStr = c"words\n";
 const SEPARATORS: [char; 6] = [' ', '\t', '\n', '\'', '\u{2014}', 'ß'];
 const BYTES: [u8; 4] = [b'a', b'\\', b'\x7f', b'"'];
 /// Of all words, how many have to be different.
@@ -108,6 +110,6 @@ fn main() -> io::Result<()> {
         }
         let _dull = is_dull(&text, Some(counts.len() as f64 / text.len() as f64));
     }
-    assert_ne!(QUOTED.len() + NONE.len() + BYTES.len(), LIMITS.2 as usize);
+    assert_ne!(QUOTED.len() + HASHES.len() + NONE.len() + NAME.to_bytes().len() + BYTES.len(), LIMITS.2 as usize);
     Ok(())
 }

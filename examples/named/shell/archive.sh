@@ -16,10 +16,10 @@ case $keep in
 esac
 for folder in ./*/; do
     name=$(basename "$folder"); size=$(du -k -- "$folder" | cut -f 1)
-    if [ "$size" -gt $((1024 * (keep + 1) % 4096)) ]; then
+    if [ "$size" -gt $((1024 * (${keep} + 1) % 4096)) ]; then
         echo "${name%.d} is too large: $size KB" >&2 && continue
     fi
-    tar -cf - "$folder" | gzip > "$target/$name-${stamp%% *}.tgz" || exit 1 # it's done
+    nice -n $(($(nproc) / 2 + ${NICE:-0})) tar -cf - "$folder" | gzip > "$target/$name-${stamp%% *}.tgz" || exit 1 # it's done
 done
 count=`ls "$target" | wc -l`
 printf 'It'\''s %s files, "%s" on %s\n' "$count" "$(echo "on $(hostname -s)")" "${stamp#* }"

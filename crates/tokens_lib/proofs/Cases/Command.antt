@@ -85,6 +85,10 @@ help_wins = (refl, (λ h. absurd (cc (h.0))), (λ h. absurd (cc (h.0.0))))
 version_alone : IsCommand (codes "--version" ∷ []) [] Version
 version_alone = (refl, refl)
 
+-- one letter for either
+by_letter : IsCommand (codes "-x" ∷ codes "-V" ∷ codes "-h" ∷ []) [] Help × IsCommand (codes "-V" ∷ []) [] Version × (unknown (codes "--json" ∷ codes "-r" ∷ []) ≡ Some (codes "-r"))
+by_letter = (refl, (refl, refl), refl)
+
 -- a review, for people and as JSON; the options of the table come in its order
 reviews : (given (codes "--check" ∷ []) ≡ options_of (Check Plain)) × (given (codes "--check" ∷ codes "--json" ∷ []) ≡ options_of (Check Json)) × (given (codes "--diff" ∷ codes "--check" ∷ []) ≡ codes "--check" ∷ codes "--diff" ∷ [])
 reviews = (refl, refl, refl)
