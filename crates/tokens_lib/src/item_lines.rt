@@ -31,7 +31,7 @@ use std::alloc::Global;
 ///
 /// `OutOfMemory` if a request for memory was refused, and `Write` if a write fails or has failed: a prefix of the lines was
 /// written. Where a read fails, the text breaks off; that isn't an error.
-pub(crate) fn write_items<S: Source, O: Sink, E: Sink>(
+pub fn write_items<S: Source, O: Sink, E: Sink>(
     alloc: Global,
     lexer: &RuleLexer,
     layout: &Layout<'_, '_>,

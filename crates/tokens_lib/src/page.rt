@@ -39,7 +39,7 @@ fn page_form<'rules>(
 ///
 /// `OutOfMemory` if a request for memory was refused, and `Write` if a write fails or has failed: a prefix of the page was
 /// written. Where a read fails, the text breaks off; that isn't an error.
-pub(crate) fn write_page<S: Source, O: Sink, E: Sink>(
+pub fn write_page<S: Source, O: Sink, E: Sink>(
     alloc: Global,
     lexer: &RuleLexer,
     markup: Markup,
