@@ -2,22 +2,21 @@
 use Rattle.std.proofs.Common.{◌≡◌, ◌≢◌, ℕ, ◌+◌, ◌-◌, ◌<◌, ◌≤◌, ◌⊎◌, inl, inr, ⊎_elim, Bool, true, false, cond, List, [], ◌∷◌, ◌++◌, length, take, drop, refl, ap, subst, sym, ◌∙◌, arith, true≢false, append-nil, append_assoc}
 use Rattle.std.specs.Prelude.{◌||◌, not, ◌==◌, Option, Some, None, MatchOption, Result, Ok, Err, OnErr, unwrap_or}
 use Rattle.std.specs.Borrow.{Bor}
-use Rattle.std.specs.Io.KnownBytes.{Consumes, Keeps}
 use Rattle.std.specs.Str.{IsUtf8, bytes_eq, encode_utf8_all}
 use Rattle.std.specs.Str.Pattern.{FindsCharPrefix}
 use Rattle.std.specs.Char.{encode_utf8}
 use Rattle.std.proofs.iter.TextItems.{one_code}
 use Rattle.std.proofs.lemmas.List.{take-append-drop, length-append}
-use Rattle.std.proofs.KnownBytes.{Consumes-nil, Consumes-kept, Consumes-trans}
 use Rattle.std.proofs.lemmas.Bool.Decides.{Decides-eqb}
 use Rattle.std.proofs.lemmas.Slice.Eq.{bytes_eq-Decides}
 use Rattle.std.proofs.lemmas.Str.{IsUtf8-append, IsUtf8-encode}
 use Rattle.lalrpop_edits.specs.Chunked.{Chunked}
 use Rattle.lalrpop_edits.specs.Decoded.{Decoding, Decodes, NoCharacter, IsBegun, IsBad}
 use Rattle.lalrpop_rule_file.specs.RuleFile.{without_mark}
-use Rattle.tokens_lib.specs.CutEnds.{BeginsWith}
 use Rattle.tokens_lib.specs.Internal.Incoming.{IsIncoming, IsFed, ReadsOn, GrowsBy, behind_mark, held}
+use Rattle.tokens_lib.specs.Streams.{Stream, Reads, ReadEnd, LeftOff}
 use Rattle.tokens_lib.specs.declared.incoming.Incoming.{Incoming}
+use Rattle.tokens_lib.proofs.StreamLaws.{reads_again}
 
 by_test : (b : Bool) {P : Type 0} → (b ≡ true → P) → (b ≡ false → P) → P
 by_test true is_so not_so = is_so refl
@@ -304,23 +303,25 @@ grows_trans a b c m n first second = (
   ),
 )
 
-pub reads_none : (a b : Option (List ℕ)) (i : Incoming) → Keeps a b → ReadsOn a b i i
-reads_none a b i keeps = ([], (Consumes-kept a a b [] (Consumes-nil a) keeps, grows_none i))
+-- nothing comes
+pub on_with_nothing : (s t : Stream) (end : ReadEnd) (i : Incoming) → Reads s t (record { bytes = []; end = end }) → ReadsOn s t end i i
+on_with_nothing s t end i reads = ([], (reads, grows_none i))
 
-pub reads_zero : (a b : Option (List ℕ)) (i : Incoming) (n : ℕ) (buffer : List ℕ) → n ≡ 0 → Consumes a b (take n buffer) → ReadsOn a b i i
-reads_zero a b i n buffer is reads = ([], (subst (Consumes a b) (ap (λ (k : ℕ). take k buffer) is) reads, grows_none i))
+pub on_with_none : (s t : Stream) (i : Incoming) (n : ℕ) (buffer : List ℕ) → n ≡ 0 → Reads s t (record { bytes = take n buffer; end = LeftOff }) → ReadsOn s t LeftOff i i
+on_with_none s t i n buffer is reads =
+    on_with_nothing s t LeftOff i (subst (λ (k : ℕ). Reads s t (record { bytes = take k buffer; end = LeftOff })) is reads)
 
-pub reads_nothing : (a : Option (List ℕ)) (i : Incoming) → ReadsOn a a i i
-reads_nothing a i = ([], (Consumes-nil a, grows_none i))
-
-pub reads_trans : (a b c : Option (List ℕ)) (old mid new : Incoming) → ReadsOn a b old mid → ReadsOn b c mid new → ReadsOn a c old new
-reads_trans a b c old mid new first second = (
+-- some bytes come, and then more
+pub on_again : (a b c : Stream) (end : ReadEnd) (old mid new : Incoming) → ReadsOn a b LeftOff old mid → ReadsOn b c end mid new → ReadsOn a c end old new
+on_again a b c end old mid new first second = (
   first.0 ++ second.0,
-  (Consumes-trans a b c first.0 second.0 first.1.0 second.1.0, grows_trans old mid new first.0 second.0 first.1.1 second.1.1),
+  (reads_again a b c first.0 second.0 end first.1.0 second.1.0, grows_trans old mid new first.0 second.0 first.1.1 second.1.1),
 )
 
-pub lost_trans : (a b c : Option (List ℕ)) (old mid : Incoming) → ReadsOn a b old mid → (more : List ℕ) × Consumes b c more → (more : List ℕ) × Consumes a c more
-lost_trans a b c old mid first second = (first.0 ++ second.0, Consumes-trans a b c first.0 second.0 first.1.0 second.1)
+-- what comes last is lost
+pub lost_again : (a b c : Stream) (old mid : Incoming) → ReadsOn a b LeftOff old mid → (more : List ℕ) × Reads b c (record { bytes = more; end = LeftOff })
+    → (more : List ℕ) × Reads a c (record { bytes = more; end = LeftOff })
+lost_again a b c old mid first second = (first.0 ++ second.0, reads_again a b c first.0 second.0 LeftOff first.1.0 second.1)
 
 pub on_err : {T E X : Type 0} (result : Result T E) → X → OnErr result X
 on_err (Ok told) x = tt
@@ -333,20 +334,3 @@ held_on broken x y z wanted left n whole least less grows = ⊎_elim (λ bad. ab
 -- as many come
 pub held_all : (broken : Bool) (x y z wanted left n : ℕ) → x + wanted ≤ y + left → left ≤ n → (broken ≡ true) ⊎ (y + n ≤ z) → (broken ≡ true) ⊎ (x + wanted ≤ z)
 held_all broken x y z wanted left n least all grows = ⊎_elim (λ bad. inl bad) (λ more. inr (omega arith)) grows
-
--- ---- what was read
-
--- whatever comes, the bytes begin with the text
-pub begins_on : (bytes text left more : List ℕ) (i : Incoming) → IsIncoming bytes text left i → (behind : List ℕ) × BeginsWith (bytes ++ more) text behind
-begins_on bytes text left more i is = by_test i.has_begun
-    (λ is_so. (left ++ more, (is.settled is_so more ∙ ap (λ (l : List ℕ). l ++ more) is.split.0 ∙ append_assoc text left more, is.split.1.0)))
-    (λ not_so. (without_mark (bytes ++ more), (ap (λ (l : List ℕ). l ++ without_mark (bytes ++ more)) (sym (is.first not_so).0), is.split.1.0)))
-
--- at the end all of it is a text, unless it ends within a character
-pub whole_at_end : (bytes text left : List ℕ) (i : Incoming) → IsIncoming bytes text left i → i.decoder.is_broken ≡ false → i.decoder.begun ≡ [] → (left ≡ []) × IsUtf8 (without_mark bytes)
-whole_at_end bytes text left i is whole none =
-    let end : left ≡ [] = (is.begun whole).1 ∙ none in
-    (end, subst IsUtf8 (sym (is.split.0 ∙ ap (λ (l : List ℕ). text ++ l) end ∙ append-nil text)) is.split.1.0)
-
-pub within_at_end : (bytes text left : List ℕ) (i : Incoming) → IsIncoming bytes text left i → i.decoder.is_broken ≡ false → i.decoder.begun ≢ [] → (left ≢ []) × IsBegun left
-within_at_end bytes text left i is whole some = (λ none. some (sym (is.begun whole).1 ∙ none), (is.begun whole).0)

@@ -1,13 +1,13 @@
-use Rattle.std.proofs.Common.{◌≡◌, false, refl, ◌∙◌, arith, rules}
+use Rattle.std.proofs.Common.{◌≡◌, false, refl, arith, rules}
+use Rattle.tokens_lib.specs.Streams.{AtEnd, Failed, LeftOff}
 use Rattle.tokens_lib.specs.Internal.Incoming.{held}
-use Rattle.tokens_lib.proofs.Incomings.{reads_nothing, reads_trans, lost_trans, on_err, held_on}
+use Rattle.tokens_lib.proofs.Incomings.{held_on, lost_again, on_again, on_err, on_with_nothing}
+use Rattle.tokens_lib.proofs.StreamLaws.{reads_none}
 use Rattle.tokens_lib.proofs.incoming.Incoming.read_much.Goals as goal
 
 pub loop-n-init : goal.loop-n-init
 loop-n-init g c = record {
-  brought = reads_nothing (g.R.Read.remaining c.args.reader.now.inner) c.args.self.now;
-  good = c.requires.reader_good;
-  no_late = refl;
+  brought = on_with_nothing c.args.reader.now c.args.reader.now LeftOff c.args.self.now (reads_none c.args.reader.now);
   whole = c.requires.whole;
   some = c.requires.some;
   size = omega arith;
@@ -16,40 +16,42 @@ loop-n-init g c = record {
 pub returns-in_err-read_once-clause-lost : goal.returns-in_err-read_once-clause-lost
 returns-in_err-read_once-clause-lost g c =
     on_err c.from_residual.result
-    (lost_trans (g.R.Read.remaining c.args.reader.now.inner) (g.R.Read.remaining c.loop-n.reader.inner) (g.R.Read.remaining c.read_once.new.reader.inner)
-    c.args.self.now c.loop-n.self c.loop-n.invariant.brought c.in_err-read_once.ensures.lost)
+    (lost_again c.args.reader.now c.loop-n.reader c.read_once.new.reader c.args.self.now c.loop-n.self c.loop-n.invariant.brought c.in_err-read_once.ensures.lost)
 
 pub loop-n-preserved : goal.loop-n-preserved
 loop-n-preserved g c =
-    let count = rw c.in-Some.is at c.in_ok-read_once.ensures.count in
+    let more = rw c.in-Some.is at c.in_ok-read_once.ensures.more in
     let unbroken : c.read_once.new.self.decoder.is_broken ≡ false = search rules in
     record {
-      brought = reads_trans (g.R.Read.remaining c.args.reader.now.inner) (g.R.Read.remaining c.loop-n.reader.inner) (g.R.Read.remaining c.read_once.new.reader.inner)
-          c.args.self.now c.loop-n.self c.read_once.new.self c.loop-n.invariant.brought c.in_ok-read_once.ensures.brought;
-      good = count.0;
-      no_late = c.in_ok-read_once.ensures.no_late_read ∙ c.loop-n.invariant.no_late;
+      brought = on_again c.args.reader.now c.loop-n.reader c.read_once.new.reader LeftOff c.args.self.now c.loop-n.self c.read_once.new.self
+          c.loop-n.invariant.brought more.0;
       whole = unbroken;
       some = search rules;
       size = held_on c.read_once.new.self.decoder.is_broken (held c.args.self.now) (held c.loop-n.self) (held c.read_once.new.self)
-          c.args.wanted c.loop-n.left c.in-Some.n unbroken c.loop-n.invariant.size (search rules) count.1.1;
+          c.args.wanted c.loop-n.left c.in-Some.n unbroken c.loop-n.invariant.size (search rules) more.1;
     }
 
 pub returns-in-None-clause-brought : goal.returns-in-None-clause-brought
 returns-in-None-clause-brought g c =
-    reads_trans (g.R.Read.remaining c.args.reader.now.inner) (g.R.Read.remaining c.loop-n.reader.inner) (g.R.Read.remaining c.read_once.new.reader.inner)
-    c.args.self.now c.loop-n.self c.read_once.new.self c.loop-n.invariant.brought c.in_ok-read_once.ensures.brought
+    let failure = rw c.in-None.is at c.in_ok-read_once.ensures.failure in
+    on_again c.args.reader.now c.loop-n.reader c.read_once.new.reader Failed c.args.self.now c.loop-n.self c.read_once.new.self
+    c.loop-n.invariant.brought failure.0
 
 pub returns-in-Some-eq0-clause-brought : goal.returns-in-Some-eq0-clause-brought
 returns-in-Some-eq0-clause-brought g c =
-    reads_trans (g.R.Read.remaining c.args.reader.now.inner) (g.R.Read.remaining c.loop-n.reader.inner) (g.R.Read.remaining c.read_once.new.reader.inner)
-    c.args.self.now c.loop-n.self c.read_once.new.self c.loop-n.invariant.brought c.in_ok-read_once.ensures.brought
+    let nothing = rw c.in-Some-eq0.is at c.in_ok-read_once.ensures.nothing in
+    let ended = nothing c.in-Some-eq0.field-0-test in
+    on_again c.args.reader.now c.loop-n.reader c.read_once.new.reader AtEnd c.args.self.now c.loop-n.self c.read_once.new.self
+    c.loop-n.invariant.brought ended.0
 
 pub returns-in-Some-2-clause-brought : goal.returns-in-Some-2-clause-brought
 returns-in-Some-2-clause-brought g c =
-    reads_trans (g.R.Read.remaining c.args.reader.now.inner) (g.R.Read.remaining c.loop-n.reader.inner) (g.R.Read.remaining c.read_once.new.reader.inner)
-    c.args.self.now c.loop-n.self c.read_once.new.self c.loop-n.invariant.brought c.in_ok-read_once.ensures.brought
+    let more = rw c.in-Some-2.is at c.in_ok-read_once.ensures.more in
+    on_again c.args.reader.now c.loop-n.reader c.read_once.new.reader LeftOff c.args.self.now c.loop-n.self c.read_once.new.self
+    c.loop-n.invariant.brought more.0
 
 pub returns-in-Some-2-2-clause-brought : goal.returns-in-Some-2-2-clause-brought
 returns-in-Some-2-2-clause-brought g c =
-    reads_trans (g.R.Read.remaining c.args.reader.now.inner) (g.R.Read.remaining c.loop-n.reader.inner) (g.R.Read.remaining c.read_once.new.reader.inner)
-    c.args.self.now c.loop-n.self c.read_once.new.self c.loop-n.invariant.brought c.in_ok-read_once.ensures.brought
+    let more = rw c.in-Some-2.is at c.in_ok-read_once.ensures.more in
+    on_again c.args.reader.now c.loop-n.reader c.read_once.new.reader LeftOff c.args.self.now c.loop-n.self c.read_once.new.self
+    c.loop-n.invariant.brought more.0
