@@ -26,9 +26,9 @@ use Rattle.tokens_lib.specs.declared.cutter.Cutter.{Cutter}
 use Rattle.tokens_lib.specs.declared.incoming.Incoming.{Incoming}
 use Rattle.tokens_lib.specs.declared.sheet.Form.{Form}
 use Rattle.tokens_lib.proofs.CutLaws.{IsSameCut, into_fed, into_whole, place_within}
-use Rattle.tokens_lib.proofs.ItemSending.{all_sent, part_so_far, sent_nothing, sent_same}
+use Rattle.tokens_lib.proofs.ItemSending.{all_sent, part_so_far, sent_same}
 use Rattle.tokens_lib.proofs.PieceLines.{shown_stays}
-use Rattle.tokens_lib.proofs.StreamLaws.{reads_again, reads_none}
+use Rattle.tokens_lib.proofs.StreamLaws.{reads_again}
 
 -- ---- what has come
 
@@ -100,21 +100,6 @@ WritesAll form rules s t begun now ended =
 abbrev pub WritesSome : Form → ModeRules → Stream → Stream → Console → RunError → Console → Type 0
 WritesSome form rules s t begun error now =
     (reading : Reading) × (Reads s t reading × WritesCutPart rules (goes_on form) (shown form rules) reading begun error now)
-
--- before the first read
-pub at_first : (form : Form) (rules : ModeRules) (s : Stream) (begun : Console) (c : Cutter) → c.incoming.decoder.is_broken ≡ false
-    → c.incoming.chunks.is_ended ≡ false → IsIncoming [] [] [] c.incoming → IsCutInto rules [] [] c → IsBetween form rules s s begun begun c
-at_first form rules s begun c whole goes incoming cut = record {
-  bytes = [];
-  text = [];
-  left = [];
-  xs = [];
-  reads = reads_none s;
-  incoming = incoming;
-  given = record { cut = cut; no_fault = λ _. refl; written = sent_nothing begun [] refl };
-  whole = whole;
-  goes = goes;
-}
 
 module _ (form : Form) (rules : ModeRules) (s t u : Stream) (begun now : Console) (c : Cutter) (is : IsBetween form rules s t begun now c) where
   -- a read

@@ -31,6 +31,12 @@ none_more (Token y ∷ xs) x none other = none_more xs x none other
 none_more (Skipped y ∷ xs) x none other = none_more xs x none other
 none_more (Fault begin slice ∷ xs) x none other = absurd (cc (none))
 
+-- at an error some pieces were given, whatever was given before
+abbrev pub GivesSome : Form → ModeRules → Cutter → List ℕ → Console → Console → RunError → Type 0
+GivesSome form rules c waiting old new error =
+    (begun : Console) (text : List ℕ) (xs : List Item) → IsGiven form rules text xs c waiting begun old
+    → (ys : List Item) × ((d : Chunked) × (IsGivenInPart form rules text ys d begun error new × (d.is_ended ≡ c.incoming.chunks.is_ended)))
+
 -- nothing changes of what comes
 pub as_more : (c d e : Cutter) (x : Item) (place : Position) (mode : ℕ) → IsAsBefore c d → GivesCut d x place mode e → IsAsBefore c e
 as_more c d e x place mode same gives = record {

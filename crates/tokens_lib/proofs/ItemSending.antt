@@ -5,11 +5,7 @@ use Rattle.lexdfa_lib.specs.declared.error.RunError.{RunError}
 use Rattle.lexdfa_lib.specs.declared.error.RunError.TheVariants.{OutOfMemory}
 use Rattle.tokens_lib.specs.Streams.{Console, Writes, WritesPart}
 use Rattle.tokens_lib.specs.Internal.CutTexts.{IsSent}
-use Rattle.tokens_lib.proofs.StreamLaws.{writes_again, writes_front, writes_none, writes_part}
-
--- nothing is to be written yet
-pub sent_nothing : (a : Console) (waiting : List ℕ) → waiting ≡ [] → IsSent [] waiting a a
-sent_nothing a waiting none = record { sent = []; writes = writes_none a; all = none }
+use Rattle.tokens_lib.proofs.StreamLaws.{writes_again, writes_front, writes_part}
 
 module _ (bytes waiting : List ℕ) (a b c : Console) (is : IsSent bytes waiting a b) where
   -- more is to be written, and a part of what waits is passed on

@@ -1,14 +1,17 @@
-use Rattle.std.proofs.Common.{true, refl}
+use Rattle.std.proofs.Common.{true, refl, ℕ, List}
 use Rattle.lalrpop_rules.proofs.Results.{handed_on}
+use Rattle.lalrpop_rules.specs.declared.item.Item.{Item}
 use Rattle.lexdfa_lib.specs.declared.error.RunError.TheVariants.{OutOfMemory}
 use Rattle.tokens_lib.specs.TextAnswer.{page_of}
-use Rattle.tokens_lib.proofs.WrittenLaws.{err_so, none_written, ok_so, page_goes_on, page_so}
+use Rattle.tokens_lib.proofs.WrittenLaws.{IsWrittenPart, err_so, none_written, ok_so, page_goes_on, page_so}
 use Rattle.tokens_lib.proofs.page.write_page.Goals as goal
 
 pub returns-in_err-form-clause-part : goal.returns-in_err-form-clause-part
 returns-in_err-form-clause-part g c =
-    handed_on _ c.from_residual.result OutOfMemory c.from_residual.ensures.1
-    (none_written c.args.reader.now c.args.console.now c.args.lexer.now true (λ text xs. page_of c.args.markup c.args.lexer.now.names xs) OutOfMemory refl)
+    let out : List ℕ → List Item → List ℕ = λ text xs. page_of c.args.markup c.args.lexer.now.names xs in
+    handed_on (IsWrittenPart c.args.reader.now c.args.reader.now c.args.console.now c.args.console.now c.args.lexer.now true out)
+    c.from_residual.result OutOfMemory c.from_residual.ensures.1
+    (none_written c.args.reader.now c.args.console.now c.args.lexer.now true out OutOfMemory refl)
 
 pub returns-clause-written : goal.returns-clause-written
 returns-clause-written g c =

@@ -7,13 +7,14 @@ use Rattle.lalrpop_edits.specs.Given.{item_of}
 use Rattle.tokens_lib.specs.Streams.{WritesPart}
 use Rattle.tokens_lib.specs.Internal.CutTexts.{GivesCut, goes_on, is_fault}
 use Rattle.tokens_lib.proofs.CutLaws.{fault_by, slice_by}
-use Rattle.tokens_lib.proofs.GivingLaws.{as_more, in_part_more, in_part_now, less_left, one_more, same_piece, some_slice, stops_at, waits_now, waits_or_stops}
+use Rattle.tokens_lib.proofs.GivingLaws.{GivesSome, as_more, in_part_more, in_part_now, less_left, one_more, same_piece, some_slice, stops_at, waits_now, waits_or_stops}
 use Rattle.tokens_lib.proofs.pieces.give_pieces.Goals as goal
 use Rattle.tokens_lib.proofs.pieces.give_pieces.Goals.{else-is_none-via-then-is_none+else-not-goes_on, else-is_none-via-else-is_none}
 
 pub returns-in_err-cut-clause-part : goal.returns-in_err-cut-clause-part
 returns-in_err-cut-clause-part g c =
-    handed_on _ c.from_residual.result OutOfMemory c.from_residual.ensures.1
+    handed_on (GivesSome c.args.sheet.now.form c.args.sheet.now.lexer.now c.args.cutter.now c.args.sheet.now.waiting.items c.args.console.now c.giving.console)
+    c.from_residual.result OutOfMemory c.from_residual.ensures.1
     (λ begun text xs is.
     let ys = c.giving.invariant.given begun text xs is in
     (ys.0, (c.giving.cutter.incoming.chunks, (in_part_now _ _ text ys.0 c.giving.cutter _ begun _ ys.1 OutOfMemory refl, c.giving.invariant.same.ended))))
@@ -104,7 +105,8 @@ returns-in_err-put_piece-clause-part g c =
       | else-is_none-via-else-is_none w ↦ (λ ends. fault_by piece.rule piece.is_skipped piece.start slice ∙ ap not (c.is_none.ensures ∙ ap not w.if-is_none.false))
     ] in
     let same = same_piece c.giving.sheet.form c.args.sheet.now.form c.giving.sheet.lexer c.args.sheet.now.lexer place mode item i.form i.lexer in
-    handed_on _ c.from_residual-in_err-put_piece.result _ c.from_residual-in_err-put_piece.ensures.1
+    handed_on (GivesSome c.args.sheet.now.form c.args.sheet.now.lexer.now c.args.cutter.now c.args.sheet.now.waiting.items c.args.console.now c.put_piece.new.console)
+    c.from_residual-in_err-put_piece.result c.in_err-put_piece.field-0.0 c.from_residual-in_err-put_piece.ensures.1
     (λ begun text xs is.
     let ys = i.given begun text xs is in (
       ys.0 ++ item ∷ [],

@@ -2,17 +2,20 @@ use Rattle.std.proofs.Common.{refl, sym, ap, subst, ◌∙◌, []}
 use Rattle.std.specs.Prelude.{Option}
 use Rattle.lalrpop_rules.proofs.Results.{handed_on}
 use Rattle.lalrpop_rules.specs.Modes.{ModeRules}
+use Rattle.lexdfa_lib.specs.declared.error.RunError.{RunError}
 use Rattle.lexdfa_lib.specs.declared.error.RunError.TheVariants.{OutOfMemory}
 use Rattle.tokens_lib.specs.Internal.CutTexts.{Comes, GivesAll}
 use Rattle.tokens_lib.specs.declared.cut_end.CutEnd.{CutEnd}
-use Rattle.tokens_lib.proofs.ComingLaws.{at_a_fault, ends_at_last, gives_so, goes_further, has_read, in_part, lost, part_so}
+use Rattle.tokens_lib.proofs.ComingLaws.{WritesSome, at_a_fault, ends_at_last, gives_so, goes_further, has_read, in_part, lost, part_so}
 use Rattle.tokens_lib.proofs.StreamLaws.{reads_none}
 use Rattle.tokens_lib.proofs.pieces.write_pieces.Goals as goal
 
 pub returns-in_err-coming-clause-part : goal.returns-in_err-coming-clause-part
 returns-in_err-coming-clause-part g c =
     let lost_now = c.in_err-coming.ensures.lost in
-    handed_on _ c.from_residual.result OutOfMemory c.from_residual.ensures.1
+    handed_on
+    (λ (error : RunError). WritesSome c.args.sheet.now.form c.args.sheet.now.lexer.now c.args.reader.now c.read_on.new.reader c.args.console.now error c.reading.console)
+    c.from_residual.result OutOfMemory c.from_residual.ensures.1
     (lost c.args.sheet.now.form c.args.sheet.now.lexer.now c.args.reader.now c.reading.reader c.read_on.new.reader c.args.console.now c.reading.console
     c.reading.cutter c.reading.invariant.between lost_now.0 OutOfMemory refl lost_now.1)
 
@@ -27,7 +30,8 @@ returns-in_err-ended-clause-part g c =
     let read = has_read form rules c.args.reader.now c.reading.reader c.read_on.new.reader begun c.reading.console c.reading.cutter i.between c.read_on.new.self c.in_ok-coming.coming comes in
     let part = part_so c.reading.sheet.form form c.reading.sheet.lexer.now rules i.form (ap (λ l. l.now) i.lexer) read.text read.xs c.read_on.new.self c.reading.sheet.waiting.items begun c.reading.console c.give.new.console i.none
     c.in_err-ended.field-0.0 (c.in_err-ended.ensures.part begun read.text read.xs) read.given in
-    handed_on _ c.from_residual-in_err-ended.result _ c.from_residual-in_err-ended.ensures.1
+    handed_on (λ (error : RunError). WritesSome form rules c.args.reader.now c.read_on.new.reader begun error c.give.new.console)
+    c.from_residual-in_err-ended.result c.in_err-ended.field-0.0 c.from_residual-in_err-ended.ensures.1
     (in_part form rules c.args.reader.now c.read_on.new.reader begun c.reading.console c.read_on.new.self c.in_ok-coming.coming read
     c.in_err-ended.field-0.0 c.give.new.console part.0 part.1.0 part.1.1.0 part.1.1.1)
 
