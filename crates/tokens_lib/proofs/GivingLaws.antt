@@ -2,7 +2,6 @@
 use Rattle.std.proofs.Common.{◌≡◌, ◌≢◌, ℕ, ◌<◌, ◌⊎◌, true, false, List, [], ◌∷◌, ◌++◌, length, take, drop, refl, sym, ap, subst, ◌∙◌, arith}
 use Rattle.std.specs.Prelude.{Option, Some, None, IfSome, IfNone}
 use Rattle.std.specs.Borrow.{Bor}
-use Rattle.std.specs.Io.KnownBytes.{Appends}
 use Rattle.std.specs.Str.{chars}
 use Rattle.lalrpop_edits.specs.Chunked.{Chunked, BeginsFault, GivesFinal, MayMatch}
 use Rattle.lalrpop_edits.proofs.ChunkLaws.{fault_begins, given_less, held_after}
@@ -11,8 +10,10 @@ use Rattle.lalrpop_rules.specs.Modes.{ModeRules}
 use Rattle.lalrpop_rules.specs.Pieces.{slice_of}
 use Rattle.lalrpop_rules.specs.declared.item.Item.{Item}
 use Rattle.lalrpop_rules.specs.declared.item.Item.TheVariants.{Token, Skipped, Fault}
-use Rattle.lexdfa_lib.specs.Watch.{AppendsPrefix}
+use Rattle.lexdfa_lib.specs.declared.error.RunError.{RunError}
+use Rattle.lexdfa_lib.specs.declared.error.RunError.TheVariants.{OutOfMemory}
 use Rattle.tokens_lib.specs.CutEnds.{first_fault}
+use Rattle.tokens_lib.specs.Streams.{Console, Writes, WritesPart}
 use Rattle.tokens_lib.specs.Internal.CutTexts.{EndsAtFault, GivesAll, GivesCut, IsAsBefore, IsGiven, IsGivenInPart, goes_on, is_fault, piece_shown, shown}
 use Rattle.tokens_lib.specs.declared.cut_end.CutEnd.{CutEnd}
 use Rattle.tokens_lib.specs.declared.cut_end.CutEnd.TheVariants.{Stopped}
@@ -30,10 +31,13 @@ none_more (Token y ∷ xs) x none other = none_more xs x none other
 none_more (Skipped y ∷ xs) x none other = none_more xs x none other
 none_more (Fault begin slice ∷ xs) x none other = absurd (cc (none))
 
--- nothing has changed of what comes
-pub as_before : (c : Cutter) → IsAsBefore c c
-as_before c = record { lexer = refl; decoder = refl; begun = refl; ended = refl }
+-- at an error some pieces were given, whatever was given before
+abbrev pub GivesSome : Form → ModeRules → Cutter → List ℕ → Console → Console → RunError → Type 0
+GivesSome form rules c waiting old new error =
+    (begun : Console) (text : List ℕ) (xs : List Item) → IsGiven form rules text xs c waiting begun old
+    → (ys : List Item) × ((d : Chunked) × (IsGivenInPart form rules text ys d begun error new × (d.is_ended ≡ c.incoming.chunks.is_ended)))
 
+-- nothing changes of what comes
 pub as_more : (c d e : Cutter) (x : Item) (place : Position) (mode : ℕ) → IsAsBefore c d → GivesCut d x place mode e → IsAsBefore c e
 as_more c d e x place mode same gives = record {
   lexer = gives.lexer ∙ same.lexer;
@@ -46,32 +50,33 @@ as_more c d e x place mode same gives = record {
 pub less_left : (c d : Cutter) (x : Item) (place : Position) (mode : ℕ) → GivesCut c x place mode d → length d.incoming.chunks.rest < length c.incoming.chunks.rest
 less_left c d x place mode gives = given_less c.incoming.chunks d.incoming.chunks x gives.gives
 
-module _ (form : Form) (rules : ModeRules) (text : List ℕ) (ys : List Item) (c : Cutter) (waiting : List ℕ) (held a : Option (List ℕ))
-    (is : IsGiven form rules text ys c waiting held a) where
+module _ (form : Form) (rules : ModeRules) (text : List ℕ) (ys : List Item) (c : Cutter) (waiting : List ℕ) (begun a : Console)
+    (is : IsGiven form rules text ys c waiting begun a) where
   -- an error, before more is written
-  pub in_part_now : IsGivenInPart form rules text ys c.incoming.chunks held a
-  in_part_now = record { came = is.cut.came; no_fault = is.no_fault; prefix = part_so_far (shown form rules text ys) waiting held a is.written }
+  pub in_part_now : (error : RunError) → error ≡ OutOfMemory → IsGivenInPart form rules text ys c.incoming.chunks begun error a
+  in_part_now error refused = record { came = is.cut.came; no_fault = is.no_fault; part = part_so_far (shown form rules text ys) waiting begun a error refused is.written }
 
   module _ (d : Cutter) (x : Item) (place : Position) (mode : ℕ) (gives : GivesCut c x place mode d) where
     grows : shown form rules text (ys ++ x ∷ []) ≡ shown form rules text ys ++ piece_shown form rules.names place mode x
     grows = shown_more form rules text ys x place mode (place_here rules text ys c d x place mode is.cut gives) (mode_here rules text ys c d x place mode is.cut gives)
 
     -- one more piece is written
-    pub one_more : (goes_on form ≡ false → is_fault x ≡ false) → (b : Option (List ℕ)) (passed now : List ℕ) → Appends a b passed
-        → waiting ++ piece_shown form rules.names place mode x ≡ passed ++ now → IsGiven form rules text (ys ++ x ∷ []) d now held b
+    pub one_more : (goes_on form ≡ false → is_fault x ≡ false) → (b : Console) (passed now : List ℕ) → Writes a passed b
+        → waiting ++ piece_shown form rules.names place mode x ≡ passed ++ now → IsGiven form rules text (ys ++ x ∷ []) d now begun b
     one_more other b passed now h split = record {
       cut = into_more rules text ys c d x place mode is.cut gives;
       no_fault = λ ends. none_more ys x (is.no_fault ends) (other ends);
-      written = sent_more (shown form rules text ys) waiting held a b is.written (piece_shown form rules.names place mode x) passed now (shown form rules text (ys ++ x ∷ [])) grows h split;
+      written = sent_more (shown form rules text ys) waiting begun a b is.written (piece_shown form rules.names place mode x) passed now (shown form rules text (ys ++ x ∷ [])) grows h split;
     }
 
     -- or a part of it
-    pub in_part_more : (goes_on form ≡ false → is_fault x ≡ false) → (b : Option (List ℕ)) → AppendsPrefix a b (waiting ++ piece_shown form rules.names place mode x)
-        → IsGivenInPart form rules text (ys ++ x ∷ []) d.incoming.chunks held b
-    in_part_more other b h = record {
+    pub in_part_more : (goes_on form ≡ false → is_fault x ≡ false) → (error : RunError) (b : Console)
+        → WritesPart a (waiting ++ piece_shown form rules.names place mode x) error b
+        → IsGivenInPart form rules text (ys ++ x ∷ []) d.incoming.chunks begun error b
+    in_part_more other error b h = record {
       came = came_on rules text ys c d x place mode is.cut gives;
       no_fault = λ ends. none_more ys x (is.no_fault ends) (other ends);
-      prefix = part_more (shown form rules text ys) waiting held a b is.written (piece_shown form rules.names place mode x) (shown form rules text (ys ++ x ∷ [])) grows h;
+      part = part_more (shown form rules text ys) waiting begun a b is.written (piece_shown form rules.names place mode x) (shown form rules text (ys ++ x ∷ [])) error grows h;
     }
 
     fault_here : (y : Item) → is_fault y ≡ true → GivesFinal c.incoming.chunks (Some y) d.incoming.chunks → BeginsFault c.incoming.chunks
@@ -106,29 +111,29 @@ module _ (form : Form) (rules : ModeRules) (text : List ℕ) (ys : List Item) (c
   }
 
 -- no piece can be given any more
-pub waits_now : (form : Form) (rules : ModeRules) (text : List ℕ) (ys : List Item) (b c d : Cutter) (waiting : List ℕ) (held a : Option (List ℕ)) → IsGiven form rules text ys c waiting held a
+pub waits_now : (form : Form) (rules : ModeRules) (text : List ℕ) (ys : List Item) (b c d : Cutter) (waiting : List ℕ) (begun a : Console) → IsGiven form rules text ys c waiting begun a
     → d ≡ c → GivesFinal c.incoming.chunks None d.incoming.chunks → IsAsBefore b c → (goes_on form ≡ false → (d.incoming.chunks.rest ≡ []) ⊎ MayMatch d.incoming.chunks)
-    → GivesAll form rules text b d waiting held a None
-waits_now form rules text ys b c d waiting held a is same none before may = (
+    → GivesAll form rules text b d waiting begun a None
+waits_now form rules text ys b c d waiting begun a is same none before may = (
   ys,
   (
-    subst (λ (e : Cutter). IsGiven form rules text ys e waiting held a) (sym same) is,
+    subst (λ (e : Cutter). IsGiven form rules text ys e waiting begun a) (sym same) is,
     (record { held = held_after c.incoming.chunks d.incoming.chunks none; may = may }, subst (IsAsBefore b) (sym same) before),
   ),
 )
 
 -- unless a fault begins there
-pub waits_or_stops : (form : Form) (rules : ModeRules) (text : List ℕ) (ys : List Item) (b c d : Cutter) (waiting : List ℕ) (held a : Option (List ℕ)) → IsGiven form rules text ys c waiting held a
+pub waits_or_stops : (form : Form) (rules : ModeRules) (text : List ℕ) (ys : List Item) (b c d : Cutter) (waiting : List ℕ) (begun a : Console) → IsGiven form rules text ys c waiting begun a
     → d ≡ c → GivesFinal c.incoming.chunks None d.incoming.chunks → IsAsBefore b c → goes_on form ≡ false → (ended : Option CutEnd)
     → IfSome ended (λ end. (found : ℕ) × ((end ≡ Stopped d.here found) × ((take 1 (chars d.incoming.chunks.rest) ≡ found ∷ []) × BeginsFault d.incoming.chunks)))
     → IfNone ended ((d.incoming.chunks.rest ≡ []) ⊎ MayMatch d.incoming.chunks)
-    → GivesAll form rules text b d waiting held a ended
-waits_or_stops form rules text ys b c d waiting held a is same none before ends None fault may =
-    waits_now form rules text ys b c d waiting held a is same none before (λ _. may)
-waits_or_stops form rules text ys b c d waiting held a is same none before ends (Some ended) (found, (e, (first, fault))) may =
-    let now = subst (λ (e : Cutter). IsGiven form rules text ys e waiting held a) (sym same) is in
+    → GivesAll form rules text b d waiting begun a ended
+waits_or_stops form rules text ys b c d waiting begun a is same none before ends None fault may =
+    waits_now form rules text ys b c d waiting begun a is same none before (λ _. may)
+waits_or_stops form rules text ys b c d waiting begun a is same none before ends (Some ended) (found, (e, (first, fault))) may =
+    let now = subst (λ (e : Cutter). IsGiven form rules text ys e waiting begun a) (sym same) is in
     let so_far = subst (IsAsBefore b) (sym same) before in
-    (ys, (d.incoming.chunks, (stops_next form rules text ys d waiting held a now ends found ended e first fault, (now.written, so_far.ended))))
+    (ys, (d.incoming.chunks, (stops_next form rules text ys d waiting begun a now ends found ended e first fault, (now.written, so_far.ended))))
 
 -- a piece that is given isn't empty
 pub some_slice : (c d : Cutter) (x : Item) (place : Position) (mode : ℕ) → GivesCut c x place mode d → slice_of x ≢ []
@@ -144,23 +149,23 @@ same_piece f g k l place mode x same_form same_rules =
     ap (λ (e : Form). piece_shown e l.now.names place mode x) (sym same_form) ∙ ap (λ (b : Bor ModeRules). piece_shown f b.now.names place mode x) (sym same_rules)
 
 -- what waits is written
-pub all_flushed : (form : Form) (rules : ModeRules) (text : List ℕ) (c d : Cutter) (waiting : List ℕ) (held a b : Option (List ℕ)) (ended : Option CutEnd)
-    → GivesAll form rules text c d waiting held a ended → Appends a b waiting → GivesAll form rules text c d [] held b ended
-all_flushed form rules text c d waiting held a b None (ys, (is, more)) h =
-    (ys, (record { cut = is.cut; no_fault = is.no_fault; written = sent_whole (shown form rules text ys) waiting held a b is.written h }, more))
-all_flushed form rules text c d waiting held a b (Some ended) (ys, (e, (stops, (sent, same)))) h =
-    (ys, (e, (stops, (sent_whole (shown form rules text ys) waiting held a b sent h, same))))
+pub all_flushed : (form : Form) (rules : ModeRules) (text : List ℕ) (c d : Cutter) (waiting : List ℕ) (begun a b : Console) (ended : Option CutEnd)
+    → GivesAll form rules text c d waiting begun a ended → Writes a waiting b → GivesAll form rules text c d [] begun b ended
+all_flushed form rules text c d waiting begun a b None (ys, (is, more)) h =
+    (ys, (record { cut = is.cut; no_fault = is.no_fault; written = sent_whole (shown form rules text ys) waiting begun a b is.written h }, more))
+all_flushed form rules text c d waiting begun a b (Some ended) (ys, (e, (stops, (sent, same)))) h =
+    (ys, (e, (stops, (sent_whole (shown form rules text ys) waiting begun a b sent h, same))))
 
 -- or a part of it
-pub part_flushed : (form : Form) (rules : ModeRules) (text : List ℕ) (c d : Cutter) (waiting : List ℕ) (held a b : Option (List ℕ)) (ended : Option CutEnd)
-    → GivesAll form rules text c d waiting held a ended → AppendsPrefix a b waiting
-    → (ys : List Item) × ((e : Chunked) × (IsGivenInPart form rules text ys e held b × (e.is_ended ≡ c.incoming.chunks.is_ended)))
-part_flushed form rules text c d waiting held a b None (ys, (is, (waits, same))) h = (
+pub part_flushed : (form : Form) (rules : ModeRules) (text : List ℕ) (c d : Cutter) (waiting : List ℕ) (begun a b : Console) (ended : Option CutEnd) (error : RunError)
+    → GivesAll form rules text c d waiting begun a ended → WritesPart a waiting error b
+    → (ys : List Item) × ((e : Chunked) × (IsGivenInPart form rules text ys e begun error b × (e.is_ended ≡ c.incoming.chunks.is_ended)))
+part_flushed form rules text c d waiting begun a b None error (ys, (is, (waits, same))) h = (
   ys,
   (
     d.incoming.chunks,
-    (record { came = is.cut.came; no_fault = is.no_fault; prefix = part_waiting (shown form rules text ys) waiting held a b is.written h }, same.ended),
+    (record { came = is.cut.came; no_fault = is.no_fault; part = part_waiting (shown form rules text ys) waiting begun a b is.written error h }, same.ended),
   ),
 )
-part_flushed form rules text c d waiting held a b (Some ended) (ys, (e, (stops, (sent, same)))) h =
-    (ys, (e, (record { came = stops.came; no_fault = λ _. stops.no_fault; prefix = part_waiting (shown form rules text ys) waiting held a b sent h }, same)))
+part_flushed form rules text c d waiting begun a b (Some ended) error (ys, (e, (stops, (sent, same)))) h =
+    (ys, (e, (record { came = stops.came; no_fault = λ _. stops.no_fault; part = part_waiting (shown form rules text ys) waiting begun a b sent error h }, same)))

@@ -330,7 +330,3 @@ on_err (Err error) x = x
 -- fewer bytes come than are wanted
 pub held_on : (broken : Bool) (x y z wanted left n : ℕ) → broken ≡ false → x + wanted ≤ y + left → n < left → (broken ≡ true) ⊎ (y + n ≤ z) → x + wanted ≤ z + (left - n)
 held_on broken x y z wanted left n whole least less grows = ⊎_elim (λ bad. absurd (true≢false (sym bad ∙ whole))) (λ more. omega arith) grows
-
--- as many come
-pub held_all : (broken : Bool) (x y z wanted left n : ℕ) → x + wanted ≤ y + left → left ≤ n → (broken ≡ true) ⊎ (y + n ≤ z) → (broken ≡ true) ⊎ (x + wanted ≤ z)
-held_all broken x y z wanted left n least all grows = ⊎_elim (λ bad. inl bad) (λ more. inr (omega arith)) grows

@@ -1,5 +1,5 @@
 -- Laws of streams: what is read in two steps, and what is written in two.
-use Rattle.std.proofs.Common.{◌≡◌, ℕ, true, List, [], ◌++◌, refl, sym, ap, subst, ◌∙◌, append-nil}
+use Rattle.std.proofs.Common.{ℕ, true, List, [], ◌++◌, refl, sym, ap, subst, ◌∙◌, append-nil}
 use Rattle.std.proofs.KnownBytes.{Appends-nil, Appends-trans, Consumes-nil, Consumes-trans}
 use Rattle.lexdfa_lib.proofs.Known.{AppendsPrefix-behind, AppendsPrefix-front}
 use Rattle.lexdfa_lib.specs.Watch.{AppendsPrefix}

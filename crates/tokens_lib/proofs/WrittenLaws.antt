@@ -1,168 +1,109 @@
 -- What is written for a whole text: lines, or a page.
-use Rattle.std.proofs.Common.{◌≡◌, ℕ, inl, Bool, true, false, List, [], refl, ap, subst, ◌∙◌, arith}
+use Rattle.std.proofs.Common.{◌≡◌, ℕ, Bool, true, List, [], refl, sym, ap, subst, ◌∙◌}
 use Rattle.std.proofs.lemmas.Str.{IsUtf8-nil}
-use Rattle.std.specs.Prelude.{Option, Result, Ok, Err, IfOk, OnErr, flat_map}
-use Rattle.std.specs.Io.KnownBytes.{Appends, Consumes}
+use Rattle.std.specs.Prelude.{Result, Ok, Err, IfOk, IfErr, flat_map}
 use Rattle.lalrpop_edits.specs.Chunked.{nothing_come, nothing}
-use Rattle.lalrpop_edits.specs.Decoded.{NoCharacter}
 use Rattle.lalrpop_rules.specs.Modes.{ModeRules}
 use Rattle.lalrpop_rules.specs.declared.item.Item.{Item}
 use Rattle.lalrpop_markup.specs.Terminal.{painted}
-use Rattle.lexdfa_lib.proofs.Known.{Appends-none}
-use Rattle.lexdfa_lib.specs.Watch.{AppendsPrefix}
 use Rattle.lexdfa_lib.specs.declared.error.RunError.{RunError}
-use Rattle.tokens_lib.specs.declared.cut_end.TextError.TheVariants.{Read}
+use Rattle.lexdfa_lib.specs.declared.error.RunError.TheVariants.{OutOfMemory}
+use Rattle.reports_lib.specs.ItemLines.{item_lines}
 use Rattle.reports_lib.specs.declared.layout.Layout.{Layout}
 use Rattle.tokens_lib.specs.CutEnds.{AreGiven, IsCutTo}
-use Rattle.tokens_lib.specs.ItemsWritten.{WritesItems, WritesItemsPart}
-use Rattle.tokens_lib.specs.PageWritten.{WritesPage, WritesPagePart, page_of}
-use Rattle.tokens_lib.specs.Streams.{Reading, Failed, LeftOff, EndsReading}
-use Rattle.tokens_lib.specs.Internal.CutTexts.{IsPageForm, goes_on, shown}
+use Rattle.tokens_lib.specs.Streams.{Console, Reading, LeftOff, Reads, Stream, Writes, WritesPart}
+use Rattle.tokens_lib.specs.TextAnswer.{page_of}
+use Rattle.tokens_lib.specs.Internal.CutTexts.{IsPageForm, WritesCut, WritesCutPart, goes_on, shown}
 use Rattle.tokens_lib.specs.declared.command.Markup.{Markup}
 use Rattle.tokens_lib.specs.declared.command.Markup.TheVariants.{Html as MarkupHtml, Ansi as MarkupAnsi}
 use Rattle.tokens_lib.specs.declared.cut_end.CutEnd.{CutEnd}
-use Rattle.tokens_lib.specs.declared.cut_end.CutEnd.TheVariants.{Broken}
 use Rattle.tokens_lib.specs.declared.sheet.Form.{Form}
 use Rattle.tokens_lib.specs.declared.sheet.Form.TheVariants.{Lines, Html, Ansi}
-use Rattle.tokens_lib.proofs.ComingLaws.{WritesAll, WritesPart, consumes_none}
+use Rattle.tokens_lib.proofs.ComingLaws.{WritesAll, WritesSome}
 use Rattle.tokens_lib.proofs.PieceLines.{ansi_shown, html_shown, lines_shown}
+use Rattle.tokens_lib.proofs.StreamLaws.{reads_none, writes_front, writes_none}
 
--- ---- a reader that has failed before
+-- ---- the same bytes
 
-no_character : NoCharacter []
-no_character n some le = absurd (omega (arith, some, le))
+module _ (s t : Stream) (old new : Console) (rules : ModeRules) (recovers : Bool) (out : List ℕ → List Item → List ℕ) where
+  -- what was read, and what was written for it
+  abbrev pub IsWritten : CutEnd → Type 0
+  IsWritten ended = (reading : Reading) × (Reads s t reading × WritesCut rules recovers out reading old new ended)
 
-pub broken_at_once : (form : Form) (rules : ModeRules) (a held : Option (List ℕ)) (failed : Bool) → failed ≡ true → WritesAll form rules a a failed held held (Broken Read)
-broken_at_once form rules a held failed is =
-    let cut : IsCutTo rules (goes_on form) (record { bytes = []; end = Failed }) [] [] [] (Broken Read) = (
-      ((no_character, ([], IsUtf8-nil)), refl),
+  -- the same until an error
+  abbrev pub IsWrittenPart : RunError → Type 0
+  IsWrittenPart error = (reading : Reading) × (Reads s t reading × WritesCutPart rules recovers out reading old error new)
+
+  module _ (f : Form) (goes : goes_on f ≡ recovers) (same : (text : List ℕ) (xs : List Item) → shown f rules text xs ≡ out text xs) where
+    whole_so : (ended : CutEnd) → WritesAll f rules s t old new ended → IsWritten ended
+    whole_so ended (reading, (reads, (text, (left, (xs, (is, (cut, writes))))))) = (
+      reading,
       (
-        nothing_come rules,
+        reads,
         (
-          record { came = nothing; ended = λ over. absurd (cc (over)); no_fault = λ _. refl },
-          (refl, (((λ over. absurd (cc (over))), (λ goes. inl (λ n below m. omega (arith, below)))), λ _. inl refl)),
-        ),
-      ),
-    ) in
-    (record { bytes = []; end = Failed }, ((consumes_none a, is), ([], ([], ([], ((refl, (IsUtf8-nil, no_character)), (cut, Appends-none held)))))))
-
--- ---- lines
-
-module _ (layout : Layout) (rules : ModeRules) (old now : Option (List ℕ)) (failed : Bool) (held held_now : Option (List ℕ)) where
-  pub all_lines : (ended : CutEnd) → WritesAll (Lines layout) rules old now failed held held_now ended
-      → (reading : Reading) × ((Consumes old now reading.bytes × EndsReading now failed reading.end) × WritesItems rules layout reading held held_now ended)
-  all_lines ended (reading, (stream, (text, (left, (xs, (is, (cut, sent))))))) =
-      (reading, (stream, (text, (left, (xs, (is, (cut, subst (Appends held held_now) (lines_shown layout rules text xs) sent)))))))
-
-  pub part_of_lines : WritesPart (Lines layout) rules old now failed held held_now
-      → (reading : Reading) × ((Consumes old now reading.bytes × EndsReading now failed reading.end) × WritesItemsPart rules layout reading held held_now)
-  part_of_lines (reading, (stream, (text, (left, (xs, (c, (begins, (are, prefix)))))))) =
-      (reading, (stream, (text, (left, (xs, (c, (begins, (are, subst (AppendsPrefix held held_now) (lines_shown layout rules text xs) prefix))))))))
-
-  -- what writing gives, by a form and rules that are the same
-  pub ok_lines : (f : Form) (r : ModeRules) → f ≡ Lines layout → r ≡ rules → (result : Result CutEnd RunError)
-      → IfOk result (λ ended. WritesAll f r old now failed held held_now ended)
-      → IfOk result (λ ended. (reading : Reading) × ((Consumes old now reading.bytes × EndsReading now failed reading.end) × WritesItems rules layout reading held held_now ended))
-  ok_lines f r same_form same_rules (Err e) h = tt
-  ok_lines f r same_form same_rules (Ok ended) h =
-      all_lines ended
-      (subst (λ (g : Form). WritesAll g rules old now failed held held_now ended) same_form (subst (λ (s : ModeRules). WritesAll f s old now failed held held_now ended) same_rules h))
-
-  pub err_lines : (f : Form) (r : ModeRules) → f ≡ Lines layout → r ≡ rules → (result : Result CutEnd RunError)
-      → OnErr result (WritesPart f r old now failed held held_now)
-      → OnErr result ((reading : Reading) × ((Consumes old now reading.bytes × EndsReading now failed reading.end) × WritesItemsPart rules layout reading held held_now))
-  err_lines f r same_form same_rules (Ok ended) h = tt
-  err_lines f r same_form same_rules (Err e) h =
-      part_of_lines
-      (subst (λ (g : Form). WritesPart g rules old now failed held held_now) same_form (subst (λ (s : ModeRules). WritesPart f s old now failed held held_now) same_rules h))
-
--- ---- a page
-
-pub page_goes_on : (form : Form) (markup : Markup) (names : List (List ℕ)) → IsPageForm form markup names → goes_on form ≡ true
-page_goes_on (Lines layout) markup names is = absurd is
-page_goes_on Html markup names is = refl
-page_goes_on (Ansi painter) markup names is = refl
-
-pub page_shown : (form : Form) (markup : Markup) (rules : ModeRules) → IsPageForm form markup rules.names → (text : List ℕ) (xs : List Item)
-    → shown form rules text xs ≡ page_of markup rules.names xs
-page_shown (Lines layout) markup rules is text xs = absurd is
-page_shown Html MarkupHtml rules is text xs = html_shown rules text xs
-page_shown Html MarkupAnsi rules is text xs = absurd is
-page_shown (Ansi painter) MarkupHtml rules is text xs = absurd is
-page_shown (Ansi painter) MarkupAnsi rules is text xs = ansi_shown painter rules text xs ∙ ap (λ (names : List (List ℕ)). flat_map (painted names) xs) is
-
-module _ (form : Form) (markup : Markup) (rules : ModeRules) (goes : goes_on form ≡ true) (same : (text : List ℕ) (xs : List Item) → shown form rules text xs ≡ page_of markup rules.names xs)
-    (old now : Option (List ℕ)) (failed : Bool) (held held_now : Option (List ℕ)) where
-  pub whole_page : (ended : CutEnd) → WritesAll form rules old now failed held held_now ended
-      → (reading : Reading) × ((Consumes old now reading.bytes × EndsReading now failed reading.end) × WritesPage rules markup reading held held_now ended)
-  whole_page ended (reading, (stream, (text, (left, (xs, (is, (cut, sent))))))) = (
-    reading,
-    (
-      stream,
-      (
-        text,
-        (
-          left,
-          (xs, (is, (subst (λ (b : Bool). IsCutTo rules b reading text left xs ended) goes cut, subst (Appends held held_now) (same text xs) sent))),
-        ),
-      ),
-    ),
-  )
-
-  pub part_of_page : WritesPart form rules old now failed held held_now
-      → (reading : Reading) × ((Consumes old now reading.bytes × EndsReading now failed reading.end) × WritesPagePart rules markup reading held held_now)
-  part_of_page (reading, (stream, (text, (left, (xs, (c, (begins, (are, prefix)))))))) = (
-    reading,
-    (
-      stream,
-      (
-        text,
-        (
-          left,
+          text,
           (
-            xs,
+            left,
             (
-              c,
-              (begins, (subst (λ (b : Bool). AreGiven rules b reading text left xs c) goes are, subst (AppendsPrefix held held_now) (same text xs) prefix)),
+              xs,
+              (
+                is,
+                (
+                  subst (λ (b : Bool). IsCutTo rules b reading text left xs ended) goes cut,
+                  subst (λ (l : List ℕ). Writes old l new) (same text xs) writes,
+                ),
+              ),
             ),
           ),
         ),
       ),
-    ),
-  )
+    )
 
-  pub ok_page : (f : Form) (r : ModeRules) → f ≡ form → r ≡ rules → (result : Result CutEnd RunError)
-      → IfOk result (λ ended. WritesAll f r old now failed held held_now ended)
-      → IfOk result (λ ended. (reading : Reading) × ((Consumes old now reading.bytes × EndsReading now failed reading.end) × WritesPage rules markup reading held held_now ended))
-  ok_page f r same_form same_rules (Err e) h = tt
-  ok_page f r same_form same_rules (Ok ended) h =
-      whole_page ended
-      (subst (λ (g : Form). WritesAll g rules old now failed held held_now ended) same_form (subst (λ (s : ModeRules). WritesAll f s old now failed held held_now ended) same_rules h))
+    part_so : (error : RunError) → WritesSome f rules s t old error new → IsWrittenPart error
+    part_so error (reading, (reads, (text, (left, (xs, (c, (begins, (are, part)))))))) = (
+      reading,
+      (
+        reads,
+        (
+          text,
+          (
+            left,
+            (
+              xs,
+              (
+                c,
+                (
+                  begins,
+                  (
+                    subst (λ (b : Bool). AreGiven rules b reading text left xs c) goes are,
+                    subst (λ (l : List ℕ). WritesPart old l error new) (same text xs) part,
+                  ),
+                ),
+              ),
+            ),
+          ),
+        ),
+      ),
+    )
 
-  pub err_page : (f : Form) (r : ModeRules) → f ≡ form → r ≡ rules → (result : Result CutEnd RunError)
-      → OnErr result (WritesPart f r old now failed held held_now)
-      → OnErr result ((reading : Reading) × ((Consumes old now reading.bytes × EndsReading now failed reading.end) × WritesPagePart rules markup reading held held_now))
-  err_page f r same_form same_rules (Ok ended) h = tt
-  err_page f r same_form same_rules (Err e) h =
-      part_of_page
-      (subst (λ (g : Form). WritesPart g rules old now failed held held_now) same_form (subst (λ (s : ModeRules). WritesPart f s old now failed held held_now) same_rules h))
+    -- by the same rules
+    pub ok_so : (r : ModeRules) → r ≡ rules → (result : Result CutEnd RunError)
+        → IfOk result (λ ended. WritesAll f r s t old new ended) → IfOk result (λ ended. IsWritten ended)
+    ok_so r same_rules (Err error) h = tt
+    ok_so r same_rules (Ok ended) h = whole_so ended (subst (λ (q : ModeRules). WritesAll f q s t old new ended) same_rules h)
 
--- of a reader that has failed before
-pub broken_page : (markup : Markup) (rules : ModeRules) (a held : Option (List ℕ)) (failed : Bool) → failed ≡ true
-    → (reading : Reading) × ((Consumes a a reading.bytes × EndsReading a failed reading.end) × WritesPage rules markup reading held held (Broken Read))
-broken_page MarkupHtml rules a held failed is =
-    whole_page Html MarkupHtml rules refl (page_shown Html MarkupHtml rules tt) a a failed held held (Broken Read) (broken_at_once Html rules a held failed is)
-broken_page MarkupAnsi rules a held failed is =
-    whole_page (Ansi rules.names) MarkupAnsi rules refl (page_shown (Ansi rules.names) MarkupAnsi rules refl) a a failed held held (Broken Read)
-    (broken_at_once (Ansi rules.names) rules a held failed is)
+    pub err_so : (r : ModeRules) → r ≡ rules → (result : Result CutEnd RunError)
+        → IfErr result (λ error. WritesSome f r s t old error new) → IfErr result (λ error. IsWrittenPart error)
+    err_so r same_rules (Ok ended) h = tt
+    err_so r same_rules (Err error) h = part_so error (subst (λ (q : ModeRules). WritesSome f q s t old error new) same_rules h)
 
--- before anything is read
-pub no_page : (markup : Markup) (rules : ModeRules) (a held : Option (List ℕ)) (failed : Bool) → failed ≡ false
-    → (reading : Reading) × ((Consumes a a reading.bytes × EndsReading a failed reading.end) × WritesPagePart rules markup reading held held)
-no_page markup rules a held failed good = (
+-- memory is refused before anything is read
+pub none_written : (s : Stream) (a : Console) (rules : ModeRules) (recovers : Bool) (out : List ℕ → List Item → List ℕ) (error : RunError) → error ≡ OutOfMemory
+    → IsWrittenPart s s a a rules recovers out error
+none_written s a rules recovers out error refused = (
   record { bytes = []; end = LeftOff },
   (
-    (consumes_none a, good),
+    reads_none s,
     (
       [],
       (
@@ -171,10 +112,44 @@ no_page markup rules a held failed good = (
           [],
           (
             nothing_come rules,
-            ((refl, IsUtf8-nil), (record { came = nothing; ended = λ over. absurd (cc (over)); no_fault = λ _. refl }, (0, omega arith, Appends-none held))),
+            (
+              (refl, IsUtf8-nil),
+              (
+                record { came = nothing; ended = λ over. absurd (cc (over)); no_fault = λ _. refl },
+                subst (λ (e : RunError). WritesPart a (out [] []) e a) (sym refused) (writes_front a a [] (out [] []) (writes_none a)),
+              ),
+            ),
           ),
         ),
       ),
     ),
   ),
 )
+
+-- ---- lines
+
+pub lines_so : (layout : Layout) (rules : ModeRules) (f : Form) → f ≡ Lines layout → (text : List ℕ) (xs : List Item)
+    → shown f rules text xs ≡ item_lines layout rules text xs
+lines_so layout rules f same text xs = ap (λ (g : Form). shown g rules text xs) same ∙ lines_shown layout rules text xs
+
+-- ---- a page
+
+goes_so : (form : Form) (markup : Markup) (names : List (List ℕ)) → IsPageForm form markup names → goes_on form ≡ true
+goes_so (Lines layout) markup names is = absurd is
+goes_so Html markup names is = refl
+goes_so (Ansi painter) markup names is = refl
+
+pub page_goes_on : (form : Form) (markup : Markup) (names : List (List ℕ)) → IsPageForm form markup names → (f : Form) → f ≡ form → goes_on f ≡ true
+page_goes_on form markup names is f same = ap goes_on same ∙ goes_so form markup names is
+
+page_shown : (form : Form) (markup : Markup) (rules : ModeRules) → IsPageForm form markup rules.names → (text : List ℕ) (xs : List Item)
+    → shown form rules text xs ≡ page_of markup rules.names xs
+page_shown (Lines layout) markup rules is text xs = absurd is
+page_shown Html MarkupHtml rules is text xs = html_shown rules text xs
+page_shown Html MarkupAnsi rules is text xs = absurd is
+page_shown (Ansi painter) MarkupHtml rules is text xs = absurd is
+page_shown (Ansi painter) MarkupAnsi rules is text xs = ansi_shown painter rules text xs ∙ ap (λ (names : List (List ℕ)). flat_map (painted names) xs) is
+
+pub page_so : (form : Form) (markup : Markup) (rules : ModeRules) → IsPageForm form markup rules.names → (f : Form) → f ≡ form → (text : List ℕ) (xs : List Item)
+    → shown f rules text xs ≡ page_of markup rules.names xs
+page_so form markup rules is f same text xs = ap (λ (g : Form). shown g rules text xs) same ∙ page_shown form markup rules is text xs

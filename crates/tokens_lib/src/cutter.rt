@@ -208,7 +208,8 @@ impl<'rules> Cutter<'rules> {
 
     /// How cutting ends at the next piece, if a fault begins there, whatever comes.
     pub(crate) fn stopped_next(&self) -> Option<CutEnd>
-        ensures fault { IfSome result (λ end. (found : ℕ) × ((end ≡ CutEnd.Stopped self.now.here found)
+        ensures fault { IfSome result (λ end. (found : ℕ)
+            × ((end ≡ CutEnd.Stopped self.now.here found)
             × ((take 1 (chars self.now.incoming.chunks.rest) ≡ found ∷ [])
             × BeginsFault self.now.incoming.chunks))) }
         ensures none { IfNone result ((self.now.incoming.chunks.rest ≡ [])
@@ -260,7 +261,8 @@ impl<'rules> Cutter<'rules> {
 
     // The mode on top, and where it was entered, if it has one below it.
     fn open_mode(&self) -> Option<OpenMode>
-        ensures inside { result ≡ open_place self.now.incoming.chunks.stack.mode (reverse self.now.places.items) }
+        ensures inside { result
+            ≡ open_place self.now.incoming.chunks.stack.mode (reverse self.now.places.items) }
     {
         match self.places.last() {
             Some(place) => Some(OpenMode {

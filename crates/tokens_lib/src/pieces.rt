@@ -76,7 +76,8 @@ fn give_pieces<O: Sink, E: Sink>(
     cutter: &mut Cutter<'_>,
     console: &mut Console<O, E>,
 ) -> Result<Option<CutEnd>, RunError>
-    ensures given { IfOk result (λ ended. (begun : ConsoleValue) (text : List ℕ) (xs : List ItemValue)
+    ensures given { IfOk result (λ ended.
+        (begun : ConsoleValue) (text : List ℕ) (xs : List ItemValue)
         → IsGiven sheet.old.form sheet.old.lexer.now text xs cutter.old sheet.old.waiting.items
         begun console.old
         → GivesAll sheet.old.form sheet.old.lexer.now text cutter.old cutter.new
@@ -110,7 +111,8 @@ fn give<O: Sink, E: Sink>(
     cutter: &mut Cutter<'_>,
     console: &mut Console<O, E>,
 ) -> Result<Option<CutEnd>, RunError>
-    ensures given { IfOk result (λ ended. (begun : ConsoleValue) (text : List ℕ) (xs : List ItemValue)
+    ensures given { IfOk result (λ ended.
+        (begun : ConsoleValue) (text : List ℕ) (xs : List ItemValue)
         → IsGiven sheet.old.form sheet.old.lexer.now text xs cutter.old sheet.old.waiting.items
         begun console.old
         → GivesAll sheet.old.form sheet.old.lexer.now text cutter.old cutter.new

@@ -41,9 +41,9 @@ fn push_line(
 ) -> Result<(), AllocError>
     requires fits { shown.now.start + length shown.now.slice.now ≤ usize.MAX }
     ensures { OnOk result (lines.new.items ≡ lines.old.items
-        ++ line_in layout.now.form (option_map (λ f. f.now) layout.now.file) position shown.now.start
-        (option_map (λ n. n.now) shown.now.name) (option_map (λ m. m.now) shown.now.mode)
-        shown.now.slice.now) }
+        ++ line_in layout.now.form (option_map (λ f. f.now) layout.now.file) position
+        shown.now.start (option_map (λ n. n.now) shown.now.name)
+        (option_map (λ m. m.now) shown.now.mode) shown.now.slice.now) }
 {
     match layout.form {
         LineForm::Plain => push_plain(alloc, lines, layout.file, position, shown),

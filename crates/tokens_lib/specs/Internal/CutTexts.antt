@@ -1,5 +1,5 @@
 -- A text that comes and is cut: its pieces, where they lie, and what is written for them.
-use Rattle.std.specs.Prelude.{◌≡◌, ℕ, ◌+◌, ◌-◌, ◌==◌, ◌≤◌, ◌⊎◌, if◌then◌else◌, Bool, true, false, ◌||◌, List, [], ◌∷◌, ◌++◌, length, take, map, reverse, Option, Some, None, option_map, is_some, string_bytes}
+use Rattle.std.specs.Prelude.{◌≡◌, ℕ, ◌+◌, ◌≤◌, ◌⊎◌, Bool, true, false, ◌||◌, List, [], ◌∷◌, ◌++◌, length, take, map, reverse, Option, Some, None, option_map, is_some, string_bytes}
 use Rattle.std.specs.Str.{chars, IsUtf8}
 use Rattle.lalrpop_edits.specs.Chunked.{Chunked, GivesFinal, Came, IsHeldBack, BeginsFault, MayMatch}
 use Rattle.bajofeki_rules.specs.Position.{place_after, position_of}

@@ -1,21 +1,17 @@
-use Rattle.std.proofs.Common.{sym, ◌∙◌}
-use Rattle.tokens_lib.specs.declared.cut_end.TextError.TheVariants.{Read}
-use Rattle.tokens_lib.specs.declared.cut_end.CutEnd.TheVariants.{Broken}
-use Rattle.tokens_lib.specs.declared.sheet.Form.TheVariants.{Lines}
-use Rattle.tokens_lib.proofs.WrittenLaws.{all_lines, broken_at_once, err_lines, ok_lines}
+use Rattle.std.proofs.Common.{ap}
+use Rattle.reports_lib.specs.ItemLines.{item_lines}
+use Rattle.tokens_lib.specs.Internal.CutTexts.{goes_on}
+use Rattle.tokens_lib.proofs.WrittenLaws.{err_so, lines_so, ok_so}
 use Rattle.tokens_lib.proofs.item_lines.write_items.Goals as goal
-
-pub returns-then-failed-clause-written : goal.returns-then-failed-clause-written
-returns-then-failed-clause-written g c =
-    all_lines c.args.layout.now c.args.lexer.now _ _ _ _ _ (Broken Read)
-    (broken_at_once (Lines c.args.layout.now) c.args.lexer.now _ _ _ (sym c.failed.ensures.failed ∙ c.if-failed.true))
 
 pub returns-clause-written : goal.returns-clause-written
 returns-clause-written g c =
-    ok_lines c.args.layout.now c.args.lexer.now _ _ _ _ _ c.new-sheet.result.form c.new-sheet.result.lexer.now c.new-sheet.ensures.form c.new-sheet.ensures.lexer c.write_pieces.result
+    ok_so c.args.reader.now c.write_pieces.new.reader c.args.console.now c.write_pieces.new.console c.args.lexer.now c.args.layout.now.recovers (item_lines c.args.layout.now c.args.lexer.now) c.new-sheet.result.form (ap goes_on c.new-sheet.ensures.form)
+    (lines_so c.args.layout.now c.args.lexer.now c.new-sheet.result.form c.new-sheet.ensures.form) c.new-sheet.result.lexer.now c.new-sheet.ensures.lexer c.write_pieces.result
     c.write_pieces.ensures.written
 
-pub returns-clause-prefix : goal.returns-clause-prefix
-returns-clause-prefix g c =
-    err_lines c.args.layout.now c.args.lexer.now _ _ _ _ _ c.new-sheet.result.form c.new-sheet.result.lexer.now c.new-sheet.ensures.form c.new-sheet.ensures.lexer c.write_pieces.result
-    c.write_pieces.ensures.prefix
+pub returns-clause-part : goal.returns-clause-part
+returns-clause-part g c =
+    err_so c.args.reader.now c.write_pieces.new.reader c.args.console.now c.write_pieces.new.console c.args.lexer.now c.args.layout.now.recovers (item_lines c.args.layout.now c.args.lexer.now) c.new-sheet.result.form (ap goes_on c.new-sheet.ensures.form)
+    (lines_so c.args.layout.now c.args.lexer.now c.new-sheet.result.form c.new-sheet.ensures.form) c.new-sheet.result.lexer.now c.new-sheet.ensures.lexer c.write_pieces.result
+    c.write_pieces.ensures.part

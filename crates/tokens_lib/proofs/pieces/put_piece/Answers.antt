@@ -1,6 +1,17 @@
-use Rattle.std.proofs.Common.{arith}
-use Rattle.lexdfa_lib.proofs.Known.{Appends-none}
+use Rattle.std.proofs.Common.{ℕ, List, [], ◌++◌}
+use Rattle.lalrpop_edits.specs.Given.{item_of}
+use Rattle.lalrpop_rules.proofs.Results.{handed_on}
+use Rattle.lexdfa_lib.specs.declared.error.RunError.{RunError}
+use Rattle.lexdfa_lib.specs.declared.error.RunError.TheVariants.{OutOfMemory}
+use Rattle.tokens_lib.specs.Streams.{WritesPart}
+use Rattle.tokens_lib.specs.Internal.CutTexts.{piece_shown}
+use Rattle.tokens_lib.proofs.StreamLaws.{writes_front, writes_none}
 use Rattle.tokens_lib.proofs.pieces.put_piece.Goals as goal
 
-pub returns-then-is_err-clause-prefix : goal.returns-then-is_err-clause-prefix
-returns-then-is_err-clause-prefix g c = (0, omega arith, Appends-none _)
+pub returns-in_err-push-clause-part : goal.returns-in_err-push-clause-part
+returns-in_err-push-clause-part g c =
+    let sheet = c.args.sheet.now in
+    let cut = c.args.cut.now in
+    let bytes : List ℕ = sheet.waiting.items ++ piece_shown sheet.form sheet.lexer.now.names cut.place cut.mode (item_of cut.piece c.args.slice) in
+    handed_on (λ (error : RunError). WritesPart c.args.console.now bytes error c.args.console.now) c.from_residual.result OutOfMemory c.from_residual.ensures.1
+    (writes_front c.args.console.now c.args.console.now [] bytes (writes_none c.args.console.now))

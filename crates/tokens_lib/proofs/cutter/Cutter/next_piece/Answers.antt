@@ -3,19 +3,15 @@ use Rattle.std.specs.Prelude.{Option, Some, Result, Ok}
 use Rattle.lalrpop_edits.specs.declared.given_piece.GivenPiece.{GivenPiece}
 use Rattle.lalrpop_edits.specs.declared.error.EditError.{EditError}
 use Rattle.lalrpop_edits.proofs.ChunkLaws.{gives_some}
-use Rattle.tokens_lib.proofs.Errors.{where_it_is_ok}
 use Rattle.tokens_lib.specs.declared.incoming.Incoming.{Incoming}
 use Rattle.tokens_lib.proofs.CutLaws.{gives_cut}
 use Rattle.tokens_lib.proofs.cutter.Cutter.next_piece.Goals as goal
 
 pub returns-clause-gives : goal.returns-clause-gives
 returns-clause-gives c slice same =
-    let ok = c.if-is_err.false in
-    let told = c.is_err.ensures.value in
-    let note = c.note.ensures in
-    let incoming = where_it_is_ok _ c.note.result _ told ok note.incoming in
-    let last : slice.now ≡ c.next_piece.new.self.last = same ∙ ap (λ (i : Incoming). i.chunks.last) incoming in
+    let note = c.in_ok-note.ensures in
+    let last : slice.now ≡ c.next_piece.new.self.last = same ∙ ap (λ (i : Incoming). i.chunks.last) note.incoming in
     let told_some : ◌≡◌ {A = Result (Option GivenPiece) EditError} (Ok c.in-Ok-Some.field-0) (Ok (Some c.in-Ok-Some.piece)) = cc in
-    gives_cut c.args.self.now c.note.new.self c.next_piece.new.self _ _ c.in-Ok-Some.piece slice c.mode-mode.result (gives_some c.args.self.now.incoming.chunks c.next_piece.new.self _ c.in-Ok-Some.piece slice told_some c.in-Ok-Some.ensures.gives last) last c.mode-mode.ensures.mode
-    (where_it_is_ok _ c.note.result _ told ok note.utf8) incoming refl refl (where_it_is_ok _ c.note.result _ told ok note.lexer) (where_it_is_ok _ c.note.result _ told ok note.here)
-    (where_it_is_ok _ c.note.result _ told ok note.at) (where_it_is_ok _ c.note.result _ told ok note.fault) (where_it_is_ok _ c.note.result _ told ok note.places)
+    gives_cut c.args.self.now c.note.new.self c.next_piece.new.self _ _ c.in-Ok-Some.piece slice c.mode-mode.result
+    (gives_some c.args.self.now.incoming.chunks c.next_piece.new.self _ c.in-Ok-Some.piece slice told_some c.in-Ok-Some.ensures.gives last) last c.mode-mode.ensures.mode
+    note.utf8 note.incoming refl refl note.lexer note.here note.at note.fault note.places

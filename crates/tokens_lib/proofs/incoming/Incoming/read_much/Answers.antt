@@ -1,4 +1,4 @@
-use Rattle.std.proofs.Common.{◌≡◌, false, refl, arith, rules}
+use Rattle.std.proofs.Common.{◌≡◌, false, arith, rules}
 use Rattle.tokens_lib.specs.Streams.{AtEnd, Failed, LeftOff}
 use Rattle.tokens_lib.specs.Internal.Incoming.{held}
 use Rattle.tokens_lib.proofs.Incomings.{held_on, lost_again, on_again, on_err, on_with_nothing}
