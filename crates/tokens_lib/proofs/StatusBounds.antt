@@ -162,33 +162,33 @@ compared_low Gives verbosity rules set modes other answer is =
     by_rules_low verbosity Gives (λ new others. DifferenceAnswer rules set modes other new others) other answer (λ new others a told. difference_low rules set modes other new others a told) is
 
 -- any action
-action_low : (Gives : List ℕ → Given → Type 0) (Read_of : List ℕ → Reading → Type 0) (i k : Stream) (verbosity : Verbosity) (action : Action) (rules : List ℕ) (files : List (List ℕ))
-    (answer : Answer) → ActionAnswer Gives (TextsAnswer Read_of i k) verbosity action rules files answer → IsLow answer
-action_low Gives Read_of i k verbosity Clashes rules files answer is =
+action_low : (Gives : List ℕ → Given → Type 0) (Read_of : List ℕ → Reading → Type 0) (i k : Stream) (action : Action) (verbosity : Verbosity) (rules : List ℕ) (files : List (List ℕ))
+    (answer : Answer) → ActionAnswer Gives (TextsAnswer Read_of i k) action verbosity rules files answer → IsLow answer
+action_low Gives Read_of i k Clashes verbosity rules files answer is =
     reads_low Gives (RulesOf verbosity ClashesAnswer) rules answer (λ bytes a said. rules_of_low verbosity ClashesAnswer rules bytes a (list_low rules) said) is
-action_low Gives Read_of i k verbosity (Check form) rules files answer is =
+action_low Gives Read_of i k (Check form) verbosity rules files answer is =
     reads_low Gives (RulesTold finding verbosity (CheckAnswer form)) rules answer
     (λ bytes a said. rules_told_low finding verbosity (CheckAnswer form) rules bytes a (check_low form rules) (λ words. one_low (is_said words)) said) is
-action_low Gives Read_of i k verbosity (Cut form recovers) rules files answer is =
+action_low Gives Read_of i k (Cut form recovers) verbosity rules files answer is =
     let several = nat_lt 1 (length files) in
     by_rules_low verbosity Gives (λ r modes. TextsAnswer Read_of i k verbosity (PiecesAnswer r modes form recovers several) (PiecesPart r modes form recovers several) files) rules answer
     (λ r modes a texts. texts_low Read_of i k verbosity (PiecesAnswer r modes form recovers several) (PiecesPart r modes form recovers several) files a (pieces_low r modes form recovers several) texts) is
-action_low Gives Read_of i k verbosity (Show markup) rules files answer is =
+action_low Gives Read_of i k (Show markup) verbosity rules files answer is =
     by_rules_low verbosity Gives (λ r modes. TextsAnswer Read_of i k verbosity (PageAnswer r modes markup) (PagePart r modes markup) files) rules answer
     (λ r modes a texts. texts_low Read_of i k verbosity (PageAnswer r modes markup) (PagePart r modes markup) files a (page_low r modes markup) texts) is
-action_low Gives Read_of i k verbosity (Emit language) rules files answer is =
+action_low Gives Read_of i k (Emit language) verbosity rules files answer is =
     by_rules_low verbosity Gives (λ r modes. SourceAnswer language rules r) rules answer (λ r modes a written. source_low language rules r a written) is
-action_low Gives Read_of i k verbosity Picture rules files answer is =
+action_low Gives Read_of i k Picture verbosity rules files answer is =
     by_rules_low verbosity Gives (λ r modes. PictureAnswer rules (slice_get files 0) r) rules answer (λ r modes a drawn. picture_low rules (slice_get files 0) r a drawn) is
-action_low Gives Read_of i k verbosity Difference rules files answer is =
+action_low Gives Read_of i k Difference verbosity rules files answer is =
     by_rules_low verbosity Gives (λ r modes. ComparedAnswer Gives verbosity rules r modes (other_of files)) rules answer
     (λ r modes a told. compared_low Gives verbosity rules r modes (other_of files) a told) is
 
 pub command_low : (Gives : List ℕ → Reading → Type 0) (i k : Stream) (command : Command) (answer : Answer)
-    → CommandAnswer (λ action verbosity rules files. ActionAnswer (GivesWhole Gives) (TextsAnswer Gives i k) verbosity action rules files) command answer → IsLow answer
+    → CommandAnswer (λ action verbosity rules files. ActionAnswer (GivesWhole Gives) (TextsAnswer Gives i k) action verbosity rules files) command answer → IsLow answer
 command_low Gives i k Help answer is = low answer _ is (omega arith)
 command_low Gives i k Version answer is = low answer _ is (omega arith)
 command_low Gives i k (Run action verbosity rules files) answer (own, (is, e)) =
     let names = map (λ file. file.now) files.items in
-    let a : IsLow own = action_low (GivesWhole Gives) Gives i k verbosity action rules.now names own is in
+    let a : IsLow own = action_low (GivesWhole Gives) Gives i k action verbosity rules.now names own is in
     low answer _ e (omega arith)

@@ -57,12 +57,12 @@ abbrev pub Texts : Type 1
 Texts = Verbosity → (List ℕ → Reading → Answer → Type 0) → (List ℕ → Reading → Answer → Type 0) → List (List ℕ) → Answer → Type 0
 
 -- the answer for any action by a file of rules
-abbrev pub ActionAnswer : (List ℕ → Given → Type 0) → Texts → Verbosity → Action → List ℕ → List (List ℕ) → Answer → Type 0
-ActionAnswer Gives OfTexts verbosity (Cut form recovers) rules files answer =
+abbrev pub ActionAnswer : (List ℕ → Given → Type 0) → Texts → Action → Verbosity → List ℕ → List (List ℕ) → Answer → Type 0
+ActionAnswer Gives OfTexts (Cut form recovers) verbosity rules files answer =
     ByLexer Gives verbosity (λ r modes. OfTexts verbosity (PiecesAnswer r modes form recovers (nat_lt 1 (length files))) (PiecesPart r modes form recovers (nat_lt 1 (length files))) files) rules answer
-ActionAnswer Gives OfTexts verbosity (Show markup) rules files answer =
+ActionAnswer Gives OfTexts (Show markup) verbosity rules files answer =
     ByLexer Gives verbosity (λ r modes. OfTexts verbosity (PageAnswer r modes markup) (PagePart r modes markup) files) rules answer
-ActionAnswer Gives OfTexts verbosity action rules files answer = ReplyAnswer Gives verbosity action rules files answer
+ActionAnswer Gives OfTexts action verbosity rules files answer = ReplyAnswer Gives verbosity action rules files answer
 
 -- the answer for a command, by what is answered to its action: with progress, it says first that the rules are read
 abbrev pub CommandAnswer : (Action → Verbosity → List ℕ → List (List ℕ) → Answer → Type 0) → Command → Answer → Type 0
@@ -80,12 +80,12 @@ WordsAnswer Own words answer =
 -- the answer for these arguments, where standard input comes from one state to another
 abbrev pub IsAnswer : (List ℕ → Reading → Type 0) → Stream → Stream → List (List ℕ) → Answer → Type 0
 IsAnswer Gives i k words answer =
-    WordsAnswer (λ action verbosity rules files. ActionAnswer (GivesWhole Gives) (TextsAnswer Gives i k) verbosity action rules files) words answer
+    WordsAnswer (λ action verbosity rules files. ActionAnswer (GivesWhole Gives) (TextsAnswer Gives i k) action verbosity rules files) words answer
 
 -- the answer up to where a run fails: perhaps none for the action, or for the first texts only
 abbrev pub IsFirstAnswer : (List ℕ → Reading → Type 0) → Stream → List (List ℕ) → Answer → Type 0
 IsFirstAnswer Gives i words answer =
-    WordsAnswer (λ action verbosity rules files. Begins (ActionAnswer (GivesWhole Gives) (FirstTextsAnswer Gives i) verbosity action rules files)) words answer
+    WordsAnswer (λ action verbosity rules files. Begins (ActionAnswer (GivesWhole Gives) (FirstTextsAnswer Gives i) action verbosity rules files)) words answer
 
 -- what is said of a run that fails, or of arguments that aren't UTF-8
 abbrev pub failure_text : Failure → List ℕ

@@ -1,10 +1,10 @@
 //! The lexer of a file of rules.
-ghost use Rattle.std.specs.Prelude.{◌≡◌, ◌<◌, ℕ, List, length, slice_get, Some, Ok, map, string_bytes, IfOk, IfErr};
+ghost use Rattle.std.specs.Prelude.{◌≡◌, ◌<◌, ℕ, List, length, slice_get, Some, Ok, Err, map, string_bytes, IfOk, IfErr};
 ghost use Rattle.bajofeki_rules.specs.Lines.{lines};
 ghost use Rattle.lalrpop_rules.specs.ModeSet.{rules_of};
 ghost use Rattle.lalrpop_rule_file.specs.RuleFile.{AreFileParts, AreRules, ArePlaces, NamesMode, without_mark as without_mark_of};
 ghost use Rattle.lalrpop_rule_file.specs.declared.file_rule.FileRule.{FileRule as FileRuleValue};
-ghost use Rattle.reports_lib.specs.Answer.{about as about_text, followed, headed, refusal, remark};
+ghost use Rattle.reports_lib.specs.Answer.{Answer, about as about_text, followed, headed, refusal, remark};
 ghost use Rattle.reports_lib.specs.Reasons.{CanBeSaid, SaysBadLine, SaysRules};
 ghost use Rattle.tokens_lib.specs.FileAnswers.{BytesAnswer};
 ghost use Rattle.tokens_lib.specs.NamedRules.{StandAt, IsSetOf, AreRulesOf, LinesAnswer, RulesOf, RulesRefused, clashes_status, rules_status};
@@ -140,9 +140,10 @@ fn warned_lexer(
     found: Result<FileLexer, Reply>,
     said: String,
 ) -> Result<Result<WarnedLexer, Reply>, AllocError>
-    ensures lexer { IfOk result (λ w. IfOk w (λ w. IfOk found (λ f. (w.lexer ≡ f) × (w.said ≡ said)))) }
-    ensures refused { IfOk result (λ w. IfErr w (λ reply. IfErr found (λ own.
-        reply ≡ followed (remark (string_bytes said)) own))) }
+    ensures lexer { IfOk result (λ all. IfOk all (λ w.
+        (found ≡ Ok w.lexer) × (w.said ≡ said))) }
+    ensures refused { IfOk result (λ all. IfErr all (λ reply. (own : Answer)
+        × ((found ≡ Err own) × (reply ≡ followed (remark (string_bytes said)) own)))) }
 {
     match found {
         Ok(lexer) => Ok(Ok(WarnedLexer { lexer, said })),

@@ -60,12 +60,12 @@ fn cut_lines<F: Files, S: Source, O: Sink, E: Sink>(
     console: &mut Console<O, E>,
 ) -> Result<u8, RunError>
     ensures answer { IfOk result (λ status. Answers (ActionAnswer (GivesWhole (F.gives files.now))
-        (TextsAnswer (F.gives files.now) input.old input.new) verbosity
-        (Action.Cut form recovers) rules.now (map (λ name. name.now) names.now))
+        (TextsAnswer (F.gives files.now) input.old input.new)
+        (Action.Cut form recovers) verbosity rules.now (map (λ name. name.now) names.now))
         console.old status console.new) }
     ensures fails { IfErr result (λ e. Fails (ActionAnswer (GivesWhole (F.gives files.now))
-        (FirstTextsAnswer (F.gives files.now) input.old) verbosity
-        (Action.Cut form recovers) rules.now (map (λ name. name.now) names.now))
+        (FirstTextsAnswer (F.gives files.now) input.old)
+        (Action.Cut form recovers) verbosity rules.now (map (λ name. name.now) names.now))
         console.old e console.new) }
 {
     match lexer_by_name(alloc, verbosity, files, rules)? {
@@ -95,12 +95,12 @@ fn cut_pages<F: Files, S: Source, O: Sink, E: Sink>(
     console: &mut Console<O, E>,
 ) -> Result<u8, RunError>
     ensures answer { IfOk result (λ status. Answers (ActionAnswer (GivesWhole (F.gives files.now))
-        (TextsAnswer (F.gives files.now) input.old input.new) verbosity
-        (Action.Show markup) rules.now (map (λ name. name.now) names.now))
+        (TextsAnswer (F.gives files.now) input.old input.new)
+        (Action.Show markup) verbosity rules.now (map (λ name. name.now) names.now))
         console.old status console.new) }
     ensures fails { IfErr result (λ e. Fails (ActionAnswer (GivesWhole (F.gives files.now))
-        (FirstTextsAnswer (F.gives files.now) input.old) verbosity
-        (Action.Show markup) rules.now (map (λ name. name.now) names.now))
+        (FirstTextsAnswer (F.gives files.now) input.old)
+        (Action.Show markup) verbosity rules.now (map (λ name. name.now) names.now))
         console.old e console.new) }
 {
     match lexer_by_name(alloc, verbosity, files, rules)? {
@@ -128,10 +128,10 @@ fn run_action<F: Files, S: Source, O: Sink, E: Sink>(
     console: &mut Console<O, E>,
 ) -> Result<u8, RunError>
     ensures answer { IfOk result (λ status. Answers (ActionAnswer (GivesWhole (F.gives files.now))
-        (TextsAnswer (F.gives files.now) input.old input.new) verbosity action.entry rules.now
+        (TextsAnswer (F.gives files.now) input.old input.new) action.entry verbosity rules.now
         (map (λ name. name.now) names.now)) console.old status console.new) }
     ensures fails { IfErr result (λ e. Fails (ActionAnswer (GivesWhole (F.gives files.now))
-        (FirstTextsAnswer (F.gives files.now) input.old) verbosity action.entry rules.now
+        (FirstTextsAnswer (F.gives files.now) input.old) action.entry verbosity rules.now
         (map (λ name. name.now) names.now)) console.old e console.new) }
 {
     match action {
@@ -169,7 +169,7 @@ fn run_command<F: Files, S: Source, O: Sink, E: Sink>(
         console.old status console.new) }
     ensures fails { IfErr result (λ e. Fails (CommandAnswer
         (λ action verbosity rules names. Begins (ActionAnswer (GivesWhole (F.gives files.now))
-        (FirstTextsAnswer (F.gives files.now) input.old) verbosity action rules names)) command.now)
+        (FirstTextsAnswer (F.gives files.now) input.old) action verbosity rules names)) command.now)
         console.old e console.new) }
 {
     match command {

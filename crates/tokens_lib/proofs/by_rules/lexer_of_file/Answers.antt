@@ -1,37 +1,30 @@
-use Rattle.std.proofs.Common.{ℕ, length, map, refl, sym, subst, ◌∙◌, arith}
+use Rattle.std.proofs.Common.{ℕ, length, map, sym, subst, ◌∙◌, arith}
 use Rattle.std.proofs.lemmas.List.{length-map}
 use Rattle.lalrpop_rules.specs.ModeSet.{AreModeRules, IsRulesError}
-use Rattle.reports_lib.specs.Answer.{headed, refusal}
-use Rattle.tokens_lib.specs.NamedRules.{IsSetOf, rules_status}
+use Rattle.tokens_lib.specs.NamedRules.{IsSetOf}
 use Rattle.tokens_lib.specs.Internal.Faults.{NameOnly}
 use Rattle.tokens_lib.proofs.Refusals.{error_said}
 use Rattle.tokens_lib.proofs.by_rules.lexer_of_file.Goals as goal
 
 pub from_rules-requires : goal.from_rules-requires
-from_rules-requires g c = record { some = omega (arith, c.len.ensures, c.args.file.now.modes.ok.0, c.requires.some) }
+from_rules-requires c = record { some = omega (arith, c.len.ensures, c.args.file.now.modes.ok.0, c.requires.some) }
 
-pub report_rules-requires : goal.report_rules-requires
-report_rules-requires g c =
+pub rules_refused-requires : goal.rules_refused-requires
+rules_refused-requires c =
     let error_is : IsRulesError c.args.file.now.rules.items (length (map (λ m. m.now) c.args.file.now.modes.items)) c.in-Err.error =
     subst (λ (n : ℕ). IsRulesError c.args.file.now.rules.items n c.in-Err.error) (c.len.ensures ∙ c.args.file.now.modes.ok.0 ∙ sym (length-map c.args.file.now.modes.items (λ m. m.now)))
     (rw c.deref.ensures.value at c.in-Err.ensures.error) in
     record { error = error_said c.args.file.now.rules.items _ c.in-Err.error (subst (NameOnly c.args.file.now.rules.items) (sym (length-map c.args.file.now.modes.items (λ m. m.now))) c.requires.within) error_is }
 
-pub returns-in_ok-report_rules-in-Err-clause-refused : goal.returns-in_ok-report_rules-in-Err-clause-refused
-returns-in_ok-report_rules-in-Err-clause-refused g c =
+pub returns-in_ok-rules_refused-in-Err-clause-refused : goal.returns-in_ok-rules_refused-in-Err-clause-refused
+returns-in_ok-rules_refused-in-Err-clause-refused c =
     let error_is : IsRulesError c.args.file.now.rules.items (length (map (λ m. m.now) c.args.file.now.modes.items)) c.in-Err.error =
     subst (λ (n : ℕ). IsRulesError c.args.file.now.rules.items n c.in-Err.error) (c.len.ensures ∙ c.args.file.now.modes.ok.0 ∙ sym (length-map c.args.file.now.modes.items (λ m. m.now)))
     (rw c.deref.ensures.value at c.in-Err.ensures.error) in
-    let said = c.in_ok-report_rules-in-Err.ensures.said in (
-      refusal (rules_status c.in-Err.error) (headed c.args.name.now said.0),
-      (
-        (c.in-Err.error, (error_is, (c.args.file.now.places.items, (c.requires.places, (said.0, (said.1.0, refl)))))),
-        (c.in_ok-report_rules-in-Err.ensures.status, (refl, said.1.1)),
-      ),
-    )
+    (c.in-Err.error, (error_is, (c.args.file.now.places.items, (c.requires.places, c.in_ok-rules_refused-in-Err.ensures.answer))))
 
 pub returns-in_ok-with_names-in-Ok-clause-lexer : goal.returns-in_ok-with_names-in-Ok-clause-lexer
-returns-in_ok-with_names-in-Ok-clause-lexer g c =
+returns-in_ok-with_names-in-Ok-clause-lexer c =
     let rs = c.args.file.now.rules.items in
     let names = map (λ m. m.now) c.args.file.now.modes.items in
     let are : AreModeRules rs (length names) c.in-Ok.lexer =

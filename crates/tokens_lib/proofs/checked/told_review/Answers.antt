@@ -12,4 +12,4 @@ pub returns : goal.returns
 returns c =
     let status = c.review_status-status.ensures ∙ ap (λ (b : Bool). if b then 1 else 0) c.has_findings.ensures.findings in
     let text = rw (c.deref.ensures.value, c.deref-2.ensures.value, c.deref-3.ensures.value) at c.in_ok-text.ensures.text in
-    (c.in_ok-found.found, (c.in_ok-found.ensures.review, same_answer _ _ _ _ status text))
+    (c.in_ok-found.found, (c.in_ok-found.ensures.review, c.written.ensures.written ∙ same_answer _ _ _ _ status text))
