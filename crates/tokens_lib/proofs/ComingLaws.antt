@@ -240,8 +240,8 @@ module _ (form : Form) (rules : ModeRules) (s t : Stream) (begun now : Console) 
   -- all pieces were given that can be
   module _ (later : Console) (d : Cutter) (gives : GivesAll form rules is.text c d [] begun later None) where
     -- and more may come
-    pub goes_further : end_by d coming ≡ None → IsBetween form rules s t begun later d
-    goes_further = by coming is.comes
+    pub goes_further : (result : Option CutEnd) → result ≡ end_by d coming → result ≡ None → IsBetween form rules s t begun later d
+    goes_further result told none_told = by coming is.comes (sym told ∙ none_told)
       where
         by : (k : Coming) → IsComing is.end is.text is.left c k → end_by d k ≡ None → IsBetween form rules s t begun later d
         by More comes none =
@@ -283,8 +283,8 @@ module _ (form : Form) (rules : ModeRules) (s t : Stream) (begun now : Console) 
         )
 
     -- or no more does
-    pub ends_at_last : (ended : CutEnd) → end_by d coming ≡ Some ended → WritesAll form rules s t begun later ended
-    ends_at_last = by coming is.comes
+    pub ends_at_last : (result : Option CutEnd) (ended : CutEnd) → result ≡ end_by d coming → result ≡ Some ended → WritesAll form rules s t begun later ended
+    ends_at_last result ended told some_told = by coming is.comes ended (sym told ∙ some_told)
       where
         by : (k : Coming) → IsComing is.end is.text is.left c k → (ended : CutEnd) → end_by d k ≡ Some ended → WritesAll form rules s t begun later ended
         by More comes ended e = absurd (cc (e))

@@ -37,7 +37,7 @@ GivesSome form rules c waiting old new error =
     (begun : Console) (text : List ℕ) (xs : List Item) → IsGiven form rules text xs c waiting begun old
     → (ys : List Item) × ((d : Chunked) × (IsGivenInPart form rules text ys d begun error new × (d.is_ended ≡ c.incoming.chunks.is_ended)))
 
--- nothing changes of what comes
+-- one more piece changes nothing of what comes
 pub as_more : (c d e : Cutter) (x : Item) (place : Position) (mode : ℕ) → IsAsBefore c d → GivesCut d x place mode e → IsAsBefore c e
 as_more c d e x place mode same gives = record {
   lexer = gives.lexer ∙ same.lexer;

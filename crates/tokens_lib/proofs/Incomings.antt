@@ -53,7 +53,7 @@ whole_mark (c ∷ cs) t more rest is some all =
     let same : c ≡ 65279 = (one_code c 65279 (encode_utf8_all cs ++ more) rest begin).0 in
     (encode_utf8_all cs, sym is ∙ ap (λ (l : List ℕ). l ++ encode_utf8_all cs) (ap encode_utf8 same ∙ mark_is))
 
--- so what comes behind some of the text makes no mark of it
+-- so what comes after some of the text makes no mark of it
 pub mark_settled : (t more : List ℕ) → IsUtf8 t → t ≢ [] → without_mark (t ++ more) ≡ without_mark t ++ more
 mark_settled t more utf8 some = by_test (bytes_eq (take 3 t) mark)
     (λ is_so. subst (λ (s : List ℕ). without_mark (s ++ more) ≡ without_mark s ++ more) (sym (has_mark t is_so)) refl)
@@ -86,7 +86,7 @@ mark_size t = by_test (bytes_eq (take 3 t) mark)
     (λ is_so. subst (λ (s : List ℕ). length s ≤ length (without_mark s) + 3) (sym (has_mark t is_so)) (omega (arith, length-append mark (drop 3 t))))
     (λ not_so. omega (arith, ap length (has_none t not_so)))
 
--- what lies behind a mark that was looked for
+-- what lies after a mark that was looked for
 pub strip_mark : (bytes : List ℕ) (found : Option (Bor (List ℕ)))
     → MatchOption found (FindsCharPrefix 65279 bytes None) (λ x. (n : ℕ) × FindsCharPrefix 65279 bytes (Some n) × (x.now ≡ drop n bytes) × (length x.now + n ≡ length bytes))
     → (all told : Bor (List ℕ)) → all.now ≡ bytes → told ≡ unwrap_or found all → told.now ≡ without_mark bytes

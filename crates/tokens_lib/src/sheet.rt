@@ -134,7 +134,7 @@ impl<'rules, 'file, 'modes> Sheet<'rules, 'file, 'modes> {
         }
     }
 
-    /// Whether cutting goes on behind a fault.
+    /// Whether cutting goes on after a fault.
     pub(crate) fn goes_on(&self) -> bool
         ensures goes { result ≡ goes_on self.now.form }
     {
@@ -148,7 +148,7 @@ impl<'rules, 'file, 'modes> Sheet<'rules, 'file, 'modes> {
     ///
     /// # Errors
     ///
-    /// `AllocError` if a request for memory was refused, or if the piece ends behind 2^64 bytes.
+    /// `AllocError` if a request for memory was refused, or if the piece ends past 2^64 bytes.
     pub(crate) fn push(
         &mut self,
         alloc: Global,

@@ -129,7 +129,7 @@ piece_shown (Lines layout) names place mode x =
 piece_shown Html names place mode x = marked names x
 piece_shown (Ansi painter) names place mode x = painted painter x
 
--- whether cutting goes on behind a fault
+-- whether cutting goes on after a fault
 abbrev pub goes_on : Form → Bool
 goes_on (Lines layout) = layout.recovers
 goes_on Html = true
@@ -172,7 +172,7 @@ pub record IsGivenInPart (form : Form) (rules : ModeRules) (text : List ℕ) (xs
   pub no_fault : NoFaultYet form xs
   pub part : WritesPart old (shown form rules text xs) error new
 
--- a fault begins behind them, where cutting ends
+-- a fault begins after them, where cutting ends
 pub record EndsAtFault (form : Form) (rules : ModeRules) (text : List ℕ) (xs : List Item) (c : Chunked) (ended : CutEnd) : Type 0 where
   pub came : Came rules text xs c
   pub no_fault : first_fault xs ≡ None

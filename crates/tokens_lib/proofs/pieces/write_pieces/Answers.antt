@@ -1,4 +1,4 @@
-use Rattle.std.proofs.Common.{refl, sym, ap, subst, ◌∙◌, []}
+use Rattle.std.proofs.Common.{refl, ap, subst, ◌∙◌, []}
 use Rattle.std.specs.Prelude.{Option}
 use Rattle.lalrpop_rules.proofs.Results.{handed_on}
 use Rattle.lalrpop_rules.specs.Modes.{ModeRules}
@@ -62,7 +62,7 @@ returns-in-Some-end-clause-written g c =
     c.give.new.cutter [] c.in_ok-ended.field-0 (c.in_ok-ended.ensures.given begun read.text read.xs) read.given in
     ends_at_last form rules c.args.reader.now c.read_on.new.reader begun c.reading.console c.read_on.new.self c.in_ok-coming.coming read c.give.new.console c.give.new.cutter
     (subst (λ (o : Option CutEnd). GivesAll form rules read.text c.read_on.new.self c.give.new.cutter [] begun c.give.new.console o) c.in_default.is given)
-    c.in-Some-end.ended (sym c.end.ensures.end ∙ c.in-Some-end.is)
+    c.end.result c.in-Some-end.ended c.end.ensures.end c.in-Some-end.is
 
 pub reading-preserved : goal.reading-preserved
 reading-preserved g c =
@@ -78,7 +78,7 @@ reading-preserved g c =
     record {
       between = goes_further form rules c.args.reader.now c.read_on.new.reader begun c.reading.console c.read_on.new.self c.in_ok-coming.coming read c.give.new.console c.give.new.cutter
           (subst (λ (o : Option CutEnd). GivesAll form rules read.text c.read_on.new.self c.give.new.cutter [] begun c.give.new.console o) c.in_default.is given)
-          (sym c.end.ensures.end ∙ c.in_default-end.is);
+          c.end.result c.end.ensures.end c.in_default-end.is;
       none = c.in_ok-ended.ensures.none;
       form = c.in_ok-ended.ensures.form ∙ i.form;
       lexer = c.in_ok-ended.ensures.lexer ∙ i.lexer;
