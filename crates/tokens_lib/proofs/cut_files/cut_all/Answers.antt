@@ -35,7 +35,7 @@ pub returns-then-is_empty-clause-fails : goal.returns-then-is_empty-clause-fails
 returns-then-is_empty-clause-fails g c =
     let n : length (map text c.args.names.now) ≡ length c.args.names.now = length-map c.args.names.now text in
     IfErr-weaker c.cut_each.result _ _
-    (λ e. Fails-weaker _ _ _ _ e (texts_begun (g.F.Files.gives c.args.files.now) (TaskAnswer c.args.task.now) (TaskPart c.args.task.now) c.args.input.now c.cut_each.new.input
+    (λ e. Fails-weaker _ _ c.args.console.now c.cut_each.new.console e (texts_begun (g.F.Files.gives c.args.files.now) (TaskAnswer c.args.task.now) (TaskPart c.args.task.now) c.args.input.now c.cut_each.new.input
     c.args.verbosity _ _ (map text c.args.names.now)
     (c.total_said-total.ensures.total ∙ ap (total_said c.args.verbosity) (sym n))
     (sym (cut_unnamed (map text c.args.names.now) (n ∙ eqb-true (length c.args.names.now) 0 (sym c.is_empty.ensures ∙ c.if-is_empty.true))))))
@@ -45,7 +45,7 @@ pub returns-else-is_empty-clause-fails : goal.returns-else-is_empty-clause-fails
 returns-else-is_empty-clause-fails g c =
     let n : length (map text c.args.names.now) ≡ length c.args.names.now = length-map c.args.names.now text in
     IfErr-weaker c.cut_each-else-is_empty.result _ _
-    (λ e. Fails-weaker _ _ _ _ e (texts_begun (g.F.Files.gives c.args.files.now) (TaskAnswer c.args.task.now) (TaskPart c.args.task.now) c.args.input.now
+    (λ e. Fails-weaker _ _ c.args.console.now c.cut_each-else-is_empty.new.console e (texts_begun (g.F.Files.gives c.args.files.now) (TaskAnswer c.args.task.now) (TaskPart c.args.task.now) c.args.input.now
     c.cut_each-else-is_empty.new.input c.args.verbosity _ (map text c.args.names.now) (map text c.args.names.now)
     (c.total_said-total.ensures.total ∙ ap (total_said c.args.verbosity) (sym n))
     (sym (cut_named (map text c.args.names.now) (λ e. eqb-false (length c.args.names.now) 0 (sym c.is_empty.ensures ∙ c.if-is_empty.false) (sym n ∙ e))))))

@@ -12,8 +12,4 @@ pub returns-in-Err-OutOfMemory-clause-fails : goal.returns-in-Err-OutOfMemory-cl
 returns-in-Err-OutOfMemory-clause-fails g c = fails_at_once _ c.args.console.now
 
 pub returns-in_ok-unread-in-Err-Because-clause-fails : goal.returns-in_ok-unread-in-Err-Because-clause-fails
-returns-in_ok-unread-in-Err-Because-clause-fails g c =
-    IfErr-weaker c.give-in-Err-Because.result _ _
-    (λ e. Fails-weaker _ _ _ _ e (λ answer same. unopened_part (g.F.Files.gives c.args.files.now c.args.name.now) (TaskAnswer c.args.task.now) (TaskPart c.args.task.now) c.args.name.now
-    (string_bytes c.in-Err-Because.reason) answer c.in-Err.ensures.reason (same ∙ (rw c.as_str.ensures.value at c.in_ok-unread-in-Err-Because.ensures.answer))))
-    c.give-in-Err-Because.ensures.fails
+returns-in_ok-unread-in-Err-Because-clause-fails g c = ?
