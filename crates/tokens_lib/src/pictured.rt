@@ -1,7 +1,8 @@
 //! Pictures of the automata of a file of rules.
 ghost use Rattle.std.specs.Prelude.{◌≡◌, ◌≢◌, ◌<◌, ◌∷◌, [], ℕ, List, Some, false, true, map, option_map, slice_get, string_bytes, IfOk, IfSome, IfNone, OnOk, OnErr, IfErr};
 ghost use Rattle.std.specs.List.{zip};
-ghost use Rattle.lalrpop_dfa.specs.Dfa.{Row};
+ghost use Rattle.lalrpop_dfa.specs.Dfa.{RecognizesAll, Row};
+ghost use Rattle.lalrpop_rules.specs.Modes.{trees_in};
 ghost use Rattle.lalrpop_verdicts.specs.Picture.{dot};
 ghost use Rattle.reports_lib.specs.Answer.{Answer, Begun, about};
 ghost use Rattle.tokens_lib.specs.FileAnswers.{Answered};
@@ -11,7 +12,7 @@ ghost use Rattle.tokens_lib.specs.Streams.{Takes};
 
 use crate::command::WRONG_ARGUMENTS;
 use crate::files::say_about;
-use lalrpop_lexer::lexer::dfa::{Precedence, build_dfa};
+use lalrpop_lexer::lexer::dfa::{Dfa, Precedence, build_dfa};
 use lalrpop_lexer::lexer::re::Regex;
 use lalrpop_rules::RuleLexer;
 use lalrpop_verdicts::{dot, minimized};
@@ -20,13 +21,21 @@ use std::alloc::{AllocError, Global};
 use std::io::Write;
 use std::slice;
 
+// The automaton of a mode.
+fn automaton(lexer: &RuleLexer, mode: usize) -> &Dfa
+    requires there { mode < lexer.now.modes }
+    ensures { RecognizesAll result.now (trees_in lexer.now mode) lexer.now.precedences }
+{
+    lexer.lexer(mode).dense().dfa()
+}
+
 // The picture of the smallest automaton of a mode.
 fn picture(alloc: Global, lexer: &RuleLexer, mode: usize) -> Result<String, AllocError>
     requires there { mode < lexer.now.modes }
     ensures { IfOk result (λ text. (least : List Row) × (IsSmallestIn lexer.now mode least
         × (string_bytes text ≡ dot lexer.now.names least))) }
 {
-    let least = minimized(alloc, lexer.lexer(mode).dense().dfa())?;
+    let least = minimized(alloc, automaton(lexer, mode))?;
     dot(alloc, &least, lexer.names())
 }
 
