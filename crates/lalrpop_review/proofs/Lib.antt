@@ -10,3 +10,5 @@ pub mod Reviews
 -- where two lexers make different tokens
 pub mod MeaningLaws
 pub mod ApartLaws
+-- how many states an automaton of given trees needs
+pub mod LeastStates

@@ -1,14 +1,13 @@
 -- cases: proofs/Cases/Review.antt
 -- What is to say of rules with modes.
-use Rattle.std.specs.Prelude.{◌≡◌, ℕ, ◌<◌, ◌↔◌, List, [], length, slice_get, Option, Some, None, Contains}
+use Rattle.std.specs.Prelude.{◌≡◌, ℕ, ◌<◌, ◌≤◌, ◌↔◌, List, [], length, slice_get, Option, Some, None, Contains}
 use Rattle.lalrpop_hir.specs.Tree.{Tree}
 use Rattle.lalrpop_hir.specs.Winners.{Matched, TreeMatches, IsOnlyStrongest}
-use Rattle.lalrpop_dfa.specs.Dfa.{Row}
+use Rattle.lalrpop_dfa.specs.Dfa.{Row, IsWellFormed, RecognizesAll}
 use Rattle.lalrpop_dfa.specs.Lookahead.{IsLookahead, StaysOpenEver}
 use Rattle.lalrpop_dfa.specs.Witness.{OpenMatch, IsOpenMatch, IsWitness}
 use Rattle.lalrpop_rules.specs.Modes.{ModeRules, trees_in}
 use Rattle.bajofeki_rules.specs.EnteredModes.{Belongs}
-use Rattle.lalrpop_verdicts.specs.Smallest.{IsLeastCount}
 use Rattle.lalrpop_verdicts.specs.Verdicts.{AreWinners, IsWonBy, words_of}
 use Rattle.lalrpop_review.specs.declared.idle.IdleRule.{IdleRule}
 use Rattle.lalrpop_review.specs.declared.look.Look.{Look}
@@ -42,6 +41,17 @@ pub record AreIdle (r : ModeRules) (m : ℕ) (xs : List IdleRule) : Type 0 where
   pub each : (x : IdleRule) → Contains xs x → IsIdle r m x
   pub all : (i : ℕ) → i < length r.trees → NeverWins r m i → (x : IdleRule) × (Contains xs x × (x.rule ≡ i))
 
+-- ---- states
+
+-- a well-formed automaton that recognizes the trees with these precedences
+abbrev pub IsAutomatonOf : List Tree → List ℕ → List Row → Type 0
+IsAutomatonOf ts ps d = IsWellFormed d × RecognizesAll d ts ps
+
+-- there is one with n states, and none with fewer
+pub record IsLeastStates (ts : List Tree) (ps : List ℕ) (n : ℕ) : Type 0 where
+  pub some : (d : List Row) × (IsAutomatonOf ts ps d × (length d ≡ n))
+  pub none_fewer : (d : List Row) → IsAutomatonOf ts ps d → n ≤ length d
+
 -- ---- reading past a token
 
 -- the least token that n values after it leave open, with the least such values; none if no token is left open
@@ -60,9 +70,10 @@ IsLook ts ps (Unbounded rules) =
 pub record IsModeReview (r : ModeRules) (m : ℕ) (x : ModeReview) : Type 0 where
   pub automaton : List Row
   pub here : slice_get r.automata m ≡ Some automaton
+  pub stands : IsAutomatonOf (trees_in r m) r.precedences automaton
   pub idle : AreIdle r m x.idle.items
   pub states : x.states ≡ length automaton
-  pub least_states : IsLeastCount automaton x.least_states
+  pub least_states : IsLeastStates (trees_in r m) r.precedences x.least_states
   pub look : IsLook (trees_in r m) r.precedences x.look
 
 pub record IsReview (r : ModeRules) (x : Review) : Type 0 where

@@ -1,13 +1,11 @@
 //! Where two lexers with modes make different tokens of a text.
 ghost use Rattle.std.specs.Prelude.{◌≡◌, ◌≢◌, ◌<◌, ◌++◌, ℕ, List, length, map, Some, IfOk, IfSome, IfNone};
 ghost use Rattle.std.specs.Bool.{MatchBool};
-ghost use Rattle.lalrpop_dfa.specs.Dfa.{RecognizesAll};
 ghost use Rattle.lalrpop_dfa.specs.Witness.{IsLeast};
-ghost use Rattle.lalrpop_rules.specs.Modes.{trees_in};
 ghost use Rattle.lalrpop_review.specs.Apart.{IsTokenIn, TellsApart, Told, told};
 ghost use Rattle.lalrpop_review.specs.Internal.Meanings.{AreFirsts, AreTold, IsFirst, meant};
 
-use lalrpop_dfa::Dfa;
+use crate::automaton::automaton;
 use lalrpop_lexer::lexer::dfa::NfaIndex;
 use lalrpop_rules::{Action, RuleLexer};
 use lalrpop_verdicts::{Difference, least_difference};
@@ -89,14 +87,6 @@ fn all_meanings<'lexers>(
     let others = meanings(alloc, right)?;
     all.extend_from_slice(&others)?;
     Ok(all)
-}
-
-// The automaton of a mode.
-fn automaton(lexer: &RuleLexer, mode: usize) -> &Dfa
-    requires there { mode < lexer.now.modes }
-    ensures recognizes { RecognizesAll result.now (trees_in lexer.now mode) lexer.now.precedences }
-{
-    lexer.lexer(mode).dense().dfa()
 }
 
 /// The least nonempty text that is another token by one lexer than by the other in the mode with this number, with the rules of

@@ -3,6 +3,7 @@
 #![tactic(auto)]
 
 mod apart;
+mod automaton;
 mod empty;
 mod idle;
 mod idle_rules;

@@ -2,11 +2,11 @@
 ghost use Rattle.std.specs.Prelude.{◌<◌, IfOk};
 ghost use Rattle.lalrpop_review.specs.Review.{IsModeReview};
 
+use crate::automaton::{automaton, fewest_states};
 use crate::idle::IdleRule;
 use crate::idle_rules::idle_rules;
 use crate::look::{Look, look_of};
 use lalrpop_rules::RuleLexer;
-use lalrpop_verdicts::least_state_count;
 use std::alloc::{AllocError, Global};
 
 /// What is to say of the rules of one mode.
@@ -22,7 +22,7 @@ pub struct ModeReview {
     pub idle: Vec<IdleRule>,
     /// The number of states of its automaton.
     pub states: usize,
-    /// The least number of states of an automaton that answers each word alike.
+    /// The least number of states of an automaton that recognizes the same trees.
     pub least_states: usize,
     /// How far past a token it reads.
     pub look: Look,
@@ -37,12 +37,11 @@ pub(crate) fn mode_review(
     requires there { mode < lexer.now.modes }
     ensures review { IfOk result (IsModeReview lexer.now mode) }
 {
-    let here = lexer.lexer(mode);
-    let dfa = here.dense().dfa();
+    let dfa = automaton(lexer, mode);
     let idle = idle_rules(alloc, lexer, mode)?;
     let states = dfa.states().len();
-    let least_states = least_state_count(alloc, dfa)?;
-    let look = look_of(alloc, here)?;
+    let least_states = fewest_states(alloc, dfa)?;
+    let look = look_of(alloc, lexer.lexer(mode))?;
     Ok(ModeReview {
         idle,
         states,

@@ -5,17 +5,21 @@ use Rattle.std.specs.List.{AllZip, zip}
 use Rattle.std.specs.Str.{bytes_eq}
 use Rattle.lalrpop_hir.specs.Tree.{Tree}
 use Rattle.lalrpop_dfa.specs.Dfa.{RecognizesAll, Row}
-use Rattle.lalrpop_rules.specs.Modes.{ModeRules}
+use Rattle.lalrpop_rules.specs.Modes.{ModeRules, trees_in}
 use Rattle.lalrpop_verdicts.specs.Picture.{dot}
-use Rattle.lalrpop_verdicts.specs.Smallest.{AnswerAlike, IsCanonical, IsSmallest}
+use Rattle.lalrpop_verdicts.specs.Smallest.{IsCanonical, IsSmallest}
 use Rattle.reports_lib.specs.Answer.{Answer, refusal, about}
 use Rattle.tokens_lib.specs.Command.{has}
 
+-- the automaton recognizes the trees with these precedences, and has the fewest states and edges, in their order
+abbrev pub IsSmallestFor : List Tree → List ℕ → List Row → Type 0
+IsSmallestFor ts ps least = RecognizesAll least ts ps × (IsSmallest least × IsCanonical least)
+
 -- ---- each mode
 
--- the automaton answers each word as the mode's does, and has the fewest states and edges, in their order
+-- the automaton is the smallest for the trees of the mode
 abbrev pub IsSmallestIn : ModeRules → ℕ → List Row → Type 0
-IsSmallestIn r m least = (d : List Row) × ((slice_get r.automata m ≡ Some d) × (AnswerAlike d least × (IsSmallest least × IsCanonical least)))
+IsSmallestIn r m least = IsSmallestFor (trees_in r m) r.precedences least
 
 -- there is one for each of the first modes, in their order
 abbrev pub AreSmallest : ModeRules → ℕ → List (List Row) → Type 0
@@ -27,9 +31,9 @@ ArePictures r count text = (ds : List (List Row)) × (AreSmallest r count ds × 
 
 -- ---- the rules of one name
 
--- the automaton recognizes the words of this tree alone, and has the fewest states and edges, in their order
+-- the automaton is the smallest for this tree alone
 abbrev pub IsSmallestOf : Tree → List Row → Type 0
-IsSmallestOf t least = RecognizesAll least (t ∷ []) (0 ∷ []) × (IsSmallest least × IsCanonical least)
+IsSmallestOf t least = IsSmallestFor (t ∷ []) (0 ∷ []) least
 
 -- the trees of the rules with this name, in their order; a rule is here its name and its tree
 abbrev pub trees_named : List ℕ → List (List ℕ × Tree) → List Tree

@@ -1,7 +1,8 @@
 //! Pictures of the automata of a file of rules.
 ghost use Rattle.std.specs.Prelude.{◌≡◌, ◌<◌, ◌∷◌, [], ℕ, List, Some, false, true, map, option_map, slice_get, string_bytes, IfOk, IfSome, IfNone};
 ghost use Rattle.std.specs.List.{zip};
-ghost use Rattle.lalrpop_dfa.specs.Dfa.{Row};
+ghost use Rattle.lalrpop_dfa.specs.Dfa.{RecognizesAll, Row};
+ghost use Rattle.lalrpop_rules.specs.Modes.{trees_in};
 ghost use Rattle.lalrpop_verdicts.specs.Picture.{dot};
 ghost use Rattle.reports_lib.specs.Answer.{about, refusal};
 ghost use Rattle.tokens_lib.specs.Command.{has};
@@ -12,7 +13,7 @@ ghost use Rattle.tokens_lib.specs.Pictured.{ArePictures, AreRulePictures, IsDraw
 use crate::by_rules::lexer_by_name;
 use crate::command::{Verbosity, WRONG_ARGUMENTS};
 use crate::files::Files;
-use lalrpop_lexer::lexer::dfa::{Precedence, build_dfa};
+use lalrpop_lexer::lexer::dfa::{Dfa, Precedence, build_dfa};
 use lalrpop_lexer::lexer::re::Regex;
 use lalrpop_rules::RuleLexer;
 use lalrpop_verdicts::{dot, minimized};
@@ -20,13 +21,21 @@ use reports_lib::{Reply, about};
 use std::alloc::{AllocError, Global};
 use std::slice;
 
+// The automaton of a mode.
+fn automaton(lexer: &RuleLexer, mode: usize) -> &Dfa
+    requires there { mode < lexer.now.modes }
+    ensures { RecognizesAll result.now (trees_in lexer.now mode) lexer.now.precedences }
+{
+    lexer.lexer(mode).dense().dfa()
+}
+
 // The picture of the smallest automaton of a mode.
 fn picture(alloc: Global, lexer: &RuleLexer, mode: usize) -> Result<String, AllocError>
     requires there { mode < lexer.now.modes }
     ensures { IfOk result (λ text. (least : List Row) × (IsSmallestIn lexer.now mode least
         × (string_bytes text ≡ dot lexer.now.names least))) }
 {
-    let least = minimized(alloc, lexer.lexer(mode).dense().dfa())?;
+    let least = minimized(alloc, automaton(lexer, mode))?;
     dot(alloc, &least, lexer.names())
 }
 

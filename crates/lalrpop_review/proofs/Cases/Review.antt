@@ -1,6 +1,6 @@
 -- Cases of specs/Review.antt: two rules for `a` in mode 0, the second with the greater precedence, of two kinds or of one.
 use Rattle.std.proofs.Common.{◌≡◌, ℕ, zero, suc, ◌<◌, ◌≤◌, inl, inr, List, [], ◌∷◌, length, get_or, slice_index, Global, Vec, refl, sym, ap, ◌∙◌, subst, arith}
-use Rattle.std.specs.Prelude.{slice_get, Some, None, Contains}
+use Rattle.std.specs.Prelude.{slice_get, Some, None, IsSomeAnd, Contains}
 use Rattle.std.proofs.lemmas.Option.{same_Some}
 use Rattle.lalrpop_hir.specs.Tree.{Tree, literal}
 use Rattle.lalrpop_hir.specs.Language.{Matches}
@@ -8,12 +8,17 @@ use Rattle.lalrpop_hir.specs.Winners.{Matched, TreeMatches, IsStrongest, IsOnlyS
 use Rattle.lalrpop_hir.specs.Word.{Shortlex}
 use Rattle.lalrpop_hir.proofs.Contained.{contains_first, contains_none, contains_only}
 use Rattle.lalrpop_hir.proofs.Words.{Shortlex-irreflexive}
+use Rattle.lalrpop_dfa.specs.Dfa.{Row, run, after, step, AreAscendingTests, IsReject, IsRightKind, IsWellFormed, RecognizesAll}
 use Rattle.lalrpop_dfa.specs.Witness.{IsLeast, OpenMatch}
+use Rattle.lalrpop_dfa.specs.declared.Kind.{Kind}
+use Rattle.lalrpop_dfa.specs.declared.Kind.TheVariants.{Accepts, Reject, Neither}
+use Rattle.lalrpop_dfa.proofs.AfterLaws.{after_within}
+use Rattle.lalrpop_dfa.proofs.EdgeTargets.{the_some}
 use Rattle.lalrpop_rules.specs.Modes.{ModeRules, trees_in}
 use Rattle.lalrpop_verdicts.specs.Answers.{IsTextWord}
 use Rattle.lalrpop_verdicts.specs.WonWord.{WonWord}
 use Rattle.lalrpop_verdicts.specs.Verdicts.{AreWinners, IsWonBy, words_of}
-use Rattle.lalrpop_review.specs.Review.{AreThose, AreOneKind, NeverWins, IsIdle, AreIdle, IsLeastOpen, IsLook, IsReview}
+use Rattle.lalrpop_review.specs.Review.{AreThose, AreOneKind, NeverWins, IsIdle, AreIdle, IsAutomatonOf, IsLeastStates, IsLeastOpen, IsLook, IsModeReview, IsReview}
 use Rattle.lalrpop_review.specs.declared.look.Look.TheVariants.{AtMost, Unbounded}
 use Rattle.lalrpop_review.specs.declared.mode.ModeReview.{ModeReview}
 
@@ -195,11 +200,82 @@ none_of_mode_1 = record {
 hidden_rule_is_told : ¬ AreIdle apart 0 []
 hidden_rule_is_told h = let (x, (has, is)) = h.all 0 (omega arith) first_is_hidden in contains_none x has
 
--- ---- reading past a token
+-- ---- states
 
 -- without trees there is no token
 no_match : (w : List ℕ) → ¬ Matched [] w
 no_match w (i, (t, (at, m))) = cc at
+
+-- a state that rejects, and all values lead back to it
+abbrev reject : Row
+reject = record { kind = Reject; tests = []; other = 0; items = [] }
+
+abbrev never : List Row
+never = reject ∷ []
+
+its_row : (p : ℕ) (x : Row) → slice_get never p ≡ Some x → reject ≡ x
+its_row zero x e = same_Some reject x e
+its_row (suc p) x e = cc
+
+never_fits : IsWellFormed never
+never_fits = record {
+  some = omega arith;
+  ascending = λ p x e. subst (λ (y : Row). AreAscendingTests y.tests) (its_row p x e) tt;
+  tests_in = λ p x t e has. absurd (contains_none t (subst (λ (y : Row). Contains y.tests t) (sym (its_row p x e)) has));
+  others_in = λ p x e. subst (λ (y : Row). y.other < 1) (its_row p x e) (omega arith);
+}
+
+never_recognizes : RecognizesAll never [] []
+never_recognizes = record { kinds = λ w. kinds w w; stays = stays }
+  where
+    kinds : (v w : List ℕ) → IsSomeAnd (slice_get never (run never 0 w)) (λ x. IsRightKind [] [] v x.kind)
+    kinds v [] = no_match v
+    kinds v (c ∷ w) = kinds v w
+
+    stays : (p c : ℕ) → IsReject never p → IsReject never (step never p c)
+    stays zero c rejects = refl
+    stays (suc p) c rejects = absurd rejects
+
+-- without trees one state is enough, and less than one is none
+no_trees_need_one : IsLeastStates [] [] 1
+no_trees_need_one = record { some = (never, ((never_fits, never_recognizes), refl)); none_fewer = λ d is. (let some = is.0.some in omega (arith, some)) }
+
+no_trees_need_no_two : ¬ IsLeastStates [] [] 2
+no_trees_need_no_two least = let most : 2 ≤ 1 = least.none_fewer never (never_fits, never_recognizes) in omega (arith, most)
+
+one_at_least : (ts : List Tree) (ps : List ℕ) → ¬ IsLeastStates ts ps 0
+one_at_least ts ps least = let (d, (is, count)) = least.some in let some = is.0.some in omega (arith, some, count)
+
+-- what matches no word isn't an automaton of `a`
+never_is_not_of_a : ¬ IsAutomatonOf (a ∷ []) (0 ∷ []) never
+never_is_not_of_a is = is.1.kinds (97 ∷ []) (0, (a, (refl, refl)))
+
+-- which needs more states than one: the empty word is none of its words
+a_is_not_empty : ¬ Matches a []
+a_is_not_empty m = let none : 0 ≡ 1 = ap (λ (v : List ℕ). length v) m in omega (arith, none)
+
+one_state_says_one_thing : (k : Kind) → IsRightKind (a ∷ []) (0 ∷ []) [] k → IsRightKind (a ∷ []) (0 ∷ []) (97 ∷ []) k → ⊥
+one_state_says_one_thing (Accepts zero) before behind =
+    let (t, (at, m)) = before.0.0 in
+    a_is_not_empty (subst (λ x. Matches x []) (sym (same_Some a t at)) m)
+one_state_says_one_thing (Accepts (suc i)) before behind = let (t, (at, m)) = before.0.0 in cc at
+one_state_says_one_thing Reject before behind = behind (0, (a, (refl, refl)))
+one_state_says_one_thing Neither before behind = behind (0, (a, (refl, refl)))
+
+one_is_too_few : ¬ IsLeastStates (a ∷ []) (0 ∷ []) 1
+one_is_too_few least =
+    let (d, (is, count)) = least.some in
+    let back : after d (97 ∷ []) ≡ 0 = omega (arith, count, after_within d (97 ∷ []) is.0) in
+    let (x, (at, before)) = the_some (slice_get d 0) (λ x. IsRightKind (a ∷ []) (0 ∷ []) [] x.kind) (is.1.kinds []) in
+    let (y, (there, behind)) = the_some (slice_get d (after d (97 ∷ []))) (λ x. IsRightKind (a ∷ []) (0 ∷ []) (97 ∷ []) x.kind) (is.1.kinds (97 ∷ [])) in
+    let same : y ≡ x = same_Some y x (sym there ∙ ap (slice_get d) back ∙ at) in
+    one_state_says_one_thing x.kind before (subst (λ (z : Row). IsRightKind (a ∷ []) (0 ∷ []) (97 ∷ []) z.kind) same behind)
+
+-- a mode's automaton has as many at least
+no_fewer_than_the_least : (r : ModeRules) (m : ℕ) (x : ModeReview) → IsModeReview r m x → x.least_states ≤ x.states
+no_fewer_than_the_least r m x is = let least = is.least_states.none_fewer is.automaton is.stands in omega (arith, least, is.states)
+
+-- ---- reading past a token
 
 no_token_is_open : IsLook [] [] (AtMost 0 None)
 no_token_is_open = (((λ m can. absurd (no_match can.0 can.2.word)), inl refl), λ v x is. no_match v is.leaves_open.word)

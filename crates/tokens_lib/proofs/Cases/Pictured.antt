@@ -1,10 +1,15 @@
 -- Cases of specs/Pictured.antt.
-use Rattle.std.proofs.Common.{◌≡◌, ℕ, false, List, [], ◌∷◌, codes, refl, ap, inl, inr, arith}
-use Rattle.std.specs.Prelude.{Some, None}
+use Rattle.std.proofs.Common.{◌≡◌, ℕ, false, List, [], ◌∷◌, codes, refl, sym, ap, subst, ◌∙◌, inl, inr, arith}
+use Rattle.std.specs.Prelude.{Some, None, slice_get}
 use Rattle.std.specs.List.{AllZip}
+use Rattle.std.proofs.lemmas.Option.{same_Some}
 use Rattle.lalrpop_hir.specs.Tree.{Tree}
-use Rattle.lalrpop_dfa.specs.Dfa.{Row}
-use Rattle.lalrpop_rules.specs.Modes.{ModeRules}
+use Rattle.lalrpop_hir.specs.Winners.{Matched}
+use Rattle.lalrpop_dfa.specs.Dfa.{Row, after, IsRightKind}
+use Rattle.lalrpop_dfa.specs.declared.Kind.{Kind}
+use Rattle.lalrpop_dfa.specs.declared.Kind.TheVariants.{Accepts, Reject, Neither}
+use Rattle.lalrpop_dfa.proofs.EdgeTargets.{the_some}
+use Rattle.lalrpop_rules.specs.Modes.{ModeRules, trees_in}
 use Rattle.lalrpop_verdicts.specs.Smallest.{IsSmallest}
 use Rattle.reports_lib.specs.Answer.{Answer, refusal}
 use Rattle.tokens_lib.specs.Command.{has}
@@ -16,7 +21,20 @@ first_alone r d are = let e : 1 ≡ 2 = are.0 in omega (arith, e)
 
 -- an automaton that isn't the smallest is none of them
 too_large : (r : ModeRules) (m : ℕ) (d : List Row) → (¬ IsSmallest d) → ¬ IsSmallestIn r m d
-too_large r m d large (e, (at, (alike, (smallest, canonical)))) = large smallest
+too_large r m d large (recognizes, (smallest, canonical)) = large smallest
+
+-- nor is that of another mode, where one mode has a match that the other doesn't have
+not_both : (ts us : List Tree) (ps w : List ℕ) (k : Kind) → Matched ts w → ¬ Matched us w → IsRightKind ts ps w k → IsRightKind us ps w k → ⊥
+not_both ts us ps w (Accepts i) some none here there = none (i, there.0.0)
+not_both ts us ps w Reject some none here there = here some
+not_both ts us ps w Neither some none here there = here some
+
+of_another_mode : (r : ModeRules) (m n : ℕ) (d : List Row) (w : List ℕ) → Matched (trees_in r m) w → ¬ Matched (trees_in r n) w → IsSmallestIn r m d → ¬ IsSmallestIn r n d
+of_another_mode r m n d w some none here there =
+    let (x, (at, is)) = the_some (slice_get d (after d w)) (λ (z : Row). IsRightKind (trees_in r m) r.precedences w z.kind) (here.0.kinds w) in
+    let (y, (also, other)) = the_some (slice_get d (after d w)) (λ (z : Row). IsRightKind (trees_in r n) r.precedences w z.kind) (there.0.kinds w) in
+    let same : y ≡ x = same_Some y x (sym also ∙ at) in
+    not_both (trees_in r m) (trees_in r n) r.precedences w x.kind some none is (subst (λ (z : Row). IsRightKind (trees_in r n) r.precedences w z.kind) same other)
 
 too_large_alone : (t : Tree) (d : List Row) → (¬ IsSmallest d) → ¬ IsSmallestOf t d
 too_large_alone t d large (recognizes, (smallest, canonical)) = large smallest
