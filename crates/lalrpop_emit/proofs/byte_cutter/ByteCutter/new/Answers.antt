@@ -1,5 +1,4 @@
-use Rattle.std.proofs.Common.{ap, inl, length, arith, rules, ◌∙◌}
-use Rattle.std.proofs.lemmas.List.{length-replicate}
+use Rattle.std.proofs.Common.{inl, arith, rules}
 use Rattle.lalrpop_emit.proofs.ModeMemos.{memo_begins}
 use Rattle.lalrpop_emit.proofs.byte_cutter.ByteCutter.new.Goals as goal
 
@@ -17,6 +16,3 @@ returns-clause-cut c = λ text. record {
   });
   memo = memo_begins c.args.numbers.now text c.in_ok-memo.memo.items c.memo_size.result (c.in_ok-memo.ensures.items_if_clones_equal (λ y e. e));
 }
-
-pub returns-clause-memo : goal.returns-clause-memo
-returns-clause-memo c = ap length (c.in_ok-memo.ensures.items_if_clones_equal (λ y e. e)) ∙ length-replicate c.memo_size.result 0 ∙ c.memo_size.ensures.size
