@@ -1,3 +1,4 @@
+-- cases: proofs/Cases/Room.antt
 -- What lies behind a program's pointers.
 use Rattle.std.specs.Prelude.{◌≡◌, ℕ, List}
 use Rattle.std.specs.Borrow.{full_share}
