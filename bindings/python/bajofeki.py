@@ -211,7 +211,7 @@ class Lexer:
         return name.raw.decode()
 
     def items(self, text):
-        """Cuts a str, from its beginning to its end, in time linear in it: its Items, skipped tokens and faults too."""
+        """Cuts a str to its end, by its code in time linear in it: its Items, skipped tokens and faults too."""
         data, names = text.encode("utf-8", "surrogatepass"), [rule.name for rule in self.rules]
         start, line, column = 0, 1, 1
         for kind, rule, at, length in self._pieces(data):

@@ -119,7 +119,8 @@ impl Lexer {
 
     /// Cuts a text: its items are what it consists of, from its beginning to its end, skipped tokens and faults too.
     ///
-    /// It takes time linear in the text, and some memory for each byte of it. If that is refused, it ends the process as `Vec` does.
+    /// By its code it takes time linear in the text, and some memory for each byte of it. If that is refused, it ends the process
+    /// as `Vec` does.
     pub fn items<'a>(&'a self, text: &'a str) -> Items<'a> {
         Items::new(self, text)
     }

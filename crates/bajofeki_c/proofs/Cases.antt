@@ -7,3 +7,4 @@ mod Page
 mod Cutting
 mod Cut
 mod Place
+mod Room

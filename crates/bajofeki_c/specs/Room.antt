@@ -1,9 +1,13 @@
+-- cases: proofs/Cases/Room.antt
 -- What lies behind a program's pointers.
 use Rattle.std.specs.Prelude.{◌≡◌, ℕ, List}
 use Rattle.std.specs.Borrow.{full_share}
 use Rattle.std.specs.Ptr.{Ptr, lies_at, room_at}
 use base.Fml.{Fml, Lft, Share, fex, fsep, flft, ftrue}
+use denote.Memory.{lone}
+use denote.RattleType.{RattleType}
 use denote.Struct.Lending.{lent_at}
+use prog.Memory.{align, size}
 use Rattle.bajofeki_c.specs.Built.{IsMade, IsFreed}
 use Rattle.bajofeki_c.specs.Cutting.{IsBegun, begin_code}
 use Rattle.bajofeki_c.specs.Cut.{GoesOn, IsCutOn}
@@ -13,6 +17,13 @@ use Rattle.bajofeki_c.specs.declared.cut.Cut.{Cut}
 use Rattle.bajofeki_c.specs.declared.cut.Piece.{Piece}
 use Rattle.bajofeki_c.specs.declared.cutting.Cutting.{Cutting}
 use Rattle.bajofeki_c.specs.declared.held.Held.{Held}
+
+-- room for a value of the type has this many bytes, and lies at a multiple of this
+abbrev room_size : RattleType → ℕ
+room_size T = size (lone T.mir)
+
+abbrev room_align : RattleType → ℕ
+room_align T = align (lone T.mir)
 
 -- P holds, and no memory is said of
 abbrev said : Type 0 → Fml
@@ -27,6 +38,12 @@ held_at p h = lies_at held.the_row full_share p h
 -- room for one
 abbrev pub room_for_held : Ptr → Fml
 room_for_held p = room_at held.the_row p
+
+abbrev pub held_size : ℕ
+held_size = room_size held.the_row
+
+abbrev pub held_align : ℕ
+held_align = room_align held.the_row
 
 -- what is made of the bytes lies there
 abbrev pub made_at : Ptr → List ℕ → Fml
@@ -56,9 +73,15 @@ cutting_at p c = lies_at cutting.the_row full_share p c
 abbrev pub room_for_cutting : Ptr → Fml
 room_for_cutting p = room_at cutting.the_row p
 
--- a cut by this lexer, before its first piece, lies there, or why there is none, and this is its code
-abbrev pub begun_at : Ptr → Held → ℕ → Fml
-begun_at p h code = fex Cutting (λ c. fsep (cutting_at p c) (said (IsBegun h c × (code ≡ begin_code c))))
+abbrev pub cutting_size : ℕ
+cutting_size = room_size cutting.the_row
+
+abbrev pub cutting_align : ℕ
+cutting_align = room_align cutting.the_row
+
+-- the cut of a text of this size by this lexer, before its first piece, lies there, or why there is none, and this is its code
+abbrev pub begun_at : Ptr → Held → ℕ → ℕ → Fml
+begun_at p h size code = fex Cutting (λ c. fsep (cutting_at p c) (said (IsBegun h size c × (code ≡ begin_code c))))
 
 -- a lexer that is seen, and a cut
 pub record Cutter : Type 0 where

@@ -23,7 +23,7 @@ pub struct Cutting {
 
 /// Before the first piece of a text of `size` bytes.
 pub fn begin(held: &Held, alloc: Global, size: usize) -> Cutting
-    ensures begun { IsBegun held.now result }
+    ensures begun { IsBegun held.now size result }
 {
     let Ok(lexer) = &held.made else {
         return Cutting {

@@ -35,7 +35,7 @@ ghost use Rattle.bajofeki_c.specs.Look.{IsLookOf, mode_count};
 ghost use Rattle.bajofeki_c.specs.Page.{IsShown};
 ghost use Rattle.bajofeki_c.specs.Place.{place_in};
 ghost use Rattle.bajofeki_c.specs.Report.{report};
-ghost use Rattle.bajofeki_c.specs.Room.{Cutter, View, begun_at, cut_at, cutting_at, freed_at, held_at, made_at, room_for_cutting, room_for_held, seen_at};
+ghost use Rattle.bajofeki_c.specs.Room.{Cutter, View, begun_at, cut_at, cutting_align, cutting_at, cutting_size, freed_at, held_align, held_at, held_size, made_at, room_for_cutting, room_for_held, seen_at};
 ghost use Rattle.bajofeki_c.specs.Rules.{IsWritten, count_of, name_of, skips_rule, word_of};
 ghost use Rattle.bajofeki_c.specs.declared.cutting.Cutting.{Cutting as CuttingValue};
 ghost use Rattle.bajofeki_c.specs.declared.held.Held.{Held as HeldValue};
@@ -85,13 +85,19 @@ fn cuts_may_go_to_threads() {
 
 /// The bytes that a lexer takes. They lie at a multiple of 8.
 #[unsafe(no_mangle)]
-pub extern "C" fn bajofeki_lexer_size() -> usize {
+pub extern "C" fn bajofeki_lexer_size() -> usize
+    ensures size { result ≡ held_size }
+    ensures aligned { held_align ≡ 8 }
+{
     size_of::<Held>()
 }
 
 /// The bytes that a cut takes. They lie at a multiple of 8.
 #[unsafe(no_mangle)]
-pub extern "C" fn bajofeki_cutter_size() -> usize {
+pub extern "C" fn bajofeki_cutter_size() -> usize
+    ensures size { result ≡ cutting_size }
+    ensures aligned { cutting_align ≡ 8 }
+{
     size_of::<Cutting>()
 }
 
@@ -241,7 +247,7 @@ pub unsafe extern "C" fn bajofeki_begin(
 ) -> u32
     ghost view: { View }
     requires* room { sem 𝓛 (seen_at lexer view) ∗ sem 𝓛 (room_for_cutting cutter) }
-    ensures* begun { sem 𝓛 (seen_at lexer view) ∗ sem 𝓛 (begun_at cutter view.held result) }
+    ensures* begun { sem 𝓛 (seen_at lexer view) ∗ sem 𝓛 (begun_at cutter view.held size result) }
 {
     std::ptr::write(
         cutter as *mut Cutting,

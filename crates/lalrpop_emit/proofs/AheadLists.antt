@@ -1,5 +1,5 @@
 -- The tables that run ahead, one more at a time.
-use Rattle.std.proofs.Common.{◌≡◌, ℕ, ◌<◌, ◌≤◌, ◌⊎◌, ⊎_elim, List, [], ◌∷◌, ◌++◌, length, map, get_or, sym, ap, subst, ◌∙◌, arith, length-append, refl}
+use Rattle.std.proofs.Common.{◌≡◌, ℕ, ◌<◌, ◌≤◌, ⊎_elim, List, [], ◌∷◌, ◌++◌, length, map, get_or, sym, ap, subst, ◌∙◌, arith, length-append, refl}
 use Rattle.std.specs.Prelude.{slice_get, Some}
 use Rattle.std.specs.List.{All}
 use Rattle.std.specs.Option.{option_map}
@@ -48,3 +48,23 @@ module _ (aheads more : List AheadLists) (x : AheadLists) (grown : more ≡ ahea
   storable_more all this =
       subst (λ (as2 : List AheadNumbers). All IsStorableAhead as2) (sym maps)
       (All-append IsStorableAhead (map ahead_numbers aheads) (ahead_numbers x ∷ []) all (All-cons IsStorableAhead (ahead_numbers x) [] this (All-nil IsStorableAhead)))
+
+-- one table more changes nothing of those that run ahead so far
+ahead_longer : (aheads : List AheadNumbers) (ts : List TableNumbers) (t : TableNumbers) → length aheads ≡ length ts → AreAheadTables aheads ts → AreAheadTables aheads (ts ++ t ∷ [])
+ahead_longer aheads ts t size each m a u at at_u =
+    let within : m < length ts = omega (arith, slice_get_within aheads m a at, size) in
+    let read : get_or (ts ++ t ∷ []) m u ≡ u = get_or_from_slice_get (ts ++ t ∷ []) m u u at_u in
+    each m a u at (slice_get-get_or ts m u within ∙ ap Some (sym (get_or-append ts (t ∷ []) u m within) ∙ read))
+
+-- one table and one that runs ahead of it
+pub both_more : (ts more : List TableLists) (t : TableLists) (aheads further : List AheadLists) (a : AheadLists) (m : ℕ) → more ≡ ts ++ t ∷ [] → further ≡ aheads ++ a ∷ []
+    → length ts ≡ m → length aheads ≡ m → AreAheadTables (map ahead_numbers aheads) (map list_numbers ts) → CanRunAhead (ahead_numbers a) (list_numbers t)
+    → AreAheadTables (map ahead_numbers further) (map list_numbers more)
+both_more ts more t aheads further a m grown grown_aheads size size_aheads each this =
+    let all : map list_numbers more ≡ map list_numbers ts ++ list_numbers t ∷ [] = ap (map list_numbers) grown ∙ map-append list_numbers ts (t ∷ []) in
+    let longer : AreAheadTables (map ahead_numbers aheads) (map list_numbers more) =
+    subst (AreAheadTables (map ahead_numbers aheads)) (sym all)
+    (ahead_longer (map ahead_numbers aheads) (map list_numbers ts) (list_numbers t) (omega (arith, length-map aheads ahead_numbers, length-map ts list_numbers, size, size_aheads)) each) in
+    let last : t ≡ get_or more m t = sym (ap (λ (xs : List TableLists). get_or xs m t) grown ∙ ap (λ (k : ℕ). get_or (ts ++ t ∷ []) k t) (sym size) ∙ get_or-append_seam ts t [] t) in
+    aheads_more aheads further a grown_aheads (map list_numbers more) m (list_numbers t) size_aheads longer
+    (table_at more m t (omega (arith, ap length grown, length-append ts (t ∷ []), size)) last) this

@@ -41,3 +41,10 @@ pub mod StepWalks
 pub mod Memos
 pub mod MemoCosts
 pub mod ModeMemos
+pub mod Steady
+pub mod Told
+pub mod RowLists
+pub mod MadeTables
+pub mod Standings
+pub mod RegularSteps
+pub mod RegularAhead

@@ -1,19 +1,21 @@
 -- The memo of all modes: what is noted in one part of it, while the others stay as they are.
 use Rattle.std.proofs.Common.{◌≡◌, ◌≢◌, ℕ, ◌+◌, ◌-◌, ◌*◌, ◌/◌, ◌%◌, ◌^◌, ◌<◌, ◌≤◌, ◌⊎◌, inl, inr, List, [], ◌∷◌, ◌++◌, length, map, take, drop, replicate, get_or, refl, sym, ap, subst, ◌∙◌, arith, max, min}
-use Rattle.std.specs.Prelude.{slice_get, slice_index, Some}
+use Rattle.std.specs.Prelude.{slice_get, Some}
 use Rattle.std.specs.Int.{bit_at}
 use Rattle.std.proofs.lemmas.Bool.{cases_lt, cases_eq}
 use Rattle.std.proofs.lemmas.Grind.{common_steps}
 use Rattle.std.proofs.lemmas.List.{get_or-take, get_or-drop, get_or_append_left, get_or-append_right, get_or_past, get_or-replicate, length-take, length-take-le, length-map, length-replicate, get_or-map, take_all, take_more, drop_at, take_at}
 use Rattle.std.proofs.lemmas.List.Elements.{All-append, All-cons, All-nil}
 use Rattle.std.proofs.lemmas.Nat.Bits.{bit_at-zero}
-use Rattle.std.specs.List.{All}
+use Rattle.std.specs.List.{All, fold}
 use Rattle.std.specs.Ordering.{ord_max, nat_cmp}
+use Rattle.std.proofs.lemmas.List.Sums.{fold-append}
 use Rattle.std.proofs.Math.Nat.{mul-le-mul_right, mul-div_left, le-mul_of_pos_right}
 use Rattle.lalrpop_dense.specs.DenseTable.{TableNumbers}
 use Rattle.lalrpop_emit.specs.Ahead.{AheadNumbers}
+use Rattle.lalrpop_emit.specs.ByteCut.{most_open_rows, open_rows}
 use Rattle.lalrpop_emit.specs.NumberedRules.{NumberedRules}
-use Rattle.lalrpop_emit.specs.Internal.Memo.{IsMemoFor, IsMemoOf, memo_part, memo_word}
+use Rattle.lalrpop_emit.specs.Internal.Memo.{IsMemoFor, IsMemoOf, memo_word}
 use Rattle.lalrpop_emit.specs.Internal.Lists.{ahead_numbers, list_numbers}
 use Rattle.lalrpop_emit.specs.Internal.Walking.{CanRunAhead, IsDrivable, IsWalkable}
 use Rattle.lalrpop_emit.specs.declared.ahead_table.AheadLists.{AheadLists}
@@ -167,6 +169,16 @@ HasRows most a = a.ends / (a.width + 1) ≤ most
 greater : (a b : ℕ) → (a ≤ ord_max nat_cmp a b) × (b ≤ ord_max nat_cmp a b)
 greater a b = let is : ord_max nat_cmp a b ≡ max a b = grind (arith, common_steps) in (omega (arith, is), omega (arith, is))
 
+max_is : (a b : ℕ) → ord_max nat_cmp a b ≡ max a b
+max_is a b = grind (arith, common_steps)
+
+abbrev more_of : ℕ → AheadNumbers → ℕ
+more_of most a = max most (open_rows a)
+
+-- the most open rows that one of the tables has
+abbrev pub most_of : List AheadNumbers → ℕ
+most_of aheads = fold more_of 0 aheads
+
 module _ (seen n : NumberedRules) (lists list : List AheadLists) (same : seen ≡ n) (are : map ahead_numbers lists ≡ seen.ahead) (list_is : list ≡ lists) where
   all_are : map ahead_numbers list ≡ n.ahead
   all_are = ap (map ahead_numbers) list_is ∙ are ∙ ap (λ (m : NumberedRules). m.ahead) same
@@ -191,6 +203,19 @@ module _ (seen n : NumberedRules) (lists list : List AheadLists) (same : seen �
       (All-append (HasRows most2) (take k n.ahead) (get_or n.ahead k (ahead_numbers a) ∷ []) (λ j d l. omega (arith, before j d l, most_is, most_ge.0))
       (All-cons (HasRows most2) (get_or n.ahead k (ahead_numbers a)) [] last (All-nil (HasRows most2))))
 
+  pub most_more : (k most most2 : ℕ) (a : AheadLists) → k < length list → a ≡ get_or list k a → most2 ≡ ord_max nat_cmp most (a.ends / (a.width + 1))
+      → most ≡ most_of (take k n.ahead) → most2 ≡ most_of (take (k + 1) n.ahead)
+  most_more k most most2 a within is most_is before =
+      let there : get_or n.ahead k (ahead_numbers a) ≡ ahead_numbers a =
+      ap (λ (xs : List AheadNumbers). get_or xs k (ahead_numbers a)) (sym all_are) ∙ get_or-map ahead_numbers list k a (ahead_numbers a) within ∙ ap ahead_numbers (sym is) in
+      most_is ∙ max_is most (open_rows (ahead_numbers a)) ∙ ap (λ (m : ℕ). max m (open_rows (ahead_numbers a))) before
+      ∙ ap (λ (b : AheadNumbers). max (most_of (take k n.ahead)) (open_rows b)) (sym there)
+      ∙ sym (fold-append more_of 0 (take k n.ahead) (get_or n.ahead k (ahead_numbers a) ∷ []))
+      ∙ ap most_of (sym (take_more n.ahead k (ahead_numbers a) (omega (arith, within, length-map list ahead_numbers, ap length all_are))))
+
+  pub most_all : (k most : ℕ) → length list ≤ k → most ≡ most_of (take k n.ahead) → most ≡ most_open_rows n
+  most_all k most past before = before ∙ ap most_of (take_all k n.ahead (omega (arith, past, length-map list ahead_numbers, ap length all_are)))
+
   pub rows_all : (k most : ℕ) → length list ≤ k → All (HasRows most) (take k n.ahead) → All (HasRows most) n.ahead
   rows_all k most past before = subst (All (HasRows most)) (take_all k n.ahead (omega (arith, past, length-map list ahead_numbers, ap length all_are))) before
 
@@ -204,3 +229,20 @@ enough rows most lines modes modes2 part words greatest few same some part_is wo
       let exact : part ≡ most * lines = omega (arith, part_is, words_is, other, words_are, le-mul_of_pos_right part some) in
       inr (omega (arith, ap (λ (n : ℕ). n / modes2) words_are, mul-div_left part some, exact, mul-le-mul_right lines few))
 ]
+
+-- the product, wherever it is cut off
+pub cut_off : (most most2 lines modes modes2 part words greatest : ℕ) → most ≡ most2 → modes ≡ modes2 → 0 < modes2 → part ≡ min (most * lines) greatest → words ≡ min (part * modes) greatest
+    → words ≡ min (most2 * lines * modes2) greatest
+cut_off most most2 lines modes modes2 part words greatest most_is same some part_is words_is =
+    let is : words ≡ min (part * modes2) greatest = words_is ∙ ap (λ (n : ℕ). min (part * n) greatest) same in
+    let all : most * lines * modes2 ≡ most2 * lines * modes2 = ap (λ (n : ℕ). n * lines * modes2) most_is in
+    let grows : most * lines ≤ most * lines * modes2 = le-mul_of_pos_right (most * lines) some in
+    let greatest_grows : greatest ≤ greatest * modes2 = le-mul_of_pos_right greatest some in
+    elim (cases_lt (most * lines) greatest) [
+      | inl small ↦
+          let exact : part ≡ most * lines = omega (arith, part_is, small) in
+          is ∙ ap (λ (n : ℕ). min (n * modes2) greatest) exact ∙ ap (λ (n : ℕ). min n greatest) all
+      | inr past ↦
+          let full : part * modes2 ≡ greatest * modes2 = ap (λ (n : ℕ). n * modes2) (omega (arith, part_is, past)) in
+          omega (arith, is, full, greatest_grows, grows, past, all)
+    ]

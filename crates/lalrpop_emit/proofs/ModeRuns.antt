@@ -1,5 +1,5 @@
 -- Runs of the mode on top, as the text is cut on.
-use Rattle.std.proofs.Common.{◌≡◌, ℕ, ◌+◌, ◌-◌, ◌<◌, ◌≤◌, List, length, sym, ap, subst, ◌∙◌, inl, inr, arith, ⊎_elim}
+use Rattle.std.proofs.Common.{◌≡◌, ℕ, ◌-◌, ◌<◌, ◌≤◌, List, length, sym, subst, ◌∙◌, inr, arith, ⊎_elim}
 use Rattle.std.specs.Prelude.{slice_get, Some}
 use Rattle.lalrpop_dense.specs.DenseTable.{TableNumbers}
 use Rattle.lalrpop_emit.specs.Ahead.{AheadNumbers}

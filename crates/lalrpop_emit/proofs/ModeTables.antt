@@ -1,6 +1,6 @@
 -- The tables of modes.
 use Rattle.std.proofs.Common.{◌≡◌, ℕ, ◌+◌, ◌<◌, ◌≤◌, ⊎_elim, List, [], ◌∷◌, ◌++◌, length, map, get_or, sym, ap, subst, ◌∙◌, arith, length-append}
-use Rattle.std.specs.Prelude.{slice_get, Some}
+use Rattle.std.specs.Prelude.{slice_get, Some, IfOk, Result, Ok, Err}
 use Rattle.std.proofs.Math.ListN.{get_or-append}
 use Rattle.std.proofs.Math.Seq.{get_or-append_seam}
 use Rattle.std.proofs.lemmas.Bool.{cases_lt}
@@ -58,3 +58,8 @@ lists_more r ts more t m grown size each this =
     let maps : map list_numbers more ≡ map list_numbers ts ++ list_numbers t ∷ [] = ap (map list_numbers) grown ∙ map-append list_numbers ts (t ∷ []) in
     let place : m ≡ length (map list_numbers ts) = sym size ∙ sym (length-map ts list_numbers) in
     subst (AreModeTables r) (sym maps) (tables_more r (map list_numbers ts) (list_numbers t) each (subst (λ (k : ℕ). IsModeTable r k (list_numbers t)) place this))
+
+-- what follows from two facts of a result
+pub both_ok : {T E : Type 0} {P Q S : T → Type 0} → (r : Result T E) → ((x : T) → P x → Q x → S x) → IfOk r P → IfOk r Q → IfOk r S
+both_ok (Ok x) follows p q = follows x p q
+both_ok (Err e) follows p q = tt

@@ -1,6 +1,6 @@
 -- A walk from which no match comes has found the longest one.
-use Rattle.std.proofs.Common.{◌≡◌, ◌≢◌, ℕ, zero, suc, ◌+◌, ◌-◌, ◌<◌, ◌≤◌, ◌⊎◌, inl, inr, ⊎_elim, List, length, take, drop, refl, sym, ap, subst, ◌∙◌, arith, length-drop}
-use Rattle.std.specs.Prelude.{slice_index, true, false, IsTrue, MatchOption, IfSome, Option, Some, None}
+use Rattle.std.proofs.Common.{◌≡◌, ◌≢◌, ℕ, zero, suc, ◌+◌, ◌-◌, ◌<◌, ◌≤◌, ◌⊎◌, inl, inr, List, length, take, drop, refl, sym, ap, subst, ◌∙◌, arith, length-drop}
+use Rattle.std.specs.Prelude.{slice_index, true, MatchOption, IfSome, Option, Some, None}
 use Rattle.std.specs.Char.{encode_utf8}
 use Rattle.std.proofs.lemmas.Bool.{cases_lt}
 use Rattle.std.proofs.lemmas.List.{drop-drop}
@@ -9,8 +9,8 @@ use Rattle.lalrpop_hir.specs.Longest.{IsLongest}
 use Rattle.lalrpop_dfa.specs.Dfa.{Row, Recognizes}
 use Rattle.lalrpop_dfa.proofs.LongestLemmas.{IsLongestUpTo}
 use Rattle.lalrpop_dense.specs.DenseTable.{TableNumbers, IsTableFor, character_class}
-use Rattle.lalrpop_emit.specs.Ahead.{AheadNumbers, IsAheadOf, Standing, StandsFor, accepts, by_class, by_column, character_column, is_end, is_lost, no_rule, opened, row_by, rule_at, rule_number}
-use Rattle.lalrpop_emit.specs.Ahead.Standing.{Begin, Lost, Ended, In, Again}
+use Rattle.lalrpop_emit.specs.Ahead.{AheadNumbers, IsAheadOf, Standing, StandsFor, by_class, character_column, is_end, is_lost, no_rule, opened, row_by, rule_at, rule_number}
+use Rattle.lalrpop_emit.specs.Ahead.Standing.{Begin, Ended, In}
 use Rattle.lalrpop_emit.specs.Internal.Characters.{IsCharacterAt}
 use Rattle.lalrpop_emit.specs.Internal.Memo.{IsLastMatch, IsStep, LeadTo, NothingFrom}
 use Rattle.lalrpop_emit.specs.Internal.Walking.{AreRulesBelow}

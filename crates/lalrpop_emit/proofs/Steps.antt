@@ -1,5 +1,5 @@
 -- Walks along the rows of a table that runs ahead, a character at a time, and what they say of the longest match.
-use Rattle.std.proofs.Common.{◌≡◌, ◌≢◌, ℕ, zero, suc, ◌+◌, ◌-◌, ◌/◌, ◌<◌, ◌≤◌, ◌⊎◌, inl, inr, ⊎_elim, List, length, get_or, refl, sym, ap, subst, ◌∙◌, arith, length-append, length-drop, le-ltb, lt-ltb}
+use Rattle.std.proofs.Common.{◌≡◌, ◌≢◌, ℕ, zero, suc, ◌+◌, ◌/◌, ◌<◌, ◌≤◌, ◌⊎◌, inl, inr, ⊎_elim, List, length, get_or, refl, sym, ap, subst, ◌∙◌, arith, length-append, length-drop, le-ltb, lt-ltb}
 use Rattle.std.specs.Prelude.{slice_index}
 use Rattle.std.specs.Char.{encode_utf8, IsScalar}
 use Rattle.std.proofs.lemmas.Bool.{cond-true, cond-false, cases_lt}

@@ -1,6 +1,6 @@
 -- cases: proofs/Cases/Ahead.antt
 -- A table that runs on past the ends of tokens, a byte at a time: what is known at each place of a text, and where the next byte leads.
-use Rattle.std.specs.Prelude.{◌≡◌, ◌≢◌, ℕ, ◌+◌, ◌-◌, ◌*◌, ◌<◌, ◌≤◌, ◌↔◌, ◌==◌, Bool, true, false, IsTrue, List, [], ◌∷◌, length, nat_lt, slice_get, slice_index, Option, Some, None, if◌then◌else◌}
+use Rattle.std.specs.Prelude.{◌≡◌, ◌≢◌, ℕ, ◌+◌, ◌-◌, ◌*◌, ◌<◌, ◌≤◌, ◌↔◌, ◌==◌, Bool, true, false, IsTrue, List, length, nat_lt, slice_get, slice_index, Option, Some, None, if◌then◌else◌}
 use Rattle.std.specs.List.{fold}
 use Rattle.lalrpop_dense.specs.DenseTable.{TableNumbers, character_class}
 -- what is known at a place: src/standing.rt says what each variant means

@@ -1,9 +1,12 @@
 -- cases: proofs/Cases/ByteCut.antt
 -- A cut of a text of bytes that goes on, a piece at a time.
-use Rattle.std.specs.Prelude.{◌≡◌, ℕ, ◌+◌, true, false, List, Option, Some, None, take, reverse}
+use Rattle.std.specs.Prelude.{◌≡◌, ℕ, ◌+◌, ◌-◌, ◌*◌, ◌/◌, ◌^◌, true, false, List, length, max, min, Option, Some, None, take, reverse}
+use Rattle.std.specs.List.{fold}
 use Rattle.lalrpop_rules.specs.Modes.{ModeRules}
 use Rattle.bajofeki_rules.specs.Stack.{Stack}
+use Rattle.lalrpop_emit.specs.Ahead.{AheadNumbers}
 use Rattle.lalrpop_emit.specs.BytePieces.{Fits, IsModePiece, StopsAt, piece_actions, after_piece}
+use Rattle.lalrpop_emit.specs.NumberedRules.{NumberedRules}
 use Rattle.lalrpop_emit.specs.declared.numbered_piece.NumberedPiece.{NumberedPiece}
 -- a cutter: where it goes on, and what it has found of the text; and that this is true of a text, by these numbers. Before the first
 -- piece it is so for each text, and each call keeps it so for the text that it is given: no more is to be known of it
@@ -33,3 +36,21 @@ GivesBytePiece r kinds text c (Some p) d =
 -- the piece at the place of c would put a mode on top of more than 1024 others; the cut doesn't go on
 abbrev pub IsTooDeep : ModeRules → List ℕ → List ℕ → ByteCut → ByteCut → Type 0
 IsTooDeep r kinds text c d = StopsAt r kinds 1024 text false (place_of c) (stack_in c) × Stays c d
+
+-- ---- the memo, in which it is noted from where no match comes
+
+-- how many rows of a table that runs ahead begin before those of ends: a token is open in no other
+abbrev pub open_rows : AheadNumbers → ℕ
+open_rows a = a.ends / (a.width + 1)
+
+-- the most that the table of a mode has
+abbrev pub most_open_rows : NumberedRules → ℕ
+most_open_rows n = fold (λ most a. max most (open_rows a)) 0 n.ahead
+
+-- how many words of 64 bits a cutter's memo has
+abbrev pub memo_words : ByteCut → ℕ
+memo_words c = length c.memo
+
+-- it has a bit for each mode, each row of so many, and each 64 bytes of a text of this size; but no more words than can be counted
+abbrev pub HasMemoFor : NumberedRules → ℕ → ByteCut → Type 0
+HasMemoFor n size c = memo_words c ≡ min (most_open_rows n * (size / 4096 + 1) * length n.tables) (2 ^ 64 - 1)

@@ -1,7 +1,8 @@
 -- cases: proofs/Cases/EmitErrors.antt
 -- Which error comes when.
-use Rattle.std.specs.Prelude.{◌≡◌, ℕ, ◌^◌, ◌<◌, ◌≤◌, List, [], length, Some, slice_get}
-use Rattle.lalrpop_lexer.specs.Dfa.{Row}
+use Rattle.std.specs.Prelude.{◌≡◌, ◌≢◌, ℕ, ◌+◌, ◌*◌, ◌^◌, ◌<◌, ◌≤◌, ◌⊎◌, List, [], length, Some, slice_get, slice_index}
+use Rattle.std.specs.List.{All}
+use Rattle.lalrpop_lexer.specs.Dfa.{Row, step}
 use Rattle.lalrpop_dfa.specs.declared.Kind.TheVariants.{Accepts}
 use Rattle.lalrpop_rules.specs.Modes.{ModeRules}
 use Rattle.lalrpop_emit.specs.Names.{IsName, IsIdentifier}
@@ -31,6 +32,31 @@ pub record IsUnnamed (r : ModeRules) (pattern : ℕ) : Type 0 where
   pub at : slice_get r.automata mode ≡ Some automaton
   pub accepted : IsAccepted automaton pattern
 
+-- some state of the automaton leads one of the characters elsewhere than the other
+pub record TellsApart (d : List Row) (c e : ℕ) : Type 0 where
+  pub state : ℕ
+  pub there : state < length d
+  pub apart : step d state c ≢ step d state e
+
+-- characters of which the automaton tells any two apart
+pub record AreToldApart (d : List Row) (cs : List ℕ) : Type 0 where
+  pub characters : All (λ c. c < 1114112) cs
+  pub apart : (i j : ℕ) → i < j → j < length cs → TellsApart d (slice_index cs i) (slice_index cs j)
+
+-- the automaton tells more than 255 characters apart; or so many that a table that runs ahead, with four rows for each state and three more,
+-- each of a cell for each such character and 131 more, has more than 2 ^ 26 cells
+pub record IsTooLarge (d : List Row) : Type 0 where
+  pub told_apart : List ℕ
+  pub are : AreToldApart d told_apart
+  pub many : (255 < length told_apart) ⊎ (2 ^ 26 < (4 * length d + 3) * (length told_apart + 131))
+
+-- the automaton of some mode is too large
+pub record HasTooLarge (r : ModeRules) : Type 0 where
+  pub mode : ℕ
+  pub automaton : List Row
+  pub at : slice_get r.automata mode ≡ Some automaton
+  pub large : IsTooLarge automaton
+
 -- the error of numbers is right
 abbrev pub IsNumbersError : ModeRules → EmitError → Type 0
 IsNumbersError r NoRules = r.names ≡ []
@@ -42,7 +68,7 @@ IsNumbersError r TooManyModes = 2 ^ 16 ≤ r.modes
 IsNumbersError r TooManyActions = 2 ^ 32 ≤ length (action_numbers (actions_of_rules r))
 IsNumbersError r (BadVariant kind) = ⊥
 IsNumbersError r BadPrefix = ⊥
-IsNumbersError r NoTable = Unit {0}
+IsNumbersError r NoTable = HasTooLarge r
 IsNumbersError r OutOfMemory = Unit {0}
 
 -- the error of a source file in C is right

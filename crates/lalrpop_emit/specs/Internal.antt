@@ -8,3 +8,7 @@ pub mod Driving
 pub mod AheadRows
 pub mod Running
 pub mod Kept
+pub mod Classes
+pub mod MadeRows
+pub mod Regular
+pub mod Standings

@@ -1,12 +1,11 @@
 //! The numbers of a table that runs ahead: it reads each byte of a text, on past the ends of tokens.
 //!
 //! The numbers are made with no promise, and then checked. What is proved is the check.
-ghost use Rattle.std.specs.Prelude.{◌≡◌, ◌+◌, ◌*◌, ◌<◌, ◌≤◌, ◌^◌, ℕ, length, map, max, min, slice_get, IsTrue, IfOk, IfSome, Some};
-ghost use Rattle.std.specs.List.{All};
-ghost use Rattle.lalrpop_dense.specs.DenseTable.{AreClasses, TableNumbers, character_class};
+ghost use Rattle.std.specs.Prelude.{◌≡◌, ◌+◌, ◌*◌, ◌<◌, ◌≤◌, ◌^◌, ℕ, length, max, min, IsTrue, IfOk, IfSome};
+ghost use Rattle.lalrpop_dense.specs.DenseTable.{AreClasses, character_class};
 ghost use Rattle.lalrpop_emit.specs.Ahead.{Begin, IsAheadOf, StandsFor};
 ghost use Rattle.lalrpop_emit.specs.NumberedRules.{IsStorableAhead};
-ghost use Rattle.lalrpop_emit.specs.Internal.Lists.{AreAheadTables, AreSmall, IsRightRow, LeadsRight, ahead_numbers, list_numbers};
+ghost use Rattle.lalrpop_emit.specs.Internal.Lists.{AreSmall, IsRightRow, LeadsRight, ahead_numbers, list_numbers};
 ghost use Rattle.lalrpop_emit.specs.Internal.Walking.{CanRunAhead, IsWalkable};
 
 use crate::driver::class;
@@ -280,30 +279,4 @@ pub(crate) fn ahead_of(alloc: Global, table: &TableLists) -> Result<Option<Ahead
     } else {
         Ok(None)
     }
-}
-
-/// The numbers of the tables that run ahead, one for each of these tables. `None` if one of them can't be made.
-///
-/// # Errors
-///
-/// `AllocError` if a request for memory was refused.
-pub(crate) fn ahead_tables(
-    alloc: Global,
-    tables: &[TableLists],
-) -> Result<Option<Vec<AheadLists>>, AllocError>
-    requires { (m : ℕ) (t : TableNumbers) → slice_get (map list_numbers tables.now) m ≡ Some t → IsWalkable t }
-    ensures all { IfOk result (λ made. IfSome made (λ aheads. length aheads.items ≡ length tables.now)) }
-    ensures each { IfOk result (λ made. IfSome made (λ aheads.
-        AreAheadTables (map ahead_numbers aheads.items) (map list_numbers tables.now))) }
-    ensures storable { IfOk result (λ made. IfSome made (λ aheads.
-        All IsStorableAhead (map ahead_numbers aheads.items))) }
-{
-    let mut aheads = Vec::new(alloc);
-    for mode in 0..tables.len() {
-        match ahead_of(alloc, &tables[mode])? {
-            Some(ahead) => aheads.push(ahead)?,
-            None => return Ok(None),
-        }
-    }
-    Ok(Some(aheads))
 }

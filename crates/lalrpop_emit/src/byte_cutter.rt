@@ -2,7 +2,7 @@
 ghost use Rattle.std.specs.Prelude.{◌≡◌, ◌<◌, ◌≤◌, ℕ, List, length, IfOk, IfErr, OnOk, IfSome};
 ghost use Rattle.lalrpop_rules.specs.Modes.{ModeRules};
 ghost use Rattle.bajofeki_rules.specs.Stack.{start};
-ghost use Rattle.lalrpop_emit.specs.ByteCut.{GivesBytePiece, IsCutOf, IsTooDeep, place_of, stack_in};
+ghost use Rattle.lalrpop_emit.specs.ByteCut.{GivesBytePiece, HasMemoFor, IsCutOf, IsTooDeep, memo_words, place_of, stack_in};
 ghost use Rattle.lalrpop_emit.specs.NumberedRules.{AreNumbersOf};
 
 use crate::driver::{State, Step, memo_size, next};
@@ -31,7 +31,8 @@ pub struct TooDeep;
 /// A cut of a text of bytes that goes on, a piece at a time, as calls of an emitted lexer's `next` do. It borrows neither the
 /// numbers nor the text: each call is given both, and they are the same at each call.
 ///
-/// It takes linear time: where no match comes it is noted, for all pieces that are still to be cut.
+/// Where no match comes it notes that, for all pieces that are still to be cut: its memo has a bit for each mode, each row in
+/// which a token can be open, and each 64 bytes of the text. What new bits pay for is proved of its parts, not of its calls.
 ///
 /// ```
 /// use lalrpop_emit::{ByteCutter, LexerNumbers};
@@ -75,6 +76,7 @@ impl ByteCutter {
         ensures place { IfOk result (λ cutter. place_of cutter ≡ 0) }
         ensures stack { IfOk result (λ cutter. stack_in cutter ≡ start) }
         ensures cut { IfOk result (λ cutter. (text : List ℕ) → IsCutOf numbers.now text cutter) }
+        ensures memo { IfOk result (HasMemoFor numbers.now size) }
     {
         // What is known of the numbers.
         let _ = &numbers.tables;
@@ -119,6 +121,7 @@ impl ByteCutter {
             → GivesBytePiece r numbers.now.kinds text.now self.old piece self.new) }
         ensures some { IfOk result (λ piece. IfSome piece (λ p.
             (p.start ≡ place_of self.old) × (place_of self.old < place_of self.new))) }
+        ensures memo { memo_words self.new ≡ memo_words self.old }
         ensures too_deep { IfErr result (λ _. (r : ModeRules) → AreNumbersOf r numbers.now
             → IsTooDeep r numbers.now.kinds text.now self.old self.new) }
     {

@@ -10,7 +10,7 @@
 //! - Loops of a fixed length may be written out, or done by instructions for many numbers at once.
 //!
 //! The same holds of `longest_match.rt`, and of `ahead_columns.rt`, `ahead_rows.rt` and `ahead_driver.rt`, which cut a text in blocks.
-ghost use Rattle.std.specs.Prelude.{◌≡◌, [], None, IsFalse, ◌+◌, ◌-◌, ◌*◌, ◌/◌, ◌<◌, ◌≤◌, ℕ, List, Some, length, take, drop, slice_get, IsTrue, IfSome, ◌↔◌, ◌⊎◌, MatchOption, min, max};
+ghost use Rattle.std.specs.Prelude.{◌≡◌, [], None, IsFalse, ◌+◌, ◌-◌, ◌*◌, ◌/◌, ◌^◌, ◌<◌, ◌≤◌, ℕ, List, Some, length, take, drop, slice_get, IsTrue, IfSome, ◌↔◌, ◌⊎◌, MatchOption, min, max};
 ghost use Rattle.std.specs.Char.{encode_utf8, IsScalar};
 ghost use Rattle.std.specs.List.{All};
 ghost use Rattle.std.specs.Option.{option_map};
@@ -22,6 +22,7 @@ ghost use Rattle.lalrpop_rules.specs.Found.{MatchesAt};
 ghost use Rattle.bajofeki_rules.specs.Stack.{Stack, act_all, actions_of};
 ghost use Rattle.lalrpop_rules.specs.Modes.{ModeRules};
 ghost use Rattle.bajofeki_rules.specs.declared.action.Action.{Action};
+ghost use Rattle.lalrpop_emit.specs.ByteCut.{most_open_rows};
 ghost use Rattle.lalrpop_emit.specs.BytePieces.{IsByteFault, Fits};
 ghost use Rattle.lalrpop_emit.specs.BytePositions.{byte_position_of};
 ghost use Rattle.lalrpop_emit.specs.NumberedRules.{AreNumbersOf};
@@ -204,7 +205,8 @@ fn act(numbers: &Numbers, first: usize, state: &mut State, below: &mut [u16])
 
 // How many rows in which a token is open the greatest table that runs ahead has; only of these it is noted that no match comes.
 fn most_rows(numbers: &Numbers) -> usize
-    ensures { All (λ a. a.ends / (a.width + 1) ≤ result) numbers.now.ahead }
+    ensures each { All (λ a. a.ends / (a.width + 1) ≤ result) numbers.now.ahead }
+    ensures most { result ≡ most_open_rows numbers.now }
 {
     let mut most = 0;
     'tables: for ahead in numbers.ahead.iter() {
@@ -215,8 +217,10 @@ fn most_rows(numbers: &Numbers) -> usize
 
 // How many words the memo for a text of this size has: for each mode as many as the greatest table has use for.
 pub(crate) fn memo_size(numbers: &Numbers, size: usize) -> usize
-    ensures { All (λ a. (result ≡ usize.MAX)
+    ensures each { All (λ a. (result ≡ usize.MAX)
         ⊎ (a.ends / (a.width + 1) * (size / 4096 + 1) ≤ result / length numbers.now.tables)) numbers.now.ahead }
+    ensures size { result
+        ≡ min (most_open_rows numbers.now * (size / 4096 + 1) * length numbers.now.tables) (2 ^ 64 - 1) }
 {
     memo_words(most_rows(numbers), size).saturating_mul(numbers.tables.len())
 }

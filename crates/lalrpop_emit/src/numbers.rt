@@ -12,7 +12,7 @@ ghost use Rattle.lalrpop_emit.specs.Internal.Lists.{ahead_numbers, list_numbers}
 ghost use Rattle.lalrpop_emit.specs.declared.numbered_piece.NumberedPiece.{NumberedPiece};
 
 use crate::action_lists::action_lists;
-use crate::ahead_table::{AheadLists, ahead_tables};
+use crate::ahead_table::AheadLists;
 use crate::byte_pieces::{BytePieces, all_pieces};
 use crate::error::EmitError;
 use crate::naming::{distinct_names, first_bad_name, kind_list};
@@ -85,7 +85,8 @@ impl LexerNumbers {
     /// # Errors
     ///
     /// There are no rules, or 65,536 rules or modes or more; more or fewer skips than names; a name that isn't made of ASCII
-    /// letters, digits and `_`; a pattern without a name; a mode whose automaton has no table; too many actions; or out of memory.
+    /// letters, digits and `_`; a pattern without a name; a mode whose automaton is too large for a table; too many actions; or
+    /// out of memory.
     pub fn new(alloc: Global, rules: &RuleLexer) -> Result<LexerNumbers, EmitError>
         ensures numbers { IfOk result (AreNumbersOf rules.now) }
         ensures storable { IfOk result IsStorable }
@@ -93,22 +94,19 @@ impl LexerNumbers {
         ensures error { IfErr result (IsNumbersError rules.now) }
     {
         check_rules(rules)?;
-        let tables = mode_tables(alloc, rules)?;
+        let made = mode_tables(alloc, rules)?;
         let names = distinct_names(alloc, rules.names())?;
         let kinds = kind_list(alloc, &names, rules.names())?;
         let skips = rules.skips().iter().copied().collect(alloc)?;
         let lists = action_lists(alloc, rules)?;
-        let Some(ahead) = ahead_tables(alloc, &tables)? else {
-            return Err(EmitError::NoTable);
-        };
         Ok(LexerNumbers {
             names,
             kinds,
             skips,
             first_actions: lists.first_places,
             actions: lists.numbers,
-            tables,
-            ahead,
+            tables: made.tables,
+            ahead: made.aheads,
         })
     }
 
@@ -205,9 +203,6 @@ fn check_rules(rules: &RuleLexer) -> Result<(), EmitError>
     }
     if names.len() >= 65536 {
         return Err(EmitError::TooManyRules);
-    }
-    if rules.modes() == 0 {
-        return Err(EmitError::NoTable);
     }
     if rules.modes() >= 65536 {
         return Err(EmitError::TooManyModes);

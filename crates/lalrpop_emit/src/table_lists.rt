@@ -1,14 +1,19 @@
 //! The numbers of tables, in lists of their own.
-ghost use Rattle.std.specs.Prelude.{◌≡◌, ◌<◌, length, map, IfOk, IfErr};
-ghost use Rattle.lalrpop_dense.specs.DenseTable.{cell_numbers, table_numbers};
+ghost use Rattle.std.specs.Prelude.{◌≡◌, ◌<◌, ◌^◌, length, map, IfOk, IfErr, IfSome};
+ghost use Rattle.std.specs.List.{All};
+ghost use Rattle.lalrpop_dense.specs.DenseTable.{IsTableFor, cell_numbers, table_numbers};
 ghost use Rattle.lalrpop_emit.specs.EmitErrors.{IsNumbersError};
-ghost use Rattle.lalrpop_emit.specs.NumberedRules.{IsStorableTable};
-ghost use Rattle.lalrpop_emit.specs.Internal.Lists.{list_numbers, AreModeTables, IsModeTable};
+ghost use Rattle.lalrpop_emit.specs.NumberedRules.{IsStorableAhead, IsStorableTable};
+ghost use Rattle.lalrpop_emit.specs.Internal.Classes.{IsTableError};
+ghost use Rattle.lalrpop_emit.specs.Internal.Lists.{AreAheadTables, AreBelow, AreModeTables, IsModeTable, ahead_numbers, list_numbers};
+ghost use Rattle.lalrpop_emit.specs.Internal.Walking.{CanRunAhead};
 
+use crate::ahead_table::{AheadLists, ahead_of};
 use crate::class_order::in_class_order;
 use crate::error::EmitError;
+use crate::made_table::made_tables;
 use crate::patterns::unnamed_pattern;
-use lalrpop_dense::{DenseTable, TableCells};
+use lalrpop_dense::{DenseDfa, DenseTable, TableCells};
 use lalrpop_rules::RuleLexer;
 use std::alloc::{AllocError, Global};
 
@@ -72,39 +77,112 @@ fn table_lists(alloc: Global, table: &DenseTable<'_>) -> Result<TableLists, Allo
     })
 }
 
-// The numbers of the table of a mode, if each rule that it accepts has a name.
-fn mode_table(alloc: Global, rules: &RuleLexer, mode: usize) -> Result<TableLists, EmitError>
+// The table of an automaton that has one, in the order of its classes.
+fn ordered_table(alloc: Global, dense: &DenseDfa) -> Result<Option<TableLists>, AllocError>
+    ensures right { IfOk result (λ found. IfSome found (λ table.
+        IsTableFor (list_numbers table) dense.now)) }
+    ensures storable { IfOk result (λ found. IfSome found (λ table.
+        IsStorableTable (list_numbers table))) }
+{
+    let Some(table) = dense.table() else {
+        return Ok(None);
+    };
+    let lists = table_lists(alloc, &table)?;
+    let ordered = in_class_order(alloc, lists)?;
+    Ok(Some(ordered))
+}
+
+// The tables of an automaton that has one, if one that runs ahead is found.
+fn found_tables(alloc: Global, dense: &DenseDfa) -> Result<Option<ModeTable>, AllocError>
+    ensures right { IfOk result (λ found. IfSome found (λ made.
+        IsTableFor (list_numbers made.table) dense.now)) }
+    ensures storable { IfOk result (λ found. IfSome found (λ made.
+        IsStorableTable (list_numbers made.table))) }
+    ensures ahead { IfOk result (λ found. IfSome found (λ made.
+        CanRunAhead (ahead_numbers made.ahead) (list_numbers made.table))) }
+    ensures storable_ahead { IfOk result (λ found. IfSome found (λ made.
+        IsStorableAhead (ahead_numbers made.ahead))) }
+{
+    let Some(table) = ordered_table(alloc, dense)? else {
+        return Ok(None);
+    };
+    let Some(ahead) = ahead_of(alloc, &table)? else {
+        return Ok(None);
+    };
+    Ok(Some(ModeTable { table, ahead }))
+}
+
+/// The tables of a mode: the one that its automaton runs by, and the one that runs ahead of it.
+#[derive(Drop)]
+pub(crate) struct ModeTable {
+    pub(crate) table: TableLists,
+    pub(crate) ahead: AheadLists,
+}
+
+// The tables of the automaton. Where it has none, or none that runs ahead is found, they are made anew, which takes longer.
+fn tables_of(alloc: Global, dense: &DenseDfa) -> Result<ModeTable, EmitError>
+    requires below { AreBelow dense.now 65535 }
+    ensures right { IfOk result (λ made. IsTableFor (list_numbers made.table) dense.now) }
+    ensures storable { IfOk result (λ made. IsStorableTable (list_numbers made.table)) }
+    ensures ahead { IfOk result (λ made.
+        CanRunAhead (ahead_numbers made.ahead) (list_numbers made.table)) }
+    ensures storable_ahead { IfOk result (λ made. IsStorableAhead (ahead_numbers made.ahead)) }
+    ensures error { IfErr result (IsTableError dense.now) }
+{
+    match found_tables(alloc, dense)? {
+        Some(found) => Ok(found),
+        None => made_tables(alloc, dense.dfa()),
+    }
+}
+
+// The tables of a mode, if each rule that it accepts has a name.
+fn mode_table(alloc: Global, rules: &RuleLexer, mode: usize) -> Result<ModeTable, EmitError>
     requires there { mode < rules.now.modes }
-    ensures table { IfOk result (λ lists. IsModeTable rules.now mode (list_numbers lists)) }
+    requires few { length rules.now.names < 2 ^ 16 }
+    ensures table { IfOk result (λ made. IsModeTable rules.now mode (list_numbers made.table)) }
+    ensures ahead { IfOk result (λ made.
+        CanRunAhead (ahead_numbers made.ahead) (list_numbers made.table)) }
+    ensures storable { IfOk result (λ made. IsStorableAhead (ahead_numbers made.ahead)) }
     ensures error { IfErr result (IsNumbersError rules.now) }
 {
     let dense = rules.lexer(mode).dense();
     if let Some(pattern) = unnamed_pattern(dense.dfa(), rules.names().len()) {
         return Err(EmitError::NoName { pattern });
     }
-    match dense.table() {
-        Some(table) => Ok(table_lists(alloc, &table)?),
-        None => Err(EmitError::NoTable),
-    }
+    tables_of(alloc, dense)
 }
 
-/// The numbers of the table of each mode.
+/// The numbers of the tables of each mode.
+#[derive(Drop)]
+pub(crate) struct ModeTables {
+    pub(crate) tables: Vec<TableLists>,
+    pub(crate) aheads: Vec<AheadLists>,
+}
+
+/// The numbers of the tables of each mode.
 ///
 /// # Errors
 ///
-/// `NoName` if an automaton accepts a pattern that has no name, `NoTable` if one has no table, `OutOfMemory` if a request for
+/// `NoName` if an automaton accepts a pattern that has no name, `NoTable` if one is too large, `OutOfMemory` if a request for
 /// memory was refused.
-pub(crate) fn mode_tables(alloc: Global, rules: &RuleLexer) -> Result<Vec<TableLists>, EmitError>
-    ensures modes { IfOk result (λ tables. length tables.items ≡ rules.now.modes) }
-    ensures tables { IfOk result (λ tables.
-        AreModeTables rules.now (map list_numbers tables.items)) }
+pub(crate) fn mode_tables(alloc: Global, rules: &RuleLexer) -> Result<ModeTables, EmitError>
+    requires few { length rules.now.names < 2 ^ 16 }
+    ensures modes { IfOk result (λ made. length made.tables.items ≡ rules.now.modes) }
+    ensures tables { IfOk result (λ made.
+        AreModeTables rules.now (map list_numbers made.tables.items)) }
+    ensures all { IfOk result (λ made. length made.aheads.items ≡ rules.now.modes) }
+    ensures ahead { IfOk result (λ made.
+        AreAheadTables (map ahead_numbers made.aheads.items) (map list_numbers made.tables.items)) }
+    ensures storable { IfOk result (λ made.
+        All IsStorableAhead (map ahead_numbers made.aheads.items)) }
     ensures error { IfErr result (IsNumbersError rules.now) }
 {
     let mut tables = Vec::new(alloc);
+    let mut aheads = Vec::new(alloc);
     for mode in 0..rules.modes() {
-        let table = mode_table(alloc, rules, mode)?;
-        let ordered = in_class_order(alloc, table)?;
-        tables.push(ordered)?;
+        let made = mode_table(alloc, rules, mode)?;
+        tables.push(made.table)?;
+        aheads.push(made.ahead)?;
     }
-    Ok(tables)
+    Ok(ModeTables { tables, aheads })
 }

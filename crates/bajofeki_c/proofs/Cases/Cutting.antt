@@ -1,5 +1,5 @@
 -- Cases of specs/Cutting.antt.
-use Rattle.std.proofs.Common.{◌≡◌, refl}
+use Rattle.std.proofs.Common.{◌≡◌, ℕ, refl}
 use Rattle.std.specs.Prelude.{Ok, Err}
 use Rattle.lalrpop_emit.specs.ByteCut.{ByteCut}
 use Rattle.bajofeki_c.specs.Cutting.{IsBegun, begin_code}
@@ -16,12 +16,12 @@ memory_refused = refl
 no_lexer : begin_code (record { cutter = Err NoLexer }) ≡ 9
 no_lexer = refl
 
-none_begins_without_a_lexer : IsBegun (record { made = Err Freed }) (record { cutter = Err NoLexer })
-none_begins_without_a_lexer = refl
+none_begins_without_a_lexer : (size : ℕ) → IsBegun (record { made = Err Freed }) size (record { cutter = Err NoLexer })
+none_begins_without_a_lexer size = refl
 
-no_cut_without_a_lexer : (c : ByteCut) → ¬ IsBegun (record { made = Err Freed }) (record { cutter = Ok c })
-no_cut_without_a_lexer c begun = begun
+no_cut_without_a_lexer : (size : ℕ) (c : ByteCut) → ¬ IsBegun (record { made = Err Freed }) size (record { cutter = Ok c })
+no_cut_without_a_lexer size c begun = begun
 
 -- memory can be refused at any lexer
-memory_refused_at_a_lexer : (l : BuiltLexer) → IsBegun (record { made = Ok l }) (record { cutter = Err OutOfMemory })
-memory_refused_at_a_lexer l = refl
+memory_refused_at_a_lexer : (l : BuiltLexer) (size : ℕ) → IsBegun (record { made = Ok l }) size (record { cutter = Err OutOfMemory })
+memory_refused_at_a_lexer l size = refl

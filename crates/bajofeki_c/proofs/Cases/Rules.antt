@@ -1,5 +1,5 @@
 -- Cases of specs/Rules.antt.
-use Rattle.std.proofs.Common.{◌≡◌, ℕ, [], ◌∷◌, true, false, length, string_bytes, slice_get, refl, arith}
+use Rattle.std.proofs.Common.{◌≡◌, ℕ, [], ◌∷◌, true, false, string_bytes, refl, arith}
 use Rattle.std.specs.Prelude.{Err, Vec}
 use Rattle.std.specs.Global.{Global}
 use Rattle.lalrpop_rules.specs.declared.error.RulesError.TheVariants.{BadEnd, Clash, OutOfMemory}

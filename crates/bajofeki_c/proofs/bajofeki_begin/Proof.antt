@@ -56,10 +56,10 @@ bajofeki_begin_spec 𝓤 𝓛 𝓜 𝓡 wired =
     calls_at ! (framed 𝓤 𝓛.H 𝓜 𝓣) G (met 𝓤 𝓛 𝓜 𝓡 (code.calls-bajofeki_c::cutting::begin 𝓡.env wired)) z
     (and_then ! (get ! refl) (and_then ! (get ! refl) (and_then ! (get ! refl) (no_more !)))) (λ v.
     use1 𝓛 (later (some (λ (r : Cutting). ((‵ (flft κ q) ⊛ ‵ ftrue) ⊛ ‵ (cutting.the_row.own_val r (v ∷ []))) ⊛
-    some (λ (ws : Unit {0} × (Unit {0} × (Unit {0} × Unit {0}))). ‵ (lasts g.ended z.0.0 z.0.3 ws) ⊛ raw (fact 𝓤 (IsBegun h.held r)))))) (id⊢ 𝓤 _) $
+    some (λ (ws : Unit {0} × (Unit {0} × (Unit {0} × Unit {0}))). ‵ (lasts g.ended z.0.0 z.0.3 ws) ⊛ raw (fact 𝓤 (IsBegun h.held n r)))))) (id⊢ 𝓤 _) $
     await ! tt $ pick ! (λ r. split ! $ split ! $ split ! $ move ! (4 ∷ 0 ∷ []) $ fjoin ! $ move ! (1 ∷ []) $ drop ! $
     -- [the lexer; the cut; what the callee says; room for the cut]
-    move ! (2 ∷ []) $ pick ! (λ ws. split ! $ drop ! $ heard ! (IsBegun h.held r) (λ begun.
+    move ! (2 ∷ []) $ pick ! (λ ws. split ! $ drop ! $ heard ! (IsBegun h.held n r) (λ begun.
     move ! (1 ∷ []) $ peeks ! cutting.the_row (Is cutting.the_row) (shows 𝓛 cutting.the_row) r (v ∷ []) (λ is.
     let good = ((cutting_laws.the_row_laws.lawful 𝓛).typed r (v ∷ []) is).0 in
     lands_as ! refl refl good $
@@ -87,8 +87,8 @@ bajofeki_begin_spec 𝓤 𝓛 𝓜 𝓡 wired =
     lands_as ! refl refl ((uint_Lawful 𝓛 w32).typed k _ is_code).0 $
     move ! (3 ∷ []) $ pick ! (λ ws'. split ! $ drop ! $ heard ! (k ≡ begin_code r) (λ same.
     returns ! (look_at ! 0 refl) $ free_all ! refl $ move ! (2 ∷ []) $ drop ! $ move ! (1 ∷ []) $ nothing ! $
-    fpack ! (IsBegun h.held r × (k ≡ begin_code r)) (λ _. ftrue) (begun, same) $ move ! (1 ∷ 0 ∷ []) $ fjoin ! $
-    fpack ! Cutting (λ d. fsep (cutting_at (block_ptr b' o') d) (fex (IsBegun h.held d × (k ≡ begin_code d)) (λ _. ftrue))) r $
+    fpack ! (IsBegun h.held n r × (k ≡ begin_code r)) (λ _. ftrue) (begun, same) $ move ! (1 ∷ 0 ∷ []) $ fjoin ! $
+    fpack ! Cutting (λ d. fsep (cutting_at (block_ptr b' o') d) (fex (IsBegun h.held n d × (k ≡ begin_code d)) (λ _. ftrue))) r $
     move ! (2 ∷ 0 ∷ []) $ join ! $ move ! (1 ∷ []) $
     suffices ! _ (ends_at 𝓛 f.ended stayed c (y (block_ptr b o) (block_ptr b' o')) u k (tt, (tt, (tt, (tt, tt)))) (tt, (tt, (tt, (tt, tt))))) $
     nothing ! $ nothing ! $ join ! $ nothing ! $ join ! $ nothing ! $ join ! $ nothing ! $ join ! $ nothing ! $ group ! 3 $ done !)))))))))))))))

@@ -1,5 +1,5 @@
 -- Cases of specs/ByteCut.antt.
-use Rattle.std.proofs.Common.{◌≡◌, ℕ, zero, suc, ◌<◌, List, [], ◌∷◌, length, true, false, inl, refl, ap, arith}
+use Rattle.std.proofs.Common.{◌≡◌, ℕ, zero, suc, List, [], ◌∷◌, length, inl, refl, ap, arith}
 use Rattle.std.specs.Prelude.{Option, Some, None}
 use Rattle.lalrpop_hir.specs.Tree.{Tree}
 use Rattle.lalrpop_rules.specs.Found.{MatchesAt}

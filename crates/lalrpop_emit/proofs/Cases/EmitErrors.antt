@@ -1,7 +1,10 @@
 -- Cases of specs/EmitErrors.antt.
-use Rattle.std.proofs.Common.{ℕ, List, [], ◌∷◌, codes, refl, arith, ap, length, lit<}
+use Rattle.std.proofs.Common.{◌≡◌, ◌<◌, ℕ, zero, suc, inl, inr, List, [], ◌∷◌, codes, refl, arith, ap, length, lit<}
+use Rattle.std.specs.Prelude.{slice_index}
+use Rattle.lalrpop_lexer.specs.Dfa.{Row, step}
+use Rattle.lalrpop_dfa.specs.declared.Kind.TheVariants.{Reject}
 use Rattle.lalrpop_rules.specs.Modes.{ModeRules}
-use Rattle.lalrpop_emit.specs.EmitErrors.{IsFirstBadName, IsNumbersError, IsSourceError}
+use Rattle.lalrpop_emit.specs.EmitErrors.{IsFirstBadName, IsNumbersError, IsSourceError, IsTooLarge}
 use Rattle.lalrpop_emit.specs.declared.error.EmitError.TheVariants.{NoRules, BadName, SkipCount, NoName, TooManyRules, TooManyModes, TooManyActions, BadVariant, BadPrefix, NoTable}
 
 -- rules with these names, none of them skipped, and no actions
@@ -30,6 +33,23 @@ one_skip_is_missing e = omega (arith, e)
 -- there is no automaton
 no_pattern_to_name : ¬ IsNumbersError (rules_named (codes "IF" ∷ []) 1) (NoName 1)
 no_pattern_to_name h = let there = h.at in cc
+
+no_automaton_is_too_large : ¬ IsNumbersError (rules_named (codes "IF" ∷ []) 1) NoTable
+no_automaton_is_too_large h = let there = h.at in cc
+
+-- an automaton of one state, which leads all characters back to it
+abbrev one_state : List Row
+one_state = record { kind = Reject; tests = []; other = 0; items = [] } ∷ []
+
+all_alike : (state c e : ℕ) → step one_state state c ≡ step one_state state e
+all_alike zero c e = refl
+all_alike (suc state) c e = refl
+
+one_state_is_not_too_large : ¬ IsTooLarge one_state
+one_state_is_not_too_large h =
+    let two : 1 < length h.told_apart = elim h.many [ inl many ↦ omega (arith, many) | inr many ↦ omega (arith, many) ] in
+    let apart = h.are.apart 0 1 (omega arith) two in
+    apart.apart (all_alike apart.state (slice_index h.told_apart 0) (slice_index h.told_apart 1))
 
 too_many_modes : IsNumbersError (rules_named (codes "IF" ∷ []) 65536) TooManyModes
 too_many_modes = omega arith

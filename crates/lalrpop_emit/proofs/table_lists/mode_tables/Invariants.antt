@@ -1,5 +1,7 @@
 use Rattle.std.proofs.Common.{◌≡◌, length, map}
-use Rattle.lalrpop_emit.specs.Internal.Lists.{AreModeTables, list_numbers}
+use Rattle.std.specs.List.{All}
+use Rattle.lalrpop_emit.specs.NumberedRules.{IsStorableAhead}
+use Rattle.lalrpop_emit.specs.Internal.Lists.{AreAheadTables, AreModeTables, ahead_numbers, list_numbers}
 use Rattle.lalrpop_emit.proofs.table_lists.mode_tables.Given as goal
 
 -- the tables of the modes so far
@@ -7,4 +9,7 @@ abbrev pub invariant-loop-mode : goal.invariant-loop-mode
 invariant-loop-mode l = record {
   modes : length l.tables.items ≡ l.mode;
   tables : AreModeTables l.rules (map list_numbers l.tables.items);
+  all : length l.aheads.items ≡ l.mode;
+  ahead : AreAheadTables (map ahead_numbers l.aheads.items) (map list_numbers l.tables.items);
+  storable : All IsStorableAhead (map ahead_numbers l.aheads.items);
 }
