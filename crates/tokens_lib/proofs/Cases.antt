@@ -5,10 +5,8 @@ mod Command
 pub mod CutEnds
 mod Emitted
 mod FileAnswers
-mod ItemsWritten
 mod NamedRules
 mod OpenModes
-mod PageWritten
 mod Pictured
 mod Program
 mod Progress

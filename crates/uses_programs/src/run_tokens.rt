@@ -1,16 +1,14 @@
 //! The program `tokens` over files and streams of a caller.
-ghost use Rattle.std.specs.Prelude.{◌≡◌, ◌≢◌, ◌≤◌, ◌⊎◌, ◌++◌, ℕ, Bool, List, [], Some, true, false, codes, length, map, string_bytes, IfOk, IfErr, OnOk, MatchOption};
-ghost use Rattle.std.specs.Io.KnownBytes.{Appends};
-ghost use Rattle.tokens_lib.specs.Answer.{Begun};
-ghost use Rattle.tokens_lib.specs.Program.{IsFirstAnswer};
-ghost use Rattle.tokens_lib.specs.Streams.{AtEnd, EndsReading, NotOpened, StreamGives, Takes};
+ghost use Rattle.std.specs.Prelude.{◌≡◌, ◌≢◌, ◌≤◌, ◌⊎◌, ℕ, List, [], Some, true, false, codes, map, string_bytes, IfOk, IfErr, IfSome};
+ghost use Rattle.tokens_lib.specs.Answer.{refusal};
+ghost use Rattle.tokens_lib.specs.Program.{IsAnswer, IsFirstAnswer};
+ghost use Rattle.tokens_lib.specs.Streams.{Answers, AtEnd, Fails, NotOpened, Reads, Stream, opened};
 ghost use Rattle.tokens_lib.specs.Usage.{wrong_text};
 ghost use Rattle.tokens_lib.specs.declared.command.ArgumentsError.TheVariants.{NoRules};
 
-use lexdfa_lib::{RunError, Watched, read_whole};
+use lexdfa_lib::RunError;
 use std::alloc::Global;
-use std::io::{Read, Write};
-use tokens_lib::{Files, NoBytes, run};
+use tokens_lib::{Console, Files, NoBytes, Reader, Sink, Source, run};
 
 /// A file in memory, the only one that there is.
 #[derive(Clone, Copy)]
@@ -20,10 +18,10 @@ pub struct OnlyFile<'text> {
 }
 
 // Needs tokens_lib::NoBytes::from: ghost from_gives.
+// No read of it fails.
 impl<'text> Files for OnlyFile<'text> {
-    ghost gives = { λ file name reading. ((name ≡ file.name.now) × ((left : List ℕ)
-        × ((failed : Bool) × ((file.bytes.now ≡ reading.bytes ++ left)
-        × EndsReading (Some left) failed reading.end))))
+    ghost gives = { λ file name reading. ((name ≡ file.name.now)
+        × ((new : Stream) × Reads (opened (Some file.bytes.now) false) new reading))
         ⊎ ((name ≢ file.name.now)
         × (reading ≡ record { bytes = []; end = NotOpened (codes "not found") })) };
 
@@ -38,128 +36,82 @@ impl<'text> Files for OnlyFile<'text> {
     }
 }
 
-// Needs tokens_lib::Files::open: reader, reason.
-/// All bytes of a file, or the reason why it isn't opened.
+/// What a run in memory gives: its status, and the bytes of standard output and of standard error.
+#[derive(Drop)]
+pub struct Given {
+    pub status: u8,
+    pub out: Vec<u8>,
+    pub err: Vec<u8>,
+}
+
+// Needs tokens_lib::run: answer, fails. tokens_lib::Console::new: new. tokens_lib::Console::into_sinks: out, err.
+/// Runs the program in memory: exactly the bytes that it writes and says, and its status.
 ///
 /// # Errors
 ///
-/// `Read` if a read fails, and `OutOfMemory` if a request for memory was refused.
-pub fn bytes_or_reason<F: Files>(
+/// `OutOfMemory` if a request for memory was refused. No read or write of memory fails otherwise.
+pub fn run_in_memory<F: Files>(
     alloc: Global,
+    words: &[String],
     files: &F,
-    name: &str,
-) -> Result<Result<Vec<u8>, String>, RunError>
-    ensures bytes { IfOk result (λ found. IfOk found (λ bytes.
-        F.gives files.now name.now (record { bytes = bytes.items; end = AtEnd }))) }
-    ensures reason { IfOk result (λ found. IfErr found (λ reason. F.gives files.now name.now
-        (record { bytes = []; end = NotOpened (string_bytes reason) }))) }
+    input: &[u8],
+) -> Result<Given, RunError>
+    ensures exact { IfOk result (λ given. (left : Stream)
+        × IsAnswer (F.gives files.now) (opened (Some input.now) false) left
+        (map string_bytes words.now)
+        (record { status = given.status; out = given.out.items; err = given.err.items })) }
+    ensures memory { IfErr result (λ e. e ≡ RunError.OutOfMemory) }
 {
-    match files.open(alloc, name) {
-        Ok(reader) => {
-            let mut reader = Watched::new(reader);
-            let bytes = read_whole(alloc, &mut reader)?;
-            Ok(Ok(bytes))
-        }
-        Err(NoBytes::Because(reason)) => Ok(Err(reason)),
-        Err(NoBytes::OutOfMemory) => Err(RunError::OutOfMemory),
-    }
+    let mut input = Reader::new(input);
+    let mut console = Console::new(Vec::new(alloc), Vec::new(alloc));
+    let status = run(alloc, words, files, &mut input, &mut console)?;
+    let (out, err) = console.into_sinks();
+    Ok(Given { status, out, err })
 }
 
-// Needs tokens_lib::Files::open: reader, reason.
-/// All bytes of the only file: it is always opened.
-///
-/// # Errors
-///
-/// Those of `bytes_or_reason`.
-pub fn whole_file(alloc: Global, file: OnlyFile<'_>) -> Result<Option<Vec<u8>>, RunError>
-    ensures bytes { IfOk result (λ found. MatchOption found ⊥ (λ bytes.
-        bytes.items ≡ file.entry.bytes.now)) }
-{
-    match bytes_or_reason(alloc, &file, file.name)? {
-        Ok(bytes) => Ok(Some(bytes)),
-        Err(_) => Ok(None),
-    }
-}
-
-// Needs tokens_lib::run: answer, begun.
-/// The exit status of `tokens` without arguments: 4, after standard error was told that RULES is missing, whatever the files are. Nothing is ever
-/// written to standard output.
+// Needs tokens_lib::run: answer, fails.
+/// The exit status of `tokens` without arguments: 4, after standard error was told that RULES is missing, whatever the files are.
 ///
 /// # Errors
 ///
 /// Those of `run`.
-pub fn without_arguments<F: Files, R: Read, W: Write, E: Write>(
+pub fn without_arguments<F: Files, S: Source, O: Sink, E: Sink>(
     alloc: Global,
     files: &F,
-    input: &mut Watched<R>,
-    out: &mut Watched<W>,
-    err: &mut Watched<E>,
+    input: &mut Reader<S>,
+    console: &mut Console<O, E>,
 ) -> Result<u8, RunError>
-    requires out_good { out.old.failed ≡ false }
-    ensures status { IfOk result (λ status. status ≡ 4) }
-    ensures nothing_written { Appends (W.contents out.old.inner) (W.contents out.new.inner) [] }
-    ensures said { OnOk result (Takes E.contents err.old err.new (wrong_text NoRules)) }
+    ensures answer { IfOk result (λ status.
+        Answers (λ answer. answer ≡ refusal 4 (wrong_text NoRules)) console.old status console.new) }
 {
-    run(alloc, &[], files, input, out, err)
+    run(alloc, &[], files, input, console)
 }
 
-// Needs tokens_lib::run: good, memory, write, read.
-/// Whether a run names standard output just where it has failed: always.
-pub fn names_the_failed_end<F: Files, R: Read, W: Write, E: Write>(
+// Needs tokens_lib::run: fails.
+/// Whether a run fails. Then a prefix was given of what is written and said for the texts that were come to, or nothing.
+pub fn fails<F: Files, S: Source, O: Sink, E: Sink>(
     alloc: Global,
     words: &[String],
     files: &F,
-    input: &mut Watched<R>,
-    out: &mut Watched<W>,
-    err: &mut Watched<E>,
-) -> bool
-    requires out_good { out.old.failed ≡ false }
-    ensures always { result ≡ true }
+    input: &mut Reader<S>,
+    console: &mut Console<O, E>,
+) -> Option<RunError>
+    ensures begun { IfSome result (λ e. Fails (IsFirstAnswer (F.gives files.now) input.old
+        (map string_bytes words.now)) console.old e console.new) }
 {
-    match run(alloc, words, files, input, out, err) {
-        Ok(_) => !out.failed(),
-        Err(RunError::OutOfMemory) => !out.failed(),
-        Err(RunError::Read) => false,
-        Err(RunError::Write) => out.failed(),
-    }
+    run(alloc, words, files, input, console).err()
 }
 
-// Needs tokens_lib::run: begun.
-/// Whether a run fails. Then standard output took a prefix of what is written for the texts that were come to, or nothing.
-pub fn fails<F: Files, R: Read, W: Write, E: Write>(
+// Needs tokens_lib::run: status.
+/// The exit status of a run, or 5 if it fails.
+pub fn status_of_run<F: Files, S: Source, O: Sink, E: Sink>(
     alloc: Global,
     words: &[String],
     files: &F,
-    input: &mut Watched<R>,
-    out: &mut Watched<W>,
-    err: &mut Watched<E>,
-) -> bool
-    requires out_good { out.old.failed ≡ false }
-    ensures begun { result ≡ true → Begun (IsFirstAnswer (F.gives files.now)
-        (StreamGives R.remaining) input.old (map string_bytes words.now))
-        (W.contents out.old.inner) (W.contents out.new.inner) }
-{
-    run(alloc, words, files, input, out, err).is_err()
-}
-
-// Needs tokens_lib::run: status, no_late_read, no_late_write, no_late_message.
-/// The exit status of a run, which no stream is called again in that has failed, or 5 if it fails.
-pub fn status_of_run<F: Files, R: Read, W: Write, E: Write>(
-    alloc: Global,
-    words: &[String],
-    files: &F,
-    input: &mut Watched<R>,
-    out: &mut Watched<W>,
-    err: &mut Watched<E>,
+    input: &mut Reader<S>,
+    console: &mut Console<O, E>,
 ) -> u8
-    requires out_good { out.old.failed ≡ false }
     ensures status { result ≤ 6 }
-    ensures no_late_read { input.new.late ≡ input.old.late }
-    ensures no_late_write { out.new.late ≡ out.old.late }
-    ensures no_late_message { err.new.late ≡ err.old.late }
 {
-    match run(alloc, words, files, input, out, err) {
-        Ok(status) => status,
-        Err(_) => 5,
-    }
+    run(alloc, words, files, input, console).unwrap_or(5)
 }

@@ -1,14 +1,14 @@
 -- Cases of specs/Program.antt.
-use Rattle.std.proofs.Common.{◌≡◌, ◌≢◌, ℕ, false, inl, List, [], ◌∷◌, codes, get_or, map, refl, ap, arith, Vec, Bor, Global}
+use Rattle.std.proofs.Common.{◌≡◌, ◌≢◌, ℕ, false, inl, inr, List, [], ◌∷◌, codes, get_or, map, refl, ap, arith, Vec, Bor, Global}
 use Rattle.std.specs.Prelude.{Err}
 use Rattle.lalrpop_rules.specs.Modes.{ModeRules}
 use Rattle.lexdfa_lib.specs.declared.ending.Failure.TheVariants.{Usage, Run as Failing}
 use Rattle.lexdfa_lib.specs.declared.error.RunError.TheVariants.{Read, Write}
-use Rattle.reports_lib.specs.Answer.{Answer, refusal, about}
+use Rattle.reports_lib.specs.Answer.{refusal, silence, about}
 use Rattle.reports_lib.specs.declared.layout.LineForm.TheVariants.{Plain}
 use Rattle.tokens_lib.specs.Command.{IsCommand}
-use Rattle.tokens_lib.specs.Program.{failure_text, information, IsFirstAnswer, other_of, ComparedAnswer}
-use Rattle.tokens_lib.specs.Streams.{Given, Reading, NotOpened}
+use Rattle.tokens_lib.specs.Program.{failure_text, information, IsAnswer, IsFirstAnswer, other_of, ComparedAnswer}
+use Rattle.tokens_lib.specs.Streams.{Given, Reading, NotOpened, Stream}
 use Rattle.tokens_lib.specs.declared.command.Command.{Command}
 use Rattle.tokens_lib.specs.Usage.{help}
 use Rattle.tokens_lib.specs.declared.command.Action.TheVariants.{Cut}
@@ -27,13 +27,13 @@ another_failure : failure_text (Failing Read) ≢ failure_text (Failing Write)
 another_failure e = let k : 114 ≡ 119 = ap (λ (l : List ℕ). get_or l 8 0) e in omega (arith, k)
 
 -- only what was asked for is written, with status 0
-informed : (Gives : List ℕ → Reading → Type 0) (InputGives : ℕ → ℕ → Reading → Type 0) → IsFirstAnswer Gives InputGives 0 (codes "--help" ∷ []) (information help)
-informed Gives InputGives = (Help, (refl, refl))
+informed : (Gives : List ℕ → Reading → Type 0) (i k : Stream) → IsAnswer Gives i k (codes "--help" ∷ []) (information help)
+informed Gives i k = inr (Help, (refl, refl))
 
--- rules that can't be read; and no arguments, which are no command
-unread_rules : (Gives : List ℕ → Reading → Type 0) (InputGives : ℕ → ℕ → Reading → Type 0) (files : Vec (Bor (List ℕ)) Global) → files.items ≡ [] → Gives (codes "r") (record { bytes = []; end = NotOpened (codes "e") })
-    → IsFirstAnswer Gives InputGives 0 (codes "r" ∷ codes "--progress" ∷ []) (refusal 6 (codes "tokens: reading r\ntokens: r: e\n"))
-unread_rules Gives InputGives files none gives = (
+-- rules that can't be read
+unread_rules : (Gives : List ℕ → Reading → Type 0) (i k : Stream) (files : Vec (Bor (List ℕ)) Global) → files.items ≡ [] → Gives (codes "r") (record { bytes = []; end = NotOpened (codes "e") })
+    → IsAnswer Gives i k (codes "r" ∷ codes "--progress" ∷ []) (refusal 6 (codes "tokens: reading r\ntokens: r: e\n"))
+unread_rules Gives i k files none gives = inr (
   Run (Cut Plain false) Progress (record { ref_ptr = (0, 0); now = codes "r" }) files,
   (
     ((refl, refl), (refl, (Cut Plain false, (refl, (codes "r", ([], (refl, (refl, (refl, (refl, ((tt, λ e. absurd (cc (e))), ap (map (λ (file : Bor (List ℕ)). file.now)) none))))))))))),
@@ -41,13 +41,16 @@ unread_rules Gives InputGives files none gives = (
   ),
 )
 
-no_command : (command : Command) → ¬ IsCommand [] [] command
-no_command Help is = absurd (cc)
-no_command Version is = let e = is.1 in absurd (cc)
-no_command (Run action verbosity rules files) is = let e = is.1.1.1.1.1.1.0 in absurd (cc)
-
-nothing_asked : (Gives : List ℕ → Reading → Type 0) (InputGives : ℕ → ℕ → Reading → Type 0) (answer : Answer) → ¬ IsFirstAnswer Gives InputGives 0 [] answer
-nothing_asked Gives InputGives answer (command, (is, done)) = no_command command is
+-- before an error, perhaps only that the rules are read
+only_reading : (Gives : List ℕ → Reading → Type 0) (i : Stream) (files : Vec (Bor (List ℕ)) Global) → files.items ≡ []
+    → IsFirstAnswer Gives i (codes "r" ∷ codes "--progress" ∷ []) (refusal 0 (codes "tokens: reading r\n"))
+only_reading Gives i files none = inr (
+  Run (Cut Plain false) Progress (record { ref_ptr = (0, 0); now = codes "r" }) files,
+  (
+    ((refl, refl), (refl, (Cut Plain false, (refl, (codes "r", ([], (refl, (refl, (refl, (refl, ((tt, λ e. absurd (cc (e))), ap (map (λ (file : Bor (List ℕ)). file.now)) none))))))))))),
+    (silence, (inl refl, refl)),
+  ),
+)
 
 -- ---- the other file of rules
 

@@ -1,7 +1,19 @@
 -- Cases of specs/Streams.antt.
 use Rattle.std.proofs.Common.{◌≡◌, List, ℕ, [], Bool, true, false, inl, inr, Some, codes, refl, arith}
 use Rattle.std.specs.Prelude.{Option, Ok, Err}
-use Rattle.tokens_lib.specs.Streams.{AtEnd, Failed, NotOpened, LeftOff, GivesWhole, EndsReading, TakesBy}
+use Rattle.lexdfa_lib.specs.declared.error.RunError.TheVariants.{OutOfMemory, Read, Write}
+use Rattle.reports_lib.specs.Answer.{refusal, silence}
+use Rattle.tokens_lib.specs.Streams.{Stream, Console, AtEnd, Failed, NotOpened, LeftOff, GivesWhole, Reads, EndsReading, Takes, TakesPart, IsTold, Answers, Fails, opened}
+
+-- bytes in memory, of which no read or write fails; and a pipe, of which one may
+abbrev memory : List ℕ → Stream
+memory bytes = opened (Some bytes) false
+
+abbrev pipe : List ℕ → Stream
+pipe bytes = opened (Some bytes) true
+
+abbrev broken : List ℕ → Stream
+broken bytes = record { bytes = Some bytes; may_fail = true; is_broken = true }
 
 -- ---- what is read
 
@@ -17,34 +29,72 @@ opens_none : GivesWhole (λ file reading. reading ≡ record { bytes = []; end =
 opens_none = inl refl
 
 -- reading is left off before the end
-left_off : EndsReading (Some (codes "a")) false LeftOff
-left_off = refl
+left_off : Reads (pipe (codes "ab")) (pipe (codes "b")) (record { bytes = codes "a"; end = LeftOff })
+left_off = (refl, refl)
 
--- where bytes are left is no end, and neither is a failure
-not_at_the_end : ¬ EndsReading (Some (codes "a")) false AtEnd
-not_at_the_end e = let left = e.0 in absurd (cc)
+-- where bytes are left is no end
+not_at_the_end : ¬ EndsReading (pipe (codes "a")) (pipe (codes "a")) AtEnd
+not_at_the_end e = let left = e.1.1 in absurd (cc)
 
-failed_at_the_end : ¬ EndsReading (Some []) true AtEnd
-failed_at_the_end e = let good = e.1 in absurd (cc)
+-- a read of a pipe may fail, and then it is broken; a read of bytes in memory doesn't
+pipe_fails : Reads (pipe (codes "ab")) (broken (codes "b")) (record { bytes = codes "a"; end = Failed })
+pipe_fails = (refl, (refl, refl))
+
+memory_doesn't : (new : Stream) (bytes : List ℕ) → ¬ Reads (memory (codes "a")) new (record { bytes = bytes; end = Failed })
+memory_doesn't new bytes e = let may = e.1.0 in absurd (cc)
+
+-- a broken stream isn't read to its end
+no_end_of_a_broken_one : (new : Stream) → ¬ EndsReading (broken []) new AtEnd
+no_end_of_a_broken_one new e = let whole = e.0 in absurd (cc)
 
 -- a stream is open
-no_stream_unopened : (left : Option (List ℕ)) (failed : Bool) (reason : List ℕ) → ¬ EndsReading left failed (NotOpened reason)
-no_stream_unopened left failed reason e = e
+no_stream_unopened : (old new : Stream) (reason : List ℕ) → ¬ EndsReading old new (NotOpened reason)
+no_stream_unopened old new reason e = e
 
 -- ---- what is written
 
 -- a stream takes everything
-takes_all : TakesBy false false (Some (codes "a")) (Some (codes "ab")) (codes "b")
-takes_all = refl
+takes_all : Takes (memory (codes "a")) (codes "b") (memory (codes "ab"))
+takes_all = (refl, refl)
 
--- or a part, and fails
-takes_a_part : TakesBy false true (Some []) (Some (codes "a")) (codes "ab")
-takes_a_part = (1, omega arith, refl)
+-- a part, where a write fails, or memory is refused
+takes_a_part : TakesPart (pipe []) (codes "ab") Write (broken (codes "a"))
+takes_a_part = ((refl, refl), (1, omega arith, refl))
+
+takes_none : TakesPart (memory []) (codes "ab") OutOfMemory (memory [])
+takes_none = (refl, (0, omega arith, refl))
+
+-- no write of bytes in memory fails, and no write is a read that fails
+memory_takes : (new : Stream) (bytes : List ℕ) → ¬ TakesPart (memory []) bytes Write new
+memory_takes new bytes e = let may = e.0.0 in absurd (cc)
+
+no_read : (old new : Stream) (bytes : List ℕ) → ¬ TakesPart old bytes Read new
+no_read old new bytes e = e.0
 
 -- a part without a failure is too little
-a_part_is_too_little : ¬ TakesBy false false (Some []) (Some (codes "a")) (codes "ab")
-a_part_is_too_little e = absurd (cc)
+a_part_is_too_little : ¬ Takes (pipe []) (codes "ab") (pipe (codes "a"))
+a_part_is_too_little e = let grown = e.1 in absurd (cc)
 
--- after a failure it takes nothing more
-takes_no_more : ¬ TakesBy true true (Some []) (Some (codes "a")) (codes "a")
-takes_no_more e = absurd (cc)
+-- a broken stream is told nothing
+told_nothing : IsTold (broken (codes "a")) (codes "b") (broken (codes "a"))
+told_nothing = refl
+
+told_no_more : ¬ IsTold (broken (codes "a")) (codes "b") (broken (codes "ab"))
+told_no_more e = absurd (cc)
+
+-- ---- answers
+
+abbrev screen : List ℕ → List ℕ → Console
+screen out err = record { out = memory out; err = memory err }
+
+-- a refusal is said, and nothing is written
+refused : Answers (λ answer. answer ≡ refusal 3 (codes "no")) (screen [] []) 3 (screen [] (codes "no"))
+refused = (refusal 3 (codes "no"), (refl, (refl, record { out = (refl, refl); err = (refl, refl) })))
+
+-- with no other status
+no_other_status : ¬ Answers (λ answer. answer ≡ refusal 3 (codes "no")) (screen [] []) 2 (screen [] (codes "no"))
+no_other_status (answer, (is, (status, given))) = absurd (cc (is, status))
+
+-- memory is refused before anything is given
+fails_at_once : Fails (λ answer. ⊥) (screen [] []) OutOfMemory (screen [] [])
+fails_at_once = (silence, (inl refl, ((refl, (0, omega arith, refl)), (0, omega arith, (refl, refl)))))
