@@ -1,17 +1,16 @@
 -- One answer after another.
-use Rattle.std.proofs.Common.{◌≡◌, ℕ, ◌+◌, ◌≤◌, Bool, true, false, inl, inr, List, [], ◌++◌, length, take, refl, sym, ap, subst, ◌∙◌, append_assoc, arith, length-append}
-use Rattle.std.specs.Prelude.{max, Option, Result, Ok, Err, IfOk, IfErr}
+use Rattle.std.proofs.Common.{◌≡◌, ℕ, ◌+◌, Bool, true, false, inl, inr, List, [], ◌++◌, length, take, refl, sym, ap, subst, ◌∙◌, append_assoc, arith, length-append}
+use Rattle.std.specs.Prelude.{Option, Result, Ok, Err, IfErr}
 use Rattle.std.specs.Result.{IsErrAnd}
-use Rattle.std.specs.Io.KnownBytes.{Appends}
 use Rattle.std.proofs.Math.Seq.{take-append-add}
 use Rattle.std.proofs.lemmas.List.{append-nil, take-append-le, take_all}
-use Rattle.lexdfa_lib.proofs.Known.{Appends-again, Appends-none, AppendsPrefix-behind, AppendsPrefix-front}
+use Rattle.lexdfa_lib.proofs.Known.{Appends-none, AppendsPrefix-behind, AppendsPrefix-front}
 use Rattle.lexdfa_lib.specs.Watch.{AppendsPrefix}
 use Rattle.lexdfa_lib.specs.declared.error.RunError.{RunError}
-use Rattle.lexdfa_lib.specs.declared.error.RunError.TheVariants.{OutOfMemory, Read, Write}
-use Rattle.reports_lib.specs.Answer.{Answer, silence, followed, refusal, remark}
-use Rattle.tokens_lib.proofs.StreamLaws.{works_again, breaks_later, takes_again, takes_part}
-use Rattle.tokens_lib.specs.Streams.{Stream, Console, Works, Breaks, Takes, TakesPart, IsCause, IsTold, IsToldBy, IsToldPart, Writes, WritesPart, Says, Gives, Answers, Begins, Fails}
+use Rattle.lexdfa_lib.specs.declared.error.RunError.TheVariants.{OutOfMemory}
+use Rattle.reports_lib.specs.Answer.{Answer, silence, followed, remark}
+use Rattle.tokens_lib.proofs.StreamLaws.{breaks_later, takes_again, takes_part}
+use Rattle.tokens_lib.specs.Streams.{Stream, Console, Works, Breaks, Takes, TakesPart, IsTold, IsToldBy, IsToldPart, Writes, WritesPart, Says, Gives, Answers, Begins, Fails}
 
 -- ---- answers
 

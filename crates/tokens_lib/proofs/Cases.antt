@@ -14,3 +14,4 @@ mod Streams
 mod TextAnswer
 mod Usage
 mod WarningsSaid
+mod Written

@@ -14,7 +14,8 @@ use Rattle.lexdfa_lib.specs.declared.error.RunError.TheVariants.{OutOfMemory}
 use Rattle.tokens_lib.specs.CutEnds.{BreaksOff, IsCutTo}
 use Rattle.tokens_lib.specs.OpenModes.{open_behind, open_mode}
 use Rattle.tokens_lib.specs.Streams.{Console, Reading, ReadEnd, AtEnd, LeftOff, Reads, Stream}
-use Rattle.tokens_lib.specs.Internal.CutTexts.{Comes, GivesAll, IsAsBefore, IsComing, IsCutInto, IsGiven, IsGivenInPart, WritesCut, WritesCutPart, end_by, goes_on, open_place, shown}
+use Rattle.tokens_lib.specs.Internal.CutTexts.{Comes, GivesAll, IsAsBefore, IsComing, IsCutInto, IsGiven, IsGivenInPart, end_by, goes_on, open_place, shown}
+use Rattle.tokens_lib.specs.Written.{WritesCut, WritesCutPart}
 use Rattle.tokens_lib.specs.Internal.Incoming.{IsFed, IsIncoming, ReadsOn}
 use Rattle.tokens_lib.specs.declared.cut_end.CutEnd.{CutEnd}
 use Rattle.tokens_lib.specs.declared.cut_end.CutEnd.TheVariants.{Whole, Stopped, Broken}

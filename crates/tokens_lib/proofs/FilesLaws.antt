@@ -1,11 +1,11 @@
 -- The answer for files, one after another.
 use Rattle.std.proofs.Common.{◌≡◌, ◌≢◌, ℕ, ◌+◌, ◌<◌, get_or, Bool, true, false, inl, inr, List, [], ◌∷◌, ◌++◌, length, take, drop, map, refl, sym, ap, subst, ◌∙◌, arith}
-use Rattle.std.specs.Prelude.{max, codes, if◌then◌else◌, Option, Ok, Err}
+use Rattle.std.specs.Prelude.{max, codes, if◌then◌else◌, Option}
 use Rattle.std.proofs.lemmas.List.{take_more, map-append, length-map, length-take-le, take-append-drop, drop_more}
-use Rattle.reports_lib.specs.Answer.{Answer, silence, followed, refusal, remark, about}
-use Rattle.tokens_lib.specs.FileAnswers.{BytesAnswer, is_input, FileGives, ReadingAnswer, FileAnswer, NumberedAnswer, NumberedPart, FilesAnswer, FirstFilesAnswer, cut_files, TextsAnswer, FirstTextsAnswer}
+use Rattle.reports_lib.specs.Answer.{Answer, silence, followed, refusal, about}
+use Rattle.tokens_lib.specs.FileAnswers.{is_input, FileGives, ReadingAnswer, FileAnswer, NumberedAnswer, NumberedPart, FilesAnswer, FirstFilesAnswer, cut_files, TextsAnswer, FirstTextsAnswer}
 use Rattle.tokens_lib.specs.Progress.{total_said}
-use Rattle.tokens_lib.specs.Streams.{Given, Reading, AtEnd, Failed, NotOpened, GivesWhole, Reads, Stream, Console, Gives, Answers, Begins, Fails}
+use Rattle.tokens_lib.specs.Streams.{Reading, NotOpened, Reads, Stream, Console, Answers, Begins}
 use Rattle.tokens_lib.specs.Internal.Tasks.{EitherAnswer, ReadAnswer}
 use Rattle.tokens_lib.specs.declared.command.Verbosity.{Verbosity}
 use Rattle.tokens_lib.proofs.AnswerLaws.{Then, followed-assoc, followed-silence, silence-followed, Gives-again}

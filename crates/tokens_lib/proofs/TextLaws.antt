@@ -1,5 +1,5 @@
 -- The answer for what is read of a text, by what was written for it and how cutting ended.
-use Rattle.std.proofs.Common.{◌≡◌, ℕ, Bool, true, false, inl, inr, List, [], ◌++◌, map, string_bytes, refl, sym, ap, subst, ◌∙◌, Global}
+use Rattle.std.proofs.Common.{◌≡◌, ℕ, Bool, true, false, inl, inr, List, [], map, string_bytes, refl, sym, ap, subst, ◌∙◌, Global}
 use Rattle.std.specs.Prelude.{Option, Result, Ok, Err, IfOk, OnOk, option_map, String}
 use Rattle.std.specs.Bool.{then_some}
 use Rattle.std.specs.Borrow.{Bor}
@@ -11,9 +11,9 @@ use Rattle.lexdfa_lib.specs.declared.error.RunError.{RunError}
 use Rattle.reports_lib.specs.Answer.{Answer, remark}
 use Rattle.reports_lib.specs.ItemLines.{item_lines, piece_lines}
 use Rattle.reports_lib.specs.declared.layout.LineForm.{LineForm}
-use Rattle.tokens_lib.specs.Streams.{Reading, Stream, Console, Works, Takes, TakesPart, IsTold, IsToldPart, Says, Writes, Answers, Begins, Fails}
+use Rattle.tokens_lib.specs.Streams.{Reading, Stream, Console, Takes, TakesPart, IsTold, IsToldPart, Says, Answers, Begins, Fails}
 use Rattle.tokens_lib.specs.TextAnswer.{cut_status, cut_text, CutAnswer, CutPart, lines_of}
-use Rattle.tokens_lib.specs.Internal.CutTexts.{WritesCut, WritesCutPart}
+use Rattle.tokens_lib.specs.Written.{WritesCut, WritesCutPart}
 use Rattle.tokens_lib.specs.Internal.Tasks.{ReadAnswer, EitherAnswer}
 use Rattle.tokens_lib.specs.declared.cut_end.CutEnd.{CutEnd}
 use Rattle.tokens_lib.proofs.AnswerLaws.{told_part_first, told_part_nothing}

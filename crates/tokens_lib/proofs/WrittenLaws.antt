@@ -13,7 +13,8 @@ use Rattle.reports_lib.specs.declared.layout.Layout.{Layout}
 use Rattle.tokens_lib.specs.CutEnds.{AreGiven, IsCutTo}
 use Rattle.tokens_lib.specs.Streams.{Console, Reading, LeftOff, Reads, Stream, Writes, WritesPart}
 use Rattle.tokens_lib.specs.TextAnswer.{page_of}
-use Rattle.tokens_lib.specs.Internal.CutTexts.{IsPageForm, WritesCut, WritesCutPart, goes_on, shown}
+use Rattle.tokens_lib.specs.Internal.CutTexts.{IsPageForm, goes_on, shown}
+use Rattle.tokens_lib.specs.Written.{WritesCut, WritesCutPart}
 use Rattle.tokens_lib.specs.declared.command.Markup.{Markup}
 use Rattle.tokens_lib.specs.declared.command.Markup.TheVariants.{Html as MarkupHtml, Ansi as MarkupAnsi}
 use Rattle.tokens_lib.specs.declared.cut_end.CutEnd.{CutEnd}

@@ -13,6 +13,7 @@ pub mod Streams
 pub mod TextAnswer
 pub mod Usage
 pub mod WarningsSaid
+pub mod Written
 -- what serves the proofs alone
 pub mod Internal
 -- what the public contracts of reports_lib name

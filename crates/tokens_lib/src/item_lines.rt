@@ -2,7 +2,7 @@
 ghost use Rattle.std.specs.Prelude.{IfOk, IfErr};
 ghost use Rattle.reports_lib.specs.ItemLines.{item_lines};
 ghost use Rattle.tokens_lib.specs.Streams.{Reading, Reads};
-ghost use Rattle.tokens_lib.specs.Internal.CutTexts.{WritesCut, WritesCutPart};
+ghost use Rattle.tokens_lib.specs.Written.{WritesCut, WritesCutPart};
 
 use crate::console::Console;
 use crate::cut_end::CutEnd;

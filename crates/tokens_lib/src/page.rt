@@ -2,7 +2,8 @@
 ghost use Rattle.std.specs.Prelude.{true, IfOk, IfErr};
 ghost use Rattle.tokens_lib.specs.Streams.{Reading, Reads};
 ghost use Rattle.tokens_lib.specs.TextAnswer.{page_of};
-ghost use Rattle.tokens_lib.specs.Internal.CutTexts.{IsPageForm, WritesCut, WritesCutPart};
+ghost use Rattle.tokens_lib.specs.Internal.CutTexts.{IsPageForm};
+ghost use Rattle.tokens_lib.specs.Written.{WritesCut, WritesCutPart};
 
 use crate::command::Markup;
 use crate::console::Console;

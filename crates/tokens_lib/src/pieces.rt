@@ -4,7 +4,8 @@ ghost use Rattle.lalrpop_edits.specs.Chunked.{Chunked};
 ghost use Rattle.lalrpop_edits.specs.Given.{item_of};
 ghost use Rattle.lalrpop_rules.specs.declared.item.Item.{Item as ItemValue};
 ghost use Rattle.tokens_lib.specs.Streams.{Console as ConsoleValue, Reading, Reads, Writes, WritesPart};
-ghost use Rattle.tokens_lib.specs.Internal.CutTexts.{goes_on, piece_shown, shown, IsGiven, IsGivenInPart, GivesAll, WritesCut, WritesCutPart};
+ghost use Rattle.tokens_lib.specs.Internal.CutTexts.{goes_on, piece_shown, shown, IsGiven, IsGivenInPart, GivesAll};
+ghost use Rattle.tokens_lib.specs.Written.{WritesCut, WritesCutPart};
 
 use crate::console::Console;
 use crate::cut_end::CutEnd;

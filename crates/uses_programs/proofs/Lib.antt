@@ -1,3 +1,2 @@
 mod Lines
-mod Readings
 mod Words

@@ -47,8 +47,8 @@ twice : FilesAnswer (NumberedAnswer Nothing (ReadingAnswer Echo) None) 1 (input 
 twice = (input [], (says (codes "<stdin>a"), (says (codes "<stdin>"), (first_input, ((input [], (says (codes "<stdin>"), (silence, (second_input, ((refl, refl), refl))))), refl)))))
 
 -- a file changes nothing of standard input
-unread : ¬ FileGives Nothing (input (codes "a")) (input []) false (codes "f") nothing_read
-unread (same, given) = absurd (cc (same))
+unread : ¬ FileGives Nothing (input (97 ∷ [])) (input []) false (codes "f") nothing_read
+unread (same, given) = let e = ap (λ (s : Stream). s.bytes) same in absurd (cc (e))
 
 -- a file that isn't opened: only that is said
 unopened : (IsFor : List ℕ → Reading → Answer → Type 0)

@@ -6,13 +6,11 @@ use Rattle.lexdfa_lib.specs.declared.ending.Failure.TheVariants.{Usage, Run as F
 use Rattle.lexdfa_lib.specs.declared.error.RunError.TheVariants.{Read, Write}
 use Rattle.reports_lib.specs.Answer.{refusal, silence, about}
 use Rattle.reports_lib.specs.declared.layout.LineForm.TheVariants.{Plain}
-use Rattle.tokens_lib.specs.Command.{IsCommand}
 use Rattle.tokens_lib.specs.Program.{failure_text, information, IsAnswer, IsFirstAnswer, other_of, ComparedAnswer}
 use Rattle.tokens_lib.specs.Streams.{Given, Reading, NotOpened, Stream}
-use Rattle.tokens_lib.specs.declared.command.Command.{Command}
 use Rattle.tokens_lib.specs.Usage.{help}
 use Rattle.tokens_lib.specs.declared.command.Action.TheVariants.{Cut}
-use Rattle.tokens_lib.specs.declared.command.Command.TheVariants.{Help, Version, Run}
+use Rattle.tokens_lib.specs.declared.command.Command.TheVariants.{Help, Run}
 use Rattle.tokens_lib.specs.declared.command.Verbosity.{Verbosity}
 use Rattle.tokens_lib.specs.declared.command.Verbosity.TheVariants.{Progress}
 

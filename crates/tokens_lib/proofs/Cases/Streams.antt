@@ -1,6 +1,6 @@
 -- Cases of specs/Streams.antt.
-use Rattle.std.proofs.Common.{◌≡◌, List, ℕ, [], Bool, true, false, inl, inr, Some, codes, refl, arith}
-use Rattle.std.specs.Prelude.{Option, Ok, Err}
+use Rattle.std.proofs.Common.{◌≡◌, List, ℕ, [], ◌∷◌, true, false, inl, inr, Some, codes, refl, ap, arith}
+use Rattle.std.specs.Prelude.{Ok, Err}
 use Rattle.lexdfa_lib.specs.declared.error.RunError.TheVariants.{OutOfMemory, Read, Write}
 use Rattle.reports_lib.specs.Answer.{refusal, silence}
 use Rattle.tokens_lib.specs.Streams.{Stream, Console, AtEnd, Failed, NotOpened, LeftOff, GivesWhole, Reads, EndsReading, Takes, TakesPart, IsTold, Answers, Fails, opened}
@@ -79,8 +79,8 @@ a_part_is_too_little e = let grown = e.1 in absurd (cc)
 told_nothing : IsTold (broken (codes "a")) (codes "b") (broken (codes "a"))
 told_nothing = refl
 
-told_no_more : ¬ IsTold (broken (codes "a")) (codes "b") (broken (codes "ab"))
-told_no_more e = absurd (cc)
+told_no_more : ¬ IsTold (broken []) (codes "b") (broken (98 ∷ []))
+told_no_more e = let b = ap (λ (s : Stream). s.bytes) e in absurd (cc (b))
 
 -- ---- answers
 

@@ -1,9 +1,13 @@
 -- Cases of specs/TextAnswer.antt.
-use Rattle.std.proofs.Common.{◌≡◌, true, false, [], ◌∷◌, Some, None, codes, refl}
+use Rattle.std.proofs.Common.{◌≡◌, ℕ, true, false, List, [], ◌∷◌, ◌++◌, Some, None, codes, refl}
+use Rattle.std.specs.Borrow.{Bor}
 use Rattle.std.specs.Fmt.{digits}
+use Rattle.std.specs.Str.{chars}
 use Rattle.bajofeki_rules.specs.Quoted.{told}
 use Rattle.tokens_lib.specs.declared.cut_end.TextError.TheVariants.{NotText, Read}
-use Rattle.tokens_lib.specs.TextAnswer.{fault_text, open_text, cut_status, cut_text}
+use Rattle.lalrpop_rules.specs.declared.item.Item.TheVariants.{Fault}
+use Rattle.tokens_lib.specs.declared.command.Markup.TheVariants.{Html, Ansi}
+use Rattle.tokens_lib.specs.TextAnswer.{page_of, fault_text, open_text, cut_status, cut_text}
 use Rattle.tokens_lib.specs.declared.cut_end.CutEnd.TheVariants.{Whole, Stopped, Broken}
 
 -- a character that no rule matches
@@ -41,3 +45,15 @@ cut_to_no_text = (refl, refl)
 
 cut_to_a_failure : (cut_status (Broken Read) ≡ 6) × (cut_text [] (codes "f") (Broken Read) ≡ codes "tokens: f: read failed\n")
 cut_to_a_failure = (refl, refl)
+
+-- ---- pages
+
+-- a fault as HTML, and on red
+fault_as_html : (names : List (List ℕ)) (slice : Bor (List ℕ)) → slice.now ≡ codes "<" → page_of Html names (Fault 0 slice ∷ []) ≡ codes "<mark>&lt;</mark>"
+unfolding chars lib.Utf8.encode
+fault_as_html names slice is = rw is refl
+
+fault_on_red : (names : List (List ℕ)) (slice : Bor (List ℕ)) → slice.now ≡ codes "a"
+    → page_of Ansi names (Fault 0 slice ∷ []) ≡ 27 ∷ (codes "[41ma" ++ (27 ∷ codes "[0m"))
+unfolding chars lib.Utf8.encode
+fault_on_red names slice is = rw is refl

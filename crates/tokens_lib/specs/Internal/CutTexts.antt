@@ -14,9 +14,9 @@ use Rattle.lalrpop_rules.specs.declared.item.Item.{Item}
 use Rattle.lalrpop_rules.specs.declared.item.Item.TheVariants.{Token, Skipped, Fault}
 use Rattle.reports_lib.specs.ItemLines.{line_in, mode_named, name_at}
 use Rattle.reports_lib.specs.declared.layout.LineForm.{LineForm}
-use Rattle.tokens_lib.specs.CutEnds.{BreaksOff, first_fault, AreGiven, IsCutTo, IsTextOf, BeginsWith}
+use Rattle.tokens_lib.specs.CutEnds.{BreaksOff, first_fault}
 use Rattle.tokens_lib.specs.OpenModes.{open_behind, pushed_all}
-use Rattle.tokens_lib.specs.Streams.{Stream, Reading, ReadEnd, AtEnd, Failed, LeftOff, Reads, Console, Writes, WritesPart}
+use Rattle.tokens_lib.specs.Streams.{Stream, ReadEnd, AtEnd, Failed, LeftOff, Reads, Console, Writes, WritesPart}
 use Rattle.lexdfa_lib.specs.declared.error.RunError.{RunError}
 use Rattle.tokens_lib.specs.Internal.Incoming.{IsIncoming}
 use Rattle.tokens_lib.specs.declared.command.Markup.{Markup}
@@ -201,15 +201,3 @@ GivesAll form rules text old new waiting begun now None =
 GivesAll form rules text old new waiting begun now (Some ended) =
     (ys : List Item) × ((c : Chunked) × (EndsAtFault form rules text ys c ended
     × (IsSent (shown form rules text ys) waiting begun now × (c.is_ended ≡ old.incoming.chunks.is_ended))))
-
--- exactly this was written for the pieces that are cut of what was read, and cutting ended so
-abbrev pub WritesCut : ModeRules → Bool → (List ℕ → List Item → List ℕ) → Reading → Console → Console → CutEnd → Type 0
-WritesCut rules recovers out reading old new ended =
-    (text : List ℕ) × ((left : List ℕ) × ((xs : List Item) × (IsTextOf reading.bytes text left
-    × (IsCutTo rules recovers reading text left xs ended × Writes old (out text xs) new))))
-
--- a prefix was written of what is written for pieces that were given
-abbrev pub WritesCutPart : ModeRules → Bool → (List ℕ → List Item → List ℕ) → Reading → Console → RunError → Console → Type 0
-WritesCutPart rules recovers out reading old error new =
-    (text : List ℕ) × ((left : List ℕ) × ((xs : List Item) × ((c : Chunked) × (BeginsWith reading.bytes text left
-    × (AreGiven rules recovers reading text left xs c × WritesPart old (out text xs) error new)))))

@@ -1,4 +1,4 @@
-use Rattle.std.proofs.Common.{List, ℕ, inr, map, string_bytes}
+use Rattle.std.proofs.Common.{inr, map, string_bytes}
 use Rattle.bajofeki_rules.specs.Lines.{lines}
 use Rattle.lalrpop_rule_file.specs.RuleFile.{without_mark}
 use Rattle.tokens_lib.specs.NamedRules.{AreRulesOf, LinesAnswer, RulesOf, RulesRefused}

@@ -1,4 +1,4 @@
-use Rattle.std.proofs.Common.{sym, subst, length, map}
+use Rattle.std.proofs.Common.{sym, subst}
 use Rattle.std.proofs.lemmas.List.{length-map}
 use Rattle.tokens_lib.specs.Internal.Faults.{NameOnly}
 use Rattle.tokens_lib.proofs.Refusals.{fault_said}

@@ -1,4 +1,3 @@
-use Rattle.std.proofs.Common.{◌∙◌, ap, sym, string_bytes}
 use Rattle.std.proofs.lemmas.Result.{IfOk-weaker, IfErr-weaker, err_from_is_err_and}
 use Rattle.tokens_lib.specs.FileAnswers.{FileAnswer, ReadingAnswer, shown_name}
 use Rattle.tokens_lib.specs.Progress.{number_text}

@@ -1,4 +1,4 @@
-use Rattle.std.proofs.Common.{List, ℕ, map, string_bytes}
+use Rattle.std.proofs.Common.{map, string_bytes}
 use Rattle.std.proofs.lemmas.Result.{IfOk-weaker}
 use Rattle.tokens_lib.specs.Streams.{GivesWhole}
 use Rattle.tokens_lib.specs.Program.{ComparedAnswer, other_of}

@@ -1,9 +1,9 @@
-use Rattle.std.proofs.Common.{ℕ, inr, string_bytes, subst, ap, ◌∙◌}
+use Rattle.std.proofs.Common.{ℕ, inr, string_bytes, ap, ◌∙◌}
 use Rattle.std.proofs.lemmas.Result.{IfOk-weaker}
 use Rattle.bajofeki_rules.specs.Lines.{lines}
 use Rattle.lalrpop_rule_file.specs.RuleFile.{without_mark}
 use Rattle.reports_lib.specs.Answer.{followed, refusal}
-use Rattle.tokens_lib.specs.WarningsSaid.{IsFileOf, is_said}
+use Rattle.tokens_lib.specs.WarningsSaid.{IsFileOf}
 use Rattle.tokens_lib.specs.Internal.Listings.{first_status}
 use Rattle.tokens_lib.proofs.listing.list_in.Goals as goal
 

@@ -3,7 +3,7 @@ use Rattle.std.specs.Prelude.{nat_lt}
 use Rattle.std.proofs.lemmas.Result.{IfOk-weaker, IfErr-weaker, err_from_is_err_and}
 use Rattle.tokens_lib.specs.FileAnswers.{TextsAnswer, FirstTextsAnswer}
 use Rattle.tokens_lib.specs.Streams.{GivesWhole}
-use Rattle.tokens_lib.specs.TextAnswer.{PiecesAnswer, PiecesPart, PageAnswer, PagePart}
+use Rattle.tokens_lib.specs.TextAnswer.{PiecesAnswer, PiecesPart}
 use Rattle.tokens_lib.proofs.AnswerLaws.{fails_of_memory}
 use Rattle.tokens_lib.proofs.RuleLaws.{lexer_answers, lexer_fails, lexer_unsaid, reply_answers, reply_fails, no_lexer, no_texts}
 use Rattle.tokens_lib.proofs.program.cut_lines.Goals as goal
