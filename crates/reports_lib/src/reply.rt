@@ -6,6 +6,13 @@ use std::alloc::{AllocError, Global};
 use std::marker::Model;
 
 /// An answer: an exit status, and what is written to standard output and to standard error.
+///
+/// ```
+/// use reports_lib::Reply;
+///
+/// let reply = Reply::refusal(alloc, 6, String::from_str(alloc, "tokens: a.txt: not found\n")?);
+/// assert_eq!((reply.status(), reply.err()), (6, "tokens: a.txt: not found\n"));
+/// ```
 #[derive(Debug, Drop)]
 pub struct Reply {
     status: u8,

@@ -73,8 +73,7 @@ told_again a b c xs ys x y = by a.is_broken b.is_broken c.is_broken refl refl re
     by false false true p q r =
         let first : Takes a xs b = by_told false false a b xs p q x in
         let second : Breaks b c × AppendsPrefix b.bytes c.bytes ys = by_told false true b c ys q r y in
-        told_by false true a c (xs ++ ys) p r
-        (
+        told_by false true a c (xs ++ ys) p r (
           breaks_later a b c first.0 second.0,
           subst (λ (l : List ℕ). AppendsPrefix a.bytes c.bytes (xs ++ l)) (append-nil ys) (AppendsPrefix-behind a.bytes b.bytes c.bytes xs ys [] first.1 second.1),
         )

@@ -99,7 +99,7 @@ module _ {T : Type 0} (Own : ℕ → Stream → Stream → List ℕ → Answer �
               fronts at,
               inr (
                 file,
-                (map text (drop (at + 1) names), (others, (j, (before, (own, (files, (subst (λ (n : ℕ). Part n j k file own) number part, same)))))))
+                (map text (drop (at + 1) names), (others, (j, (before, (own, (files, (subst (λ (n : ℕ). Part n j k file own) number part, same))))))),
               ),
             ),
           ),

@@ -56,7 +56,7 @@ module _ (rules : ModeRules) (modes : List (List ℕ)) (recovers : Bool) (out : 
   -- a part of the pieces was written
   pub cut_part : (a b : Console) (e : RunError) → (reading : Reading) × (Gives_it reading × WritesCutPart rules recovers out reading a e b)
       → Fails (ReadAnswer Gives_it (EitherAnswer Whole Part file)) a e b
-  cut_part a b e (reading, (gives, (text, (left, (xs, (c, (begins, (given, (part, quiet)))))))) ) = (
+  cut_part a b e (reading, (gives, (text, (left, (xs, (c, (begins, (given, (part, quiet))))))))) = (
     record { status = 0; out = of_file file text xs; err = [] },
     (
       inr (reading, (gives, inr (text, (left, (xs, (c, (begins, (given, refl)))))))),

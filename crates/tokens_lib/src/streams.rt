@@ -129,6 +129,13 @@ impl<W: Write + Drop> Sink for System<W> {
 }
 
 /// A source, and whether a read has failed.
+///
+/// ```
+/// use tokens_lib::{Reader, System};
+///
+/// let text = Reader::new("let x".as_bytes());
+/// let input = Reader::new(System(rt.reader()));
+/// ```
 #[derive(Drop)]
 pub struct Reader<S: Source> {
     source: S,
