@@ -1,2 +1,3 @@
 mod Lines
+mod Memory
 mod Words
