@@ -1,3 +1,4 @@
+mod CutInMemory
 mod Lines
 mod Memory
 mod Words

@@ -1,14 +1,17 @@
 //! The program `tokens` over files and streams of a caller.
-ghost use Rattle.std.specs.Prelude.{◌≡◌, ◌≢◌, ◌≤◌, ◌⊎◌, ℕ, List, [], Some, true, false, codes, map, string_bytes, IfOk, IfErr, IfSome};
+ghost use Rattle.std.specs.Prelude.{◌≡◌, ◌≢◌, ◌≤◌, ◌⊎◌, ◌∷◌, ◌++◌, ℕ, List, [], Some, true, false, codes, map, string_bytes, IfOk, IfErr, IfSome};
 ghost use Rattle.tokens_lib.specs.Answer.{refusal};
+ghost use Rattle.tokens_lib.specs.Command.{options_of};
+ghost use Rattle.tokens_lib.specs.NamedRules.{LexerOf, RulesOf};
 ghost use Rattle.tokens_lib.specs.Program.{IsAnswer, IsFirstAnswer};
-ghost use Rattle.tokens_lib.specs.Streams.{Answers, AtEnd, Fails, NotOpened, Reads, Stream, opened};
+ghost use Rattle.tokens_lib.specs.Streams.{Answers, AtEnd, Fails, NotOpened, Reading, Reads, Stream, opened};
+ghost use Rattle.tokens_lib.specs.TextAnswer.{PiecesAnswer};
 ghost use Rattle.tokens_lib.specs.Usage.{wrong_text};
 ghost use Rattle.tokens_lib.specs.declared.command.ArgumentsError.TheVariants.{NoRules};
 
 use lexdfa_lib::RunError;
-use std::alloc::Global;
-use tokens_lib::{Console, Files, NoBytes, Reader, Sink, Source, run};
+use std::alloc::{AllocError, Global};
+use tokens_lib::{Action, Console, Files, LineForm, NoBytes, Reader, Sink, Source, Verbosity, run};
 
 /// A file in memory, the only one that there is.
 #[derive(Clone, Copy)]
@@ -114,4 +117,49 @@ pub fn status_of_run<F: Files, S: Source, O: Sink, E: Sink>(
     ensures status { result ≤ 6 }
 {
     run(alloc, words, files, input, console).unwrap_or(5)
+}
+
+// The words `[--recover] [--json] rules`.
+fn words_of(alloc: Global, form: LineForm, recovers: bool) -> Result<Vec<String>, AllocError>
+    ensures words { IfOk result (λ words. map string_bytes words.items
+        ≡ options_of (Action.Cut form recovers) ++ (codes "rules" ∷ [])) }
+{
+    let mut words = Vec::new(alloc);
+    if recovers {
+        words.push(String::from_str(alloc, "--recover")?)?;
+    }
+    if let LineForm::Json = form {
+        words.push(String::from_str(alloc, "--json")?)?;
+    }
+    words.push(String::from_str(alloc, "rules")?)?;
+    Ok(words)
+}
+
+// Needs tokens_lib::run: answer, fails. tokens_lib::LineForm.
+/// `tokens [--recover] [--json] rules`, with the text on standard input. A bad line of the rules, rules that clash, a fault, a
+/// text that isn't UTF-8: each has its bytes and its status, and nothing else is answered.
+///
+/// # Errors
+///
+/// `OutOfMemory` if a request for memory was refused.
+pub fn cut_in_memory(
+    alloc: Global,
+    form: LineForm,
+    recovers: bool,
+    rules: &[u8],
+    text: &[u8],
+) -> Result<Given, RunError>
+    ensures exact { IfOk result (λ given. RulesOf Verbosity.Warnings (LexerOf (λ r modes answer.
+        (left : Stream) × ((reading : Reading) × (Reads (opened (Some text.now) false) left reading
+        × PiecesAnswer r modes form recovers false (codes "<stdin>") reading answer))))
+        (codes "rules") rules.now
+        (record { status = given.status; out = given.out.items; err = given.err.items })) }
+    ensures memory { IfErr result (λ e. e ≡ RunError.OutOfMemory) }
+{
+    let words = words_of(alloc, form, recovers)?;
+    let files = OnlyFile {
+        name: "rules",
+        bytes: rules,
+    };
+    run_in_memory(alloc, &words, &files, text)
 }
