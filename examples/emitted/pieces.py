@@ -1,4 +1,4 @@
-"""`pieces.py` makes of the lines of `tokens --json --recover` those of pieces.c. `pieces.py SEED TEXT` writes a megabyte of mixed text,
+"""`pieces.py` makes of the lines of `tokens --json --recover` those of pieces.c. `pieces.py SEED TEXT` writes half a megabyte of mixed text,
 the same for the same seed: fragments of the text, characters of many kinds and runs of them. `pieces.py SEED TEXT spoilt` changes
 some of its bytes, so that it isn't UTF-8."""
 import json
@@ -12,7 +12,7 @@ else:
     chance = random.Random(sys.argv[1])
     text = open(sys.argv[2], encoding="utf-8").read()
     mixed = []
-    for _ in range(5000):
+    for _ in range(2500):
         at = chance.randrange(len(text))
         mixed.append(text[at : at + chance.randrange(1, 400)])
         mixed.append(chance.choice("\"'/*\\(){} \n\t0aZ_\u00e9\u03c3\u4e16\U0001f600\0") * chance.randrange(1, 9))
