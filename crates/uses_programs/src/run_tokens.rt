@@ -1,6 +1,6 @@
 //! The program `tokens` over files and streams of a caller.
 ghost use Rattle.std.specs.Prelude.{◌≡◌, ◌≢◌, ◌≤◌, ◌⊎◌, ◌∷◌, ◌++◌, ℕ, List, [], Some, true, false, codes, map, string_bytes, IfOk, IfErr, IfSome};
-ghost use Rattle.tokens_lib.specs.Answer.{refusal};
+ghost use Rattle.tokens_lib.specs.Answer.{Answer, followed, refusal};
 ghost use Rattle.tokens_lib.specs.Command.{options_of};
 ghost use Rattle.tokens_lib.specs.NamedRules.{LexerOf, RulesOf};
 ghost use Rattle.tokens_lib.specs.Program.{IsAnswer, IsFirstAnswer};
@@ -13,26 +13,30 @@ use lexdfa_lib::RunError;
 use std::alloc::{AllocError, Global};
 use tokens_lib::{Action, Console, Files, LineForm, NoBytes, Reader, Sink, Source, Verbosity, run};
 
-/// A file in memory, the only one that there is.
+/// Two files in memory, `rules` and `text`.
 #[derive(Clone, Copy)]
-pub struct OnlyFile<'text> {
-    pub name: &'text str,
-    pub bytes: &'text [u8],
+pub struct BothFiles<'bytes> {
+    pub rules: &'bytes [u8],
+    pub text: &'bytes [u8],
 }
 
 // Needs tokens_lib::NoBytes::from: ghost from_gives.
-// No read of it fails.
-impl<'text> Files for OnlyFile<'text> {
-    ghost gives = { λ file name reading. ((name ≡ file.name.now)
-        × ((new : Stream) × Reads (opened (Some file.bytes.now) false) new reading))
-        ⊎ ((name ≢ file.name.now)
-        × (reading ≡ record { bytes = []; end = NotOpened (codes "not found") })) };
+// No read of them fails.
+impl<'bytes> Files for BothFiles<'bytes> {
+    ghost gives = { λ both name reading. ((name ≡ codes "rules")
+        × ((new : Stream) × Reads (opened (Some both.rules.now) false) new reading))
+        ⊎ (((name ≡ codes "text")
+        × ((new : Stream) × Reads (opened (Some both.text.now) false) new reading))
+        ⊎ ((name ≢ codes "rules") × ((name ≢ codes "text")
+        × (reading ≡ record { bytes = []; end = NotOpened (codes "not found") })))) };
 
-    type Reader = &'text [u8];
+    type Reader = &'bytes [u8];
 
-    fn open(&self, alloc: Global, name: &str) -> Result<&'text [u8], NoBytes> {
-        if name == self.name {
-            Ok(self.bytes)
+    fn open(&self, alloc: Global, name: &str) -> Result<&'bytes [u8], NoBytes> {
+        if name == "rules" {
+            Ok(self.rules)
+        } else if name == "text" {
+            Ok(self.text)
         } else {
             Err(NoBytes::Because(String::from_str(alloc, "not found")?))
         }
@@ -135,6 +139,18 @@ fn words_of(alloc: Global, form: LineForm, recovers: bool) -> Result<Vec<String>
     Ok(words)
 }
 
+// The words `[--recover] [--json] rules text -`.
+fn two_words_of(alloc: Global, form: LineForm, recovers: bool) -> Result<Vec<String>, AllocError>
+    ensures words { IfOk result (λ words. map string_bytes words.items
+        ≡ (options_of (Action.Cut form recovers) ++ (codes "rules" ∷ []))
+        ++ (codes "text" ∷ codes "-" ∷ [])) }
+{
+    let mut words = words_of(alloc, form, recovers)?;
+    words.push(String::from_str(alloc, "text")?)?;
+    words.push(String::from_str(alloc, "-")?)?;
+    Ok(words)
+}
+
 // Needs tokens_lib::run: answer, fails. tokens_lib::LineForm.
 /// `tokens [--recover] [--json] rules`, with the text on standard input. A bad line of the rules, rules that clash, a fault, a
 /// text that isn't UTF-8: each has its bytes and its status, and nothing else is answered.
@@ -157,9 +173,36 @@ pub fn cut_in_memory(
     ensures memory { IfErr result (λ e. e ≡ RunError.OutOfMemory) }
 {
     let words = words_of(alloc, form, recovers)?;
-    let files = OnlyFile {
-        name: "rules",
-        bytes: rules,
-    };
+    let files = BothFiles { rules, text: &[] };
     run_in_memory(alloc, &words, &files, text)
+}
+
+// Needs tokens_lib::run: answer, fails. tokens_lib::LineForm.
+/// `tokens [--recover] [--json] rules text -`: the answer to the file, and then the one to standard input.
+///
+/// # Errors
+///
+/// `OutOfMemory` if a request for memory was refused.
+pub fn cut_two_in_memory(
+    alloc: Global,
+    form: LineForm,
+    recovers: bool,
+    files: &BothFiles<'_>,
+    input: &[u8],
+) -> Result<Given, RunError>
+    ensures exact { IfOk result (λ given. RulesOf Verbosity.Warnings (LexerOf (λ r modes answer.
+        (first : Answer) × ((second : Answer)
+        × (((left : Stream) × ((reading : Reading)
+        × (Reads (opened (Some files.now.text.now) false) left reading
+        × PiecesAnswer r modes form recovers true (codes "text") reading first)))
+        × (((left : Stream) × ((reading : Reading)
+        × (Reads (opened (Some input.now) false) left reading
+        × PiecesAnswer r modes form recovers true (codes "<stdin>") reading second)))
+        × (answer ≡ followed first second))))))
+        (codes "rules") files.now.rules.now
+        (record { status = given.status; out = given.out.items; err = given.err.items })) }
+    ensures memory { IfErr result (λ e. e ≡ RunError.OutOfMemory) }
+{
+    let words = two_words_of(alloc, form, recovers)?;
+    run_in_memory(alloc, &words, files, input)
 }

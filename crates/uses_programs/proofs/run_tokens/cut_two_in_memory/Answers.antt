@@ -1,0 +1,12 @@
+use Rattle.std.proofs.Common.{Some, ap, false, map, string_bytes, ◌∙◌}
+use Rattle.std.proofs.lemmas.Result.{IfOk-weaker}
+use Rattle.tokens_lib.specs.Streams.{opened}
+use Rattle.uses_programs.proofs.CutInMemory.{cut_answers}
+use Rattle.uses_programs.proofs.run_tokens.cut_two_in_memory.Goals as goal
+
+pub returns-clause-exact : goal.returns-clause-exact
+returns-clause-exact c =
+    let are = ap (map string_bytes) c.deref.ensures.value ∙ c.in_ok-words.ensures.words in
+    IfOk-weaker c.run_in_memory.result _ _
+    (λ given e. cut_answers (opened (Some c.args.input.now) false) e.0 c.args.files.now.rules.now c.args.files.now.text.now c.args.form c.args.recovers _ _ are e.1)
+    c.run_in_memory.ensures.exact
