@@ -117,7 +117,7 @@ def seen(item):
 
 # The code of a lexer in Rust is DRIVER in this file, the text of the functions of DRIVEN; that in C is `c_text.rt` beside it.
 RUST = TOP / "crates/lalrpop_emit/src/rust_text.rt"
-DRIVEN = ("driver", "longest_match", "ahead_columns", "ahead_rows", "ahead_driver")
+DRIVEN = ("driver", "longest_match", "ahead_columns", "ahead_rows", "flag_ends", "ahead_driver")
 RUST_FUNCTION = re.compile(r"^(?:(?://|#\[)[^\n]*\n)*fn (\w+).*?^}\n", re.M | re.S)
 C_FUNCTION = re.compile(r"^(?:/\*(?:(?!\*/).)*\*/\n)?[$\w][^\n;]*?\$_(\w+)\([^;]*?\) \{\n.*?^\}\n", re.M | re.S)
 

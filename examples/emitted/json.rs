@@ -412,12 +412,14 @@ fn found(
 }
 
 // Whether the pieces of the rule have actions.
+#[inline(always)]
 fn has_actions(numbers: &Numbers, rule: usize) -> bool {
     numbers.actions.len() > numbers.first_actions.len()
         && numbers.actions[numbers.first_actions[rule] as usize] != 0
 }
 
 // The token as a piece that begins at the start.
+#[inline(always)]
 fn token_piece(numbers: &Numbers, start: usize, token: Match) -> NumberedPiece {
     NumberedPiece {
         kind: Some(numbers.kinds[token.rule]),
@@ -427,7 +429,7 @@ fn token_piece(numbers: &Numbers, start: usize, token: Match) -> NumberedPiece {
     }
 }
 
-// The fault that begins where the text goes on, behind which it then goes on.
+// The fault that begins where the text goes on, after which it then goes on.
 fn fault(numbers: &Numbers, text: &[u8], state: &mut State, memo: &mut [u64]) -> NumberedPiece {
     let table = &numbers.tables[state.mode as usize];
     let ahead = &numbers.ahead[state.mode as usize];
@@ -480,7 +482,8 @@ fn next_apart(
     Step::Piece(token_piece(numbers, start, token))
 }
 
-// The next piece, a token or a fault, behind which the text is cut on.
+// The next piece, a token or a fault, after which the text is cut on.
+#[inline(always)]
 fn next(
     numbers: &Numbers,
     text: &[u8],
@@ -812,21 +815,24 @@ fn columns_of(
 // How many walks are done at once.
 const WALKS: usize = 6;
 
-// The row that the column leads to from the row.
-fn step(ahead: &Ahead, row: usize, column: u16) -> AheadCell {
-    ahead.cells[row + column as usize]
+// The row that the column leads to from the row. It is given the cells, not the lists, which would be read anew after each row
+// that is written.
+#[inline(always)]
+fn step(cells: &[AheadCell], row: usize, column: u16) -> AheadCell {
+    cells[row + column as usize]
 }
 
 // Walks along each part of the columns from the start on. The walks don't wait for each other, so they are quick; but the walks
 // along later parts begin with what may be wrong.
 #[inline(always)]
 fn walk_parts(ahead: &Ahead, columns: &[u16], rows: &mut [AheadCell]) {
+    let cells: &[AheadCell] = &ahead.cells;
     let part = columns.len() / WALKS;
     let mut last = [ahead.start; WALKS];
     for k in 0..part {
         for walk in 0..WALKS {
             let place = walk * part + k;
-            let row = step(ahead, last[walk], columns[place]);
+            let row = step(cells, last[walk], columns[place]);
             last[walk] = row as usize;
             rows[place] = row;
         }
@@ -844,10 +850,11 @@ fn walk(ahead: &Ahead, columns: &[u16], rows: &mut [AheadCell]) {
 
 // Walks on from the row before the place until the row is the one that stands there.
 fn walk_on(ahead: &Ahead, columns: &[u16], from: usize, rows: &mut [AheadCell]) {
+    let cells: &[AheadCell] = &ahead.cells;
     let mut row = rows[from - 1];
     let mut at = from;
     while at < columns.len() {
-        let next = step(ahead, row as usize, columns[at]);
+        let next = step(cells, row as usize, columns[at]);
         if rows[at] == next {
             return;
         }
@@ -857,7 +864,7 @@ fn walk_on(ahead: &Ahead, columns: &[u16], from: usize, rows: &mut [AheadCell]) 
         while next == row
             && at < columns.len()
             && rows[at] != next
-            && step(ahead, next as usize, columns[at]) == next
+            && step(cells, next as usize, columns[at]) == next
         {
             rows[at] = next;
             at += 1;
@@ -875,7 +882,7 @@ fn join(ahead: &Ahead, columns: &[u16], rows: &mut [AheadCell]) {
 }
 
 // The columns of the bytes of the text from a place on, and the rows that they lead to from the start, one after another: each
-// stands for what is known behind its byte.
+// stands for what is known after its byte.
 fn fill(
     ahead: &Ahead,
     table: &Table,
@@ -888,9 +895,6 @@ fn fill(
     walk(ahead, columns, rows);
     join(ahead, columns, rows);
 }
-
-// The least bytes of a block: a word for each of the six walks. Each block has a multiple of them.
-const LEAST: usize = 384;
 
 // Which of 64 rows are at or above this one: a byte for each, 1 where it is, else 0. They are compared with a cell of their own
 // size and the answers are kept apart, so that a processor can do many at once.
@@ -928,14 +932,17 @@ fn ends_of(rows: &[AheadCell], least: usize) -> u64 {
     bits_of(&flags_of(rows, least as AheadCell))
 }
 
-// Writes a bit for each row: whether it is one of an end. Rows behind the last 64 have none.
+// The least bytes of a block: a word for each of the six walks. Each block has a multiple of them.
+const LEAST: usize = 384;
+
+// Writes a bit for each row: whether it is one of an end. Rows after the last 64 have none.
 fn mark_ends(rows: &[AheadCell], least: usize, ends: &mut [u64]) {
     for word in 0..rows.len() / 64 {
         ends[word] = ends_of(&rows[word * 64..word * 64 + 64], least);
     }
 }
 
-// Runs through `size` bytes of the text from the place on: their columns, and the rows behind them.
+// Runs through `size` bytes of the text from the place on: their columns, and the rows after them.
 fn run_through(
     ahead: &Ahead,
     table: &Table,
@@ -983,6 +990,7 @@ fn fill_block(
 }
 
 // The next end in the block. `None` if none is left.
+#[inline(always)]
 fn next_end(run: &mut Run) -> Option<usize> {
     while run.bits == 0 {
         if run.word + 1 >= run.length / 64 {
@@ -994,13 +1002,15 @@ fn next_end(run: &mut Run) -> Option<usize> {
     Some(run.word * 64 + run.bits.trailing_zeros() as usize)
 }
 
-// Goes on behind the token that ends next.
+// Goes on after the token that ends next.
+#[inline(always)]
 fn take(run: &mut Run) {
     run.bits &= run.bits - 1;
 }
 
-// The token that begins where the text goes on, if the block tells. It doesn't where that token is a fault, ends behind the
+// The token that begins where the text goes on, if the block tells. It doesn't where that token is a fault, ends after the
 // block, or ends before a longer one that then doesn't match.
+#[inline(always)]
 fn known(ahead: &Ahead, run: &mut Run) -> Option<Match> {
     let end = next_end(run)?;
     let rule = ahead.cells[run.rows[end - 1] as usize + ahead.width];

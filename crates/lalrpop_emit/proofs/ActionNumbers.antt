@@ -8,7 +8,7 @@ use Rattle.std.proofs.lemmas.List.Elements.{All-push}
 use Rattle.std.proofs.lemmas.List.FromFn.{length-map-range_with_len, get_or-map-range_with_len, map-range_with_len_more, take-map-range_with_len}
 use Rattle.std.proofs.lemmas.Option.{slice_get_within, slice_get-get_or}
 use Rattle.lalrpop_rules.specs.Modes.{ModeRules}
-use Rattle.bajofeki_rules.specs.Stack.{actions_of, these_or_none}
+use Rattle.bajofeki_rules.specs.Stack.{actions_of}
 use Rattle.bajofeki_rules.specs.declared.action.Action.{Action}
 use Rattle.bajofeki_rules.specs.declared.action.Action.TheVariants.{Mode, Push, Pop}
 use Rattle.lalrpop_emit.specs.NumberedRules.{action_number, action_numbers, first_places, actions_of_rules}
@@ -129,9 +129,6 @@ rule_at r i within =
     let all = length-map-range_with_len (actions_of r.actions) 0 (length r.names) in
     slice_get-get_or (actions_of_rules r) i [] (omega (arith, all))
     ∙ ap Some (get_or-map-range_with_len (actions_of r.actions) 0 (length r.names) i i [] within (omega arith))
-
-pub actions_of_rule : (r : ModeRules) (i : ℕ) → i < length r.names → actions_of (actions_of_rules r) i ≡ actions_of r.actions i
-actions_of_rule r i within = ap these_or_none (rule_at r i within)
 
 -- behind other numbers stand those of the rules: from its place on those of a rule, and a 0
 numbers_at : (before : List ℕ) (rules : List (List Action)) (i place : ℕ) (actions : List Action) → slice_get (first_places (length before) rules) i ≡ Some place → slice_get rules i ≡ Some actions

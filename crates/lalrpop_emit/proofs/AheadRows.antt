@@ -90,21 +90,6 @@ pub record IsWalkedOn (a : AheadNumbers) (columns old rows : List ℕ) (from at 
   pub steps : (k : ℕ) → from ≤ k → k < at → IsStepAt a columns rows k
   pub kept : (k : ℕ) → (k < from) ⊎ (at < k) → IsStepAt a columns old k → IsStepAt a columns rows k
 
-pub walked_on_first : (a : AheadNumbers) (columns rows : List ℕ) (from row : ℕ) → 0 < from → from ≤ length rows → All (IsRowOf a) rows → row ≡ slice_index rows (from - 1)
-    → IsWalkedOn a columns rows rows from from row
-walked_on_first a columns rows zero row some within are is = absurd (omega (arith, some))
-walked_on_first a columns rows (suc from) row some within are is =
-    let same : suc from - 1 ≡ from = omega arith in
-    let row_is : row ≡ slice_index rows from = is ∙ ap (slice_index rows) same in
-    record {
-      place = omega arith;
-      is_row = subst (IsRowOf a) (sym row_is) (All-get_or (IsRowOf a) rows from 0 (omega arith) are);
-      row_is = row_is;
-      are_rows = are;
-      steps = λ k low high. absurd (omega (arith, low, high));
-      kept = λ k out is. is;
-    }
-
 pub walked_on_more : (a : AheadNumbers) (columns old rows : List ℕ) (from at row next : ℕ) → at < length rows → IsWalkedOn a columns old rows from at row → IsRowOf a next
     → next ≡ slice_index a.cells (row + slice_index columns at) → IsWalkedOn a columns old (set rows at next) from (at + 1) next
 walked_on_more a columns old rows from at row next within w is_row is = record {

@@ -6,7 +6,7 @@ use Rattle.std.proofs.lemmas.Bool.{cases_lt}
 use Rattle.std.proofs.lemmas.List.{get_or-set_same, get_or-set_other}
 use Rattle.std.proofs.lemmas.List.Elements.{All-from_get_or}
 use Rattle.lalrpop_emit.specs.Ahead.{AheadNumbers}
-use Rattle.lalrpop_emit.specs.Internal.AheadRows.{IsRowOf, IsStepAt, IsRun, IsWithinPart, AreRuns}
+use Rattle.lalrpop_emit.specs.Internal.AheadRows.{IsRowOf, IsStepAt, IsWithinPart, AreRuns}
 use Rattle.lalrpop_emit.proofs.AheadRows.{set_before, step_kept, step_made, row_made}
 
 -- a part ends before the next one begins
@@ -93,12 +93,6 @@ pub record AreWalkedTo (a : AheadNumbers) (columns rows : List ℕ) (part n : �
   pub done : (j : ℕ) → j < walk → IsWalked a columns rows (j * part) (n + 1) (slice_index last j)
   pub left : (j : ℕ) → walk ≤ j → j < 6 → IsWalked a columns rows (j * part) n (slice_index last j)
 
-pub walks_first : (a : AheadNumbers) (columns rows : List ℕ) (part n : ℕ) (last : List ℕ) → AreWalked a columns rows part n last → AreWalkedTo a columns rows part n last 0
-walks_first a columns rows part n last are = record {
-  done = λ j none. absurd (omega (arith, none));
-  left = λ j low high. are j high;
-}
-
 pub walks_more : (a : AheadNumbers) (columns rows : List ℕ) (part n : ℕ) (last : List ℕ) (walk next : ℕ) → length rows ≡ 6 * part → length last ≡ 6 → n < part → walk < 6 → IsRowOf a next
     → next ≡ slice_index a.cells (slice_index last walk + slice_index columns (walk * part + n)) → AreWalkedTo a columns rows part n last walk
     → AreWalkedTo a columns (set rows (walk * part + n) next) part n (set last walk next) (walk + 1)
@@ -180,6 +174,3 @@ joined_more a columns rows new part walk kept are = λ k within at.
     (λ (near : k ≤ walk * part). inl (omega arith))
     (cases_lt (walk * part) k))
     (cases_lt k (walk * part)))
-
-pub joined_last : (a : AheadNumbers) (columns rows : List ℕ) (part : ℕ) → length columns ≡ 6 * part → length rows ≡ length columns → AreJoined a columns rows part 6 → IsRun a columns rows
-joined_last a columns rows part size as_many are = λ k within. are k (omega (arith, within, as_many)) (inr (omega (arith, within, as_many, size)))

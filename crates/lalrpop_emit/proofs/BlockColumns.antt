@@ -58,9 +58,6 @@ abbrev pub GoOn : TableNumbers → ℕ → List ℕ → ℕ → List ℕ → ℕ
 GoOn t width text from columns k left =
     (rest : List ℕ) → AreColumns t width left (drop (from + k) text) rest → AreColumns t width 0 (drop from text) (take k columns ++ rest)
 
-pub go_on_first : (t : TableNumbers) (width : ℕ) (text : List ℕ) (from : ℕ) (columns : List ℕ) → GoOn t width text from columns 0 0
-go_on_first t width text from columns rest h = let same : from + 0 ≡ from = omega arith in subst (λ (n : ℕ). AreColumns t width 0 (drop n text) rest) same h
-
 pub go_on_more : (t : TableNumbers) (width : ℕ) (text : List ℕ) (from : ℕ) (columns : List ℕ) (k left left2 column : ℕ) → k < length columns → GoOn t width text from columns k left
     → ((rest : List ℕ) → AreColumns t width left2 (drop (from + k + 1) text) rest → AreColumns t width left (drop (from + k) text) (column ∷ rest))
     → GoOn t width text from (set columns k column) (k + 1) left2

@@ -17,7 +17,6 @@ use Rattle.lalrpop_emit.specs.Internal.Driving.{ComesNext, GoesOn, stack_of}
 use Rattle.lalrpop_emit.specs.Internal.Lists.{ahead_numbers, list_numbers}
 use Rattle.lalrpop_emit.specs.Internal.Walking.{IsDrivable, IsWalkable, AreRulesBelow, AreActionsAt}
 use Rattle.lalrpop_emit.specs.declared.driver.State.{State}
-use Rattle.lalrpop_emit.specs.declared.driver.Step.{Step}
 use Rattle.lalrpop_emit.specs.declared.driver.Step.TheVariants.{Piece}
 use Rattle.lalrpop_emit.specs.declared.ahead_table.AheadLists.{AheadLists}
 use Rattle.lalrpop_emit.specs.declared.numbered_piece.NumberedPiece.{NumberedPiece}
@@ -80,11 +79,6 @@ rule_read seen n rule place same drivable below read =
     let within : rule < length n.first_actions = omega (arith, below, drivable.first) in
     let there = slice_get_read n.first_actions (length n.first_actions) rule place refl within (read ∙ ap (λ (x : NumberedRules). get_or x.first_actions rule place) same) in
     record { below = below; there = there; acts = drivable.actions rule place there }
-
--- its kind
-pub kind_read : (seen n : NumberedRules) (rule place kind : ℕ) → seen ≡ n → IsRuleRead n rule place → kind ≡ get_or seen.kinds rule kind → slice_get n.kinds rule ≡ Some kind
-kind_read seen n rule place kind same h read =
-    slice_get_read n.kinds (length n.kinds) rule kind refl h.below (read ∙ ap (λ (x : NumberedRules). get_or x.kinds rule kind) same)
 
 -- at the place of a rule stand its actions
 pub acts_of_rule : (r : ModeRules) (n : NumberedRules) (rule place : ℕ) → AreNumbersOf r n → IsRuleRead n rule place → AreActionsAt n.actions (length n.tables) place (actions_of r.actions rule)
@@ -150,9 +144,3 @@ pub written : (new old : List ℕ) (len : ℕ) → length new ≡ length old →
 written new old len same all =
     let none : drop (length new) old ≡ [] = drop_all (length new) old (omega (arith, same)) in
     ap (take len) (ap (λ xs. new ++ xs) none ∙ append-nil new) ∙ take_all len new (omega (arith, same, all))
-
-pub came_next : (r : ModeRules) (kinds : List ℕ) (room : ℕ) (text : List ℕ) (at : ℕ) (state : State) (slice list : List ℕ) (step : Step) (t : Stack) → slice ≡ list → length list ≡ room
-    → ComesNext r kinds (length slice) text at (stack_of state slice) step t → ComesNext r kinds room text at (stack_of state list) step t
-came_next r kinds room text at state slice list step t same size next =
-    subst (λ (k : ℕ). ComesNext r kinds k text at (stack_of state list) step t) size
-    (subst (λ (xs : List ℕ). ComesNext r kinds (length xs) text at (stack_of state xs) step t) same next)

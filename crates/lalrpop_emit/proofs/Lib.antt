@@ -34,6 +34,7 @@ pub mod RunFills
 pub mod RunBlocks
 pub mod ModeRuns
 pub mod FlagBits
+pub mod LaneEnds
 pub mod Found
 pub mod AheadLists
 pub mod Steps

@@ -221,13 +221,6 @@ some_room a t size memo h roomy = elim (cases_lt a.start a.ends) [
   | inr behind ↦ let ends : false ≡ true = (h.ends a.start Begin h.begins).1 behind in cc
 ]
 
--- where `ends` is the place of a row, as many words for each row before it are enough
-pub roomy_by_rows : (a : AheadNumbers) (size rows : ℕ) (memo : List ℕ) → a.ends ≡ rows * (a.width + 1) → a.ends / (a.width + 1) * (size / 4096 + 1) ≤ length memo → IsRoomy a size memo
-roomy_by_rows a size rows memo is enough =
-    let before : a.ends / (a.width + 1) ≡ rows = ap (λ (n : ℕ). n / (a.width + 1)) (omega (arith, is)) ∙ div-mul-add rows (a.width + 1) 0 (omega arith) in
-    let all : (a.ends + a.width) / (a.width + 1) ≡ rows = ap (λ (n : ℕ). (n + a.width) / (a.width + 1)) is ∙ div-mul-add rows (a.width + 1) a.width (omega arith) in
-    subst (λ (n : ℕ). n * (size / 4096 + 1) ≤ length memo) (before ∙ sym all) enough
-
 -- ---- no more bits than 64 for each word
 
 below_most : (word k : ℕ) → set_below word k ≤ k

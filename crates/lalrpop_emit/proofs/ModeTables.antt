@@ -10,7 +10,6 @@ use Rattle.lalrpop_dfa.specs.Dfa.{Row, after}
 use Rattle.lalrpop_dfa.proofs.EdgeTargets.{the_some}
 use Rattle.lalrpop_dense.specs.DenseTable.{TableNumbers, IsRowLike, IsTableFor, row_after}
 use Rattle.lalrpop_rules.specs.Modes.{ModeRules}
-use Rattle.lalrpop_emit.specs.NumberedRules.{IsStorableTable}
 use Rattle.lalrpop_emit.specs.Internal.Lists.{AreBelow, AreModeTables, IsModeTable, list_numbers}
 use Rattle.lalrpop_emit.specs.Internal.Walking.{AreRulesBelow, IsWalkable}
 use Rattle.lalrpop_emit.specs.declared.table_lists.TableLists.{TableLists}
@@ -25,19 +24,6 @@ pub rules_below : (t : TableNumbers) (d : List Row) (count : ℕ) → IsTableFor
 rules_below t d count h below w word live accept =
     let found = the_some (slice_get d (after d w)) (λ r. IsRowLike t (row_after t t.start w) r.kind) (h.alike w word) in
     below (after d w) (get_or t.cells (row_after t t.start w + t.width) 0) found.0 found.1.0 (kind_accepts t (row_after t t.start w) found.0.kind found.1.1 live accept)
-
--- a table is that of the mode if it is right where another one of the mode is
-pub another_table : (r : ModeRules) (m : ℕ) (t u : TableNumbers) → IsModeTable r m t → ((d : List Row) → IsTableFor t d → IsTableFor u d)
-    → (IsStorableTable t → IsStorableTable u) → ((count : ℕ) → IsWalkable t → AreRulesBelow t count → AreRulesBelow u count) → IsModeTable r m u
-another_table r m t u h right storable rules = record {
-  of_mode = record {
-    automaton = h.of_mode.automaton;
-    recognizes = h.of_mode.recognizes;
-    right = right h.of_mode.automaton h.of_mode.right;
-  };
-  storable = storable h.storable;
-  rules = rules (length r.names) (walkable t h.of_mode.automaton h.of_mode.right) h.rules;
-}
 
 -- ---- one table more
 

@@ -1,5 +1,5 @@
 -- The walk along the numbers of a table: what holds after each character.
-use Rattle.std.proofs.Common.{◌≡◌, ℕ, ◌+◌, ◌*◌, ◌/◌, ◌%◌, ◌-◌, ◌<◌, ◌≤◌, ⊎_elim, List, [], ◌∷◌, ◌++◌, length, take, drop, get_or, min, refl, sym, ap, subst, ◌∙◌, arith, length-append, length-drop}
+use Rattle.std.proofs.Common.{◌≡◌, ℕ, ◌+◌, ◌*◌, ◌/◌, ◌%◌, ◌-◌, ◌<◌, ◌≤◌, ⊎_elim, List, [], ◌∷◌, ◌++◌, length, take, drop, get_or, min, refl, sym, ap, subst, ◌∙◌, arith}
 use Rattle.std.specs.Prelude.{slice_get, Option, Some, None}
 use Rattle.std.specs.List.{All}
 use Rattle.std.specs.Char.{encode_utf8, IsScalar}
@@ -21,7 +21,7 @@ use Rattle.lalrpop_dfa.proofs.LongestLemmas.{IsLongestUpTo, longest_start, says_
 use Rattle.lalrpop_dense.specs.DenseTable.{TableNumbers, AreClasses, IsRowLike, IsTableFor, block_of_page, character_class, next_row, row_after}
 use Rattle.lalrpop_emit.specs.Internal.Characters.{IsCharacterAt}
 use Rattle.lalrpop_emit.specs.Internal.Walking.{IsWalkable, AreRulesBelow}
-use Rattle.lalrpop_emit.proofs.ByteCuts.{IsRead, read_start, read_more, word_after, goes_on, ends_there, no_longer, character_of_rest}
+use Rattle.lalrpop_emit.proofs.ByteCuts.{IsRead, read_start, read_more, word_after, goes_on, ends_there, no_longer}
 
 -- the first `at` bytes are whole characters, and lead from the start to the row
 pub record IsWalked (t : TableNumbers) (text : List ℕ) (at row : ℕ) : Type 0 where
@@ -170,12 +170,6 @@ pub walk_stops : (t : TableNumbers) (text : List ℕ) (at row : ℕ) (best : Opt
     → (ts : List Tree) (ps : List ℕ) → IsLongestUpTo ts ps text at best → IsLongest ts ps text best
 walk_stops t text at row best w none ts ps up = done ts ps text at best (λ p m. no_longer text at p w.read none m.0) up
 
--- the text ends
-pub walk_ends : (t : TableNumbers) (text : List ℕ) (at row : ℕ) (best : Option (ℕ × List ℕ)) → IsWalked t text at row → length text ≤ at
-    → (ts : List Tree) (ps : List ℕ) → IsLongestUpTo ts ps text at best → IsLongest ts ps text best
-walk_ends t text at row best w end ts ps up =
-    done ts ps text at best (λ p m. omega (arith, ap length m.0.1.0, length-append p m.0.0)) up
-
 -- ---- a step along the rest of a text from a start on
 
 pub record Step (t : TableNumbers) (text : List ℕ) (start at at2 row2 c : ℕ) : Type 0 where
@@ -184,21 +178,6 @@ pub record Step (t : TableNumbers) (text : List ℕ) (start at at2 row2 c : ℕ)
   pub walked : IsWalked t (drop start text) (at2 - start) row2
   pub further : at < at2
   pub within : at2 ≤ length text
-
-pub stepped : (t : TableNumbers) (text : List ℕ) (start at size row row2 class c : ℕ) → IsWalkable t → start ≤ at → at ≤ length text → IsWalked t (drop start text) (at - start) row
-    → IsCharacterAt text at c × (size ≡ length (encode_utf8 c)) → class ≡ character_class t c → row2 ≡ get_or t.cells (row + class) row2 → Step t text start at (at + size) row2 c
-stepped t text start at size row row2 class c h from within w read k e =
-    let here : IsCharacterAt (drop start text) (at - start) c = character_of_rest text start at (at - start) c (omega arith) read.0 in
-    let place : at + size - start ≡ (at - start) + length (encode_utf8 c) = omega (arith, read.1) in
-    let fits : at + length (encode_utf8 c) ≤ length text =
-    omega (arith, ap length read.0.split, length-append (encode_utf8 c) read.0.rest, length-drop at text) in
-    record {
-      here = here;
-      place = place;
-      walked = walked_more t (drop start text) (at - start) (at + size - start) row row2 c w here place (cell_read t (drop start text) (at - start) row class c row2 h w k e);
-      further = omega (arith, read.1, character_size c);
-      within = omega (arith, read.1);
-    }
 
 pub walked_first : (t : TableNumbers) (text : List ℕ) (n : ℕ) → n ≡ 0 → IsWalked t text n t.start
 walked_first t text n e = subst (λ (k : ℕ). IsWalked t text k t.start) (sym e) (walked_start t text)

@@ -1,6 +1,5 @@
 //! Cutting a text by a table that runs ahead: a block is run through at once, and then the ends of its tokens are read off.
-ghost use Rattle.std.specs.Prelude.{◌≡◌, ◌↔◌, ◌+◌, ◌-◌, ◌*◌, ◌/◌, ◌<◌, ◌≤◌, ◌^◌, ◌⊎◌, ℕ, List, length, take, drop, slice_index, IfSome, MatchOption};
-ghost use Rattle.std.specs.Int.{bit_at};
+ghost use Rattle.std.specs.Prelude.{◌≡◌, ◌+◌, ◌-◌, ◌*◌, ◌/◌, ◌<◌, ◌≤◌, ◌⊎◌, ℕ, List, length, take, drop, slice_index, IfSome, MatchOption};
 ghost use Rattle.lalrpop_dense.specs.DenseTable.{TableNumbers, AreClasses};
 ghost use Rattle.lalrpop_emit.specs.Ahead.{AheadNumbers, IsAheadOf};
 ghost use Rattle.lalrpop_emit.specs.Internal.Columns.{AreColumns};
@@ -12,6 +11,7 @@ ghost use Rattle.lalrpop_emit.specs.Internal.Running.{HasNoEnd, HasRoom, IsAtPla
 use crate::ahead_rows::fill;
 use crate::ahead_table::AheadLists as Ahead;
 use crate::driver::Match;
+use crate::lane_ends::ends_of;
 use crate::run::{AheadCell, MOST, Run};
 use crate::standing::NO_RULE;
 use crate::table_lists::TableLists as Table;
@@ -19,59 +19,7 @@ use crate::table_lists::TableLists as Table;
 // The least bytes of a block: a word for each of the six walks. Each block has a multiple of them.
 const LEAST: usize = 384;
 
-// Which of 64 rows are at or above this one: a byte for each, 1 where it is, else 0. They are compared with a cell of their own
-// size and the answers are kept apart, so that a processor can do many at once.
-fn flags_of(rows: &[AheadCell], least: AheadCell) -> [u8; 64]
-    requires { length rows.now ≡ 64 }
-    ensures flags { (k : ℕ) → k < 64 → slice_index result k ≤ 1 }
-    ensures are { (k : ℕ) → k < 64 → ((slice_index result k ≡ 1) ↔ (least ≤ slice_index rows.now k)) }
-{
-    let mut flags = [0; 64];
-    for (k, row) in rows.iter().enumerate() {
-        flags[k] = u8::from(*row >= least);
-    }
-    flags
-}
-
-// Eight flags as bits, the lowest for the first. The flag of the byte k is the bit 8 * k of a number, and the bit 56 - 7 * k of the
-// factor moves it to the bit 56 + k. No two bits of the product meet, so nothing is carried.
-fn eight_bits(flags: &[u8]) -> u64
-    requires eight { length flags.now ≡ 8 }
-    requires flags { (k : ℕ) → k < 8 → slice_index flags.now k ≤ 1 }
-    ensures small { result < 256 }
-    ensures bits { (k : ℕ) → k < 8 → bit_at result k ≡ slice_index flags.now k }
-{
-    let bytes = [
-        flags[0], flags[1], flags[2], flags[3], flags[4], flags[5], flags[6], flags[7],
-    ];
-    u64::from_le_bytes(bytes).wrapping_mul(0x0102_0408_1020_4080) >> 56
-}
-
-// 64 flags as bits, the lowest for the first.
-fn bits_of(flags: &[u8]) -> u64
-    requires long { length flags.now ≡ 64 }
-    requires flags { (k : ℕ) → k < 64 → slice_index flags.now k ≤ 1 }
-    ensures { (k : ℕ) → k < 64 → bit_at result k ≡ slice_index flags.now k }
-{
-    let mut bits = 0;
-    for k in 1..=8 {
-        bits = bits * 256 + eight_bits(&flags[64 - 8 * k..72 - 8 * k]);
-    }
-    bits
-}
-
-// Which of 64 rows are those of ends: a bit for each, the lowest for the first.
-fn ends_of(rows: &[AheadCell], least: usize) -> u64
-    requires { length rows.now ≡ 64 }
-    ensures { (k : ℕ) → k < 64 → ((bit_at result k ≡ 1) ↔ (least ≤ slice_index rows.now k)) }
-{
-    if least > AheadCell::MAX as usize {
-        return 0;
-    }
-    bits_of(&flags_of(rows, least as AheadCell))
-}
-
-// Writes a bit for each row: whether it is one of an end. Rows behind the last 64 have none.
+// Writes a bit for each row: whether it is one of an end. Rows after the last 64 have none.
 fn mark_ends(rows: &[AheadCell], least: usize, ends: &mut [u64])
     requires { length rows.now / 64 ≤ length ends.old }
     ensures { (w : ℕ) → w < length rows.now / 64 → IsWordOf least rows.now w (slice_index ends.new w) }
@@ -81,7 +29,7 @@ fn mark_ends(rows: &[AheadCell], least: usize, ends: &mut [u64])
     }
 }
 
-// Runs through `size` bytes of the text from the place on: their columns, and the rows behind them.
+// Runs through `size` bytes of the text from the place on: their columns, and the rows after them.
 fn run_through(
     ahead: &Ahead,
     table: &Table,
@@ -150,6 +98,7 @@ pub(crate) fn fill_block(
 }
 
 // The next end in the block. `None` if none is left.
+#[inline(always)]
 fn next_end(run: &mut Run) -> Option<usize>
     requires room { HasRoom run.old }
     requires place { HasNoEnd run.old ⊎ ((least : ℕ) × ((place : ℕ) × IsAtPlace least run.old place)) }
@@ -170,7 +119,8 @@ fn next_end(run: &mut Run) -> Option<usize>
     Some(run.word * 64 + run.bits.trailing_zeros() as usize)
 }
 
-// Goes on behind the token that ends next.
+// Goes on after the token that ends next.
+#[inline(always)]
 pub(crate) fn take(run: &mut Run)
     requires { (least : ℕ) × ((place : ℕ) × ((end : ℕ)
         × (IsAtPlace least run.old place × IsNextEnd least run.old place end))) }
@@ -182,8 +132,9 @@ pub(crate) fn take(run: &mut Run)
     run.bits &= run.bits - 1;
 }
 
-// The token that begins where the text goes on, if the block tells. It doesn't where that token is a fault, ends behind the
+// The token that begins where the text goes on, if the block tells. It doesn't where that token is a fault, ends after the
 // block, or ends before a longer one that then doesn't match.
+#[inline(always)]
 pub(crate) fn known(ahead: &Ahead, run: &mut Run) -> Option<Match>
     requires room { HasRoom run.old }
     requires serves { (t : TableNumbers) × ((text : List ℕ) × ((at : ℕ)

@@ -16,13 +16,14 @@ use crate::table_lists::TableLists as Table;
 // How many walks are done at once.
 const WALKS: usize = 6;
 
-// The row that the column leads to from the row.
-fn step(ahead: &Ahead, row: usize, column: u16) -> AheadCell
-    requires row { IsRowOf (ahead_numbers ahead.now) row }
-    requires column { column < ahead.now.width }
-    ensures { result ≡ slice_index ahead.now.cells.items (row + column) }
+// The row that the column leads to from the row. It is given the cells, not the lists, which would be read anew after each row
+// that is written.
+#[inline(always)]
+fn step(cells: &[AheadCell], row: usize, column: u16) -> AheadCell
+    requires { row + column < length cells.now }
+    ensures { result ≡ slice_index cells.now (row + column) }
 {
-    ahead.cells[row + column as usize]
+    cells[row + column as usize]
 }
 
 // Walks along each part of the columns from the start on. The walks don't wait for each other, so they are quick; but the walks
@@ -37,12 +38,13 @@ fn walk_parts(ahead: &Ahead, columns: &[u16], rows: &mut [AheadCell])
     ensures runs { (part : ℕ) → length columns.now ≡ 6 * part
         → AreRuns (ahead_numbers ahead.now) part columns.now rows.new }
 {
+    let cells: &[AheadCell] = &ahead.cells;
     let part = columns.len() / WALKS;
     let mut last = [ahead.start; WALKS];
     for k in 0..part {
         for walk in 0..WALKS {
             let place = walk * part + k;
-            let row = step(ahead, last[walk], columns[place]);
+            let row = step(cells, last[walk], columns[place]);
             last[walk] = row as usize;
             rows[place] = row;
         }
@@ -78,10 +80,11 @@ fn walk_on(ahead: &Ahead, columns: &[u16], from: usize, rows: &mut [AheadCell])
         → (k ≡ from) ⊎ IsStepAt (ahead_numbers ahead.now) columns.now rows.old k
         → IsStepAt (ahead_numbers ahead.now) columns.now rows.new k }
 {
+    let cells: &[AheadCell] = &ahead.cells;
     let mut row = rows[from - 1];
     let mut at = from;
     'walk: while at < columns.len() {
-        let next = step(ahead, row as usize, columns[at]);
+        let next = step(cells, row as usize, columns[at]);
         if rows[at] == next {
             return;
         }
@@ -91,7 +94,7 @@ fn walk_on(ahead: &Ahead, columns: &[u16], from: usize, rows: &mut [AheadCell])
         'same: while next == row
             && at < columns.len()
             && rows[at] != next
-            && step(ahead, next as usize, columns[at]) == next
+            && step(cells, next as usize, columns[at]) == next
         {
             rows[at] = next;
             at += 1;
@@ -117,7 +120,7 @@ fn join(ahead: &Ahead, columns: &[u16], rows: &mut [AheadCell])
 }
 
 /// The columns of the bytes of the text from a place on, and the rows that they lead to from the start, one after another: each
-/// stands for what is known behind its byte.
+/// stands for what is known after its byte.
 pub(crate) fn fill(
     ahead: &Ahead,
     table: &Table,

@@ -34,7 +34,8 @@ pub struct BytePosition {
 pub fn byte_position(text: &[u8], at: usize) -> BytePosition
     ensures position { result ≡ byte_position_of text.now (min at (length text.now)) }
     ensures text { IsUtf8 text.now → IsCharBoundary text.now at
-        → (result.line ≡ (position_of text.now at).line) × (result.column ≡ (position_of text.now at).column) }
+        → (result.line ≡ (position_of text.now at).line)
+        × (result.column ≡ (position_of text.now at).column) }
 {
     let mut position = BytePosition {
         at: 0,

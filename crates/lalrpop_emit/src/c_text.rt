@@ -36,8 +36,8 @@ typedef struct {
 } $_ahead;
 ";
 
-/// The code after the tables, with `$` where the prefix goes. `driver.rt`, `longest_match.rt`, `ahead_columns.rt`, `ahead_rows.rt`
-/// and `ahead_driver.rt` have the same functions in Rattle, line by line: change both or none.
+/// The code after the tables, with `$` where the prefix goes. `driver.rt`, `longest_match.rt`, `ahead_columns.rt`, `ahead_rows.rt`,
+/// `flag_ends.rt` and `ahead_driver.rt` have the same functions in Rattle, line by line: change both or none.
 pub(crate) const DRIVER: &str = "
 #ifdef __GNUC__
 #define $_inline static inline __attribute__((always_inline))

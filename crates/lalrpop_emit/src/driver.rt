@@ -3,13 +3,17 @@
 //! compare with C:
 //!
 //! - `text: &[u8]` stands for `text` and `length`, and `columns` and `rows` for these and `count`; `table` and `numbers` for static
-//!   tables; `state`, `below`, `run` and `memo` for `lexer`, which has the text, too, where it goes on and the mode.
+//!   tables; `cells` for `ahead`, which has them; `state`, `below`, `run` and `memo` for `lexer`, which has the text, too, where it
+//!   goes on and the mode.
 //! - `None` stands for a size of 0, an end of 0 or an answer of 0, and from `longest` and `found` for an end that is the start.
 //!   What is in a `Some` is what C returns or writes through a pointer.
 //! - A kind of `None` is `_fault`, and `fault` is `_fault_piece`. `Step::End` is 0, `Step::TooDeep` is -1, and a piece is 1.
-//! - Loops of a fixed length may be written out, or done by instructions for many numbers at once.
+//! - Loops of a fixed length may be written out, or done by instructions for many numbers at once. Attributes may differ: they
+//!   change only how quick a function is.
 //!
-//! The same holds of `longest_match.rt`, and of `ahead_columns.rt`, `ahead_rows.rt` and `ahead_driver.rt`, which cut a text in blocks.
+//! The same holds of `longest_match.rt`, and of `ahead_columns.rt`, `ahead_rows.rt`, `flag_ends.rt` and `ahead_driver.rt`, which cut
+//! a text in blocks. But here `ahead_driver.rt` calls `ends_of` of `lane_ends.rt`: stable Rust has no vectors, so an emitted lexer has
+//! that of `flag_ends.rt`, whose contract is the same.
 ghost use Rattle.std.specs.Prelude.{◌≡◌, [], None, IsFalse, ◌+◌, ◌-◌, ◌*◌, ◌/◌, ◌^◌, ◌<◌, ◌≤◌, ℕ, List, Some, length, take, drop, slice_get, IsTrue, IfSome, ◌↔◌, ◌⊎◌, MatchOption, min, max};
 ghost use Rattle.std.specs.Char.{encode_utf8, IsScalar};
 ghost use Rattle.std.specs.List.{All};
@@ -275,6 +279,7 @@ fn found(
 }
 
 // Whether the pieces of the rule have actions.
+#[inline(always)]
 fn has_actions(numbers: &Numbers, rule: usize) -> bool
     requires { rule < length numbers.now.kinds }
     ensures { IsFalse result → (r : ModeRules) → AreNumbersOf r numbers.now → actions_of r.actions rule ≡ [] }
@@ -284,6 +289,7 @@ fn has_actions(numbers: &Numbers, rule: usize) -> bool
 }
 
 // The token as a piece that begins at the start.
+#[inline(always)]
 fn token_piece(numbers: &Numbers, start: usize, token: Match) -> NumberedPiece
     requires rule { token.rule < length numbers.now.kinds }
     requires end { start ≤ token.end }
@@ -298,7 +304,7 @@ fn token_piece(numbers: &Numbers, start: usize, token: Match) -> NumberedPiece
     }
 }
 
-// The fault that begins where the text goes on, behind which it then goes on.
+// The fault that begins where the text goes on, after which it then goes on.
 fn fault(numbers: &Numbers, text: &[u8], state: &mut State, memo: &mut [u64]) -> NumberedPiece
     requires mode { state.old.mode < length numbers.now.tables }
     requires within { state.old.at < length text.now }
@@ -376,7 +382,8 @@ fn next_apart(
     Step::Piece(token_piece(numbers, start, token))
 }
 
-// The next piece, a token or a fault, behind which the text is cut on.
+// The next piece, a token or a fault, after which the text is cut on.
+#[inline(always)]
 pub(crate) fn next(
     numbers: &Numbers,
     text: &[u8],

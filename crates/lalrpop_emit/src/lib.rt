@@ -19,6 +19,8 @@ mod class_order;
 mod classes;
 mod driver;
 mod error;
+mod flag_ends;
+mod lane_ends;
 mod longest_match;
 mod made_table;
 mod naming;

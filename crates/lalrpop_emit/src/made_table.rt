@@ -103,7 +103,7 @@ fn all_pages(alloc: Global) -> Result<Vec<u32>, AllocError>
     Ok(pages)
 }
 
-// Whether the table that runs ahead isn't too large, if there are so many classes.
+// Whether the table that runs ahead isn't too large, where the characters have `width` classes.
 fn has_room(dfa: &Dfa, width: usize) -> bool
     requires narrow { width ≤ 255 }
     ensures room { MatchBool result ((4 * length dfa.now + 3) * (width + 131) ≤ 2 ^ 26)

@@ -1,9 +1,19 @@
-use Rattle.std.proofs.Common.{◌≡◌, ◌+◌, ◌*◌, ◌/◌, ◌<◌, ℕ, length, length-set, slice_index, ◌∙◌, sym, subst, arith}
+use Rattle.std.proofs.Common.{◌≡◌, ◌+◌, ◌*◌, ◌/◌, ◌<◌, ℕ, length, List, length-set, slice_index, ap, ◌∙◌, sym, subst, arith}
 use Rattle.std.proofs.lemmas.List.Elements.{All-get_or}
 use Rattle.lalrpop_emit.specs.Internal.AheadRows.{IsRowOf, AreRuns}
 use Rattle.lalrpop_emit.specs.Internal.Lists.{ahead_numbers}
 use Rattle.lalrpop_emit.proofs.AheadWalks.{parts_apart, walks_more, walked_rows, walked_runs}
 use Rattle.lalrpop_emit.proofs.ahead_rows.walk_parts.Goals as goal
+
+pub step-row-requires : goal.step-row-requires
+step-row-requires c =
+    let columns = c.args.columns.now in
+    let part = length columns / 6 in
+    let walk = c.loop-walk.walk in
+    let among : walk < 6 = omega (arith, c.loop-walk-test.true) in
+    let within : walk * part + c.loop-k.k < length columns = omega (arith, c.requires.parts.1, parts_apart part walk 6 among, c.loop-k-test.true) in
+    let below = All-get_or (λ column. column < c.args.ahead.now.width) columns (walk * part + c.loop-k.k) 0 within c.requires.columns in
+    omega (arith, (c.loop-walk.invariant.walked.left walk (omega arith) among).is_row.2, below, ap length c.deref-cells.ensures.value)
 
 pub loop-walk-preserved : goal.loop-walk-preserved
 loop-walk-preserved c =
@@ -18,12 +28,14 @@ loop-walk-preserved c =
     let within : place < length columns = omega (arith, c.requires.parts.1, parts_apart part walk 6 among, c.loop-k-test.true) in
     let below = All-get_or (λ column. column < a.width) columns place 0 within c.requires.columns in
     let next = c.step-row.result in
+    let from = slice_index c.loop-walk.last walk + slice_index columns place in
+    let is : next ≡ slice_index a.cells from = c.step-row.ensures ∙ ap (λ (cells : List ℕ). slice_index cells from) c.deref-cells.ensures.value in
     record {
       six = length-set c.loop-walk.last walk next ∙ c.loop-walk.invariant.six;
       walked =
           walks_more a columns c.loop-walk.rows part c.loop-k.k c.loop-walk.last walk next size c.loop-walk.invariant.six (omega (arith, c.loop-k-test.true)) among
-          (subst (IsRowOf a) (sym c.step-row.ensures) (c.requires.closed.leads (slice_index c.loop-walk.last walk) (slice_index columns place) (w.left walk (omega arith) among).is_row below))
-          c.step-row.ensures w;
+          (subst (IsRowOf a) (sym is) (c.requires.closed.leads (slice_index c.loop-walk.last walk) (slice_index columns place) (w.left walk (omega arith) among).is_row below))
+          is w;
     }
 
 pub returns-clause-rows : goal.returns-clause-rows
