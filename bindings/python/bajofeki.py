@@ -78,7 +78,7 @@ def _library():
 
 
 _LIBRARY = _library()
-_FULL, _TOO_DEEP = 2, 4
+_FULL, _TOO_DEEP, _OUT_OF_MEMORY = 2, 4, 7
 _ROOM = 4096
 _PIECES = struct.Struct("@INNN")
 
@@ -181,39 +181,32 @@ class Lexer:
     """
 
     def __init__(self, rules):
-        rules = rules.encode("utf-8", "surrogatepass") if isinstance(rules, str) else bytes(rules)
-        self._file = rules
-        self._room = _room(_LIBRARY.bajofeki_lexer_size())
-        _LIBRARY.bajofeki_build(self._room, rules, len(rules))
+        if hasattr(self, "_room"):
+            raise TypeError("a lexer is built once")
+        rules = rules.encode("utf-8", "surrogatepass") if isinstance(rules, str) else bytes(memoryview(rules))
+        room = _room(_LIBRARY.bajofeki_lexer_size())
+        _LIBRARY.bajofeki_build(room, rules, len(rules))
         # The finalizer keeps the room for as long as a lexer lies in it. At the end of the process a thread may still cut by it.
-        weakref.finalize(self, _LIBRARY.bajofeki_free, self._room).atexit = False
-        report = _LIBRARY.bajofeki_report(self._room)
+        weakref.finalize(self, _LIBRARY.bajofeki_free, room).atexit = False
+        report = _LIBRARY.bajofeki_report(room)
         if report.code:
-            raise _rules_error(report, self._word(), self._name)
-        numbers = range(_LIBRARY.bajofeki_rules(self._room))
-        self.rules = tuple(Rule(self._name(rule), _LIBRARY.bajofeki_skips(self._room, rule)) for rule in numbers)
+            raise _rules_error(report, _word(room), lambda rule: _name(room, rule))
+        numbers = range(_LIBRARY.bajofeki_rules(room))
+        self._file, self._room = rules, room
+        self.rules = tuple(Rule(_name(room, rule), _LIBRARY.bajofeki_skips(room, rule)) for rule in numbers)
 
     def __reduce__(self):
         # A copy, or one from a pickle, is built anew: a lexer stays in its room.
         return type(self), (self._file,)
 
-    def _word(self):
-        length = _LIBRARY.bajofeki_word(self._room, byref(c_uint32()), 0)
-        word = (c_uint32 * length)()
-        if length:
-            _LIBRARY.bajofeki_word(self._room, word, length)
-        return "".join(map(chr, word))
-
-    def _name(self, rule):
-        length = _LIBRARY.bajofeki_name(self._room, rule, b"", 0)
-        name = create_string_buffer(length)
-        _LIBRARY.bajofeki_name(self._room, rule, name, length)
-        return name.raw.decode()
-
     def items(self, text):
         """Cuts a str to its end, by its code in time linear in it: its Items, skipped tokens and faults too."""
-        data, names = text.encode("utf-8", "surrogatepass"), [rule.name for rule in self.rules]
-        start, line, column = 0, 1, 1
+        if not isinstance(text, str):
+            raise TypeError(f"a text is a str, not {type(text).__name__}")
+        return self._items(text.encode("utf-8", "surrogatepass"))
+
+    def _items(self, data):
+        names, start, line, column = [rule.name for rule in self.rules], 0, 1, 1
         for kind, rule, at, length in self._pieces(data):
             slice_ = data[at : at + length].decode("utf-8", "surrogatepass")
             end = start + len(slice_)
@@ -261,22 +254,40 @@ class Lexer:
 
     def _pieces(self, data):
         """The pieces of the bytes as tuples of Piece's fields, and the rest of a text that goes too deep as one of the kind 3."""
-        cutter, pieces = _room(_LIBRARY.bajofeki_cutter_size()), (Piece * min(_ROOM, len(data) or 1))()
-        view, code = memoryview(pieces).cast("B"), _LIBRARY.bajofeki_begin(self._room, cutter, len(data))
+        room, cutter, pieces = self._room, _room(_LIBRARY.bajofeki_cutter_size()), (Piece * min(_ROOM, len(data) or 1))()
+        view, code = memoryview(pieces).cast("B"), _LIBRARY.bajofeki_begin(room, cutter, len(data))
         try:
-            if code:
+            if code == _OUT_OF_MEMORY:
                 raise MemoryError("no memory for the cut of a text")
-            code = _FULL
+            code = code or _FULL
             while code == _FULL:
-                cut = _LIBRARY.bajofeki_cut(self._room, cutter, data, len(data), pieces, len(pieces))
+                cut = _LIBRARY.bajofeki_cut(room, cutter, data, len(data), pieces, len(pieces))
                 yield from _PIECES.iter_unpack(view[: cut.count * _PIECES.size])
                 code = cut.code
             if code == _TOO_DEEP:
                 yield 3, 0, cut.end, len(data) - cut.end
+            elif code:
+                # In a cycle with a `__del__` that goes on with the items, Python may free the lexer first.
+                raise RuntimeError("the lexer was freed before the text was cut to its end")
         finally:
             _LIBRARY.bajofeki_end(cutter)
 
 
 def _room(size):
-    """Room of so many bytes, at a multiple of 8."""
+    """Room of this many bytes, at a multiple of 8."""
     return (c_uint64 * ((size + 7) // 8))()
+
+
+def _word(room):
+    length = _LIBRARY.bajofeki_word(room, byref(c_uint32()), 0)
+    word = (c_uint32 * length)()
+    if length:
+        _LIBRARY.bajofeki_word(room, word, length)
+    return "".join(map(chr, word))
+
+
+def _name(room, rule):
+    length = _LIBRARY.bajofeki_name(room, rule, b"", 0)
+    name = create_string_buffer(length)
+    _LIBRARY.bajofeki_name(room, rule, name, length)
+    return name.raw.decode()
