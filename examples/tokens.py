@@ -20,10 +20,10 @@ from pathlib import Path
 # Where `re` would silently read a bracket in another way, as in [[:alpha:]] or [a-z&&b], it warns. Make that an error.
 warnings.simplefilter("error", FutureWarning)
 
-ESCAPES = {'"': '\\"', "\\": "\\\\", "\n": "\\n", "\r": "\\r", "\t": "\\t", "\0": "\\0"}
+ESCAPES = {'"': '\\"', "\\": "\\\\", "\n": "\\n", "\r": "\\r", "\t": "\\t"}
 
-# Characters that aren't seen: control characters, the separators of lines and paragraphs, and those of Default_Ignorable_Code_Point, which
-# `re` doesn't have: soft hyphens, joiners, fillers, marks of direction, tags and variation selectors.
+# Characters that aren't seen: control characters, the separators of lines and paragraphs, those of Default_Ignorable_Code_Point, which `re`
+# doesn't have: soft hyphens, joiners, fillers, marks of direction, tags and variation selectors; and those that Unicode hasn't assigned.
 UNSEEN = re.compile(
     "[\x00-\x1f\x7f-\x9f\u2028\u2029"
     "\xad\u034f\u061c\u115f\u1160\u17b4\u17b5\u180b-\u180f\u200b-\u200f\u202a-\u202e\u2060-\u206f\u3164\ufe00-\ufe0f\ufeff\uffa0\ufff0-\ufff8"
@@ -168,7 +168,8 @@ def cut(rules, modes, text):
 
 def quoted(token):
     def shown(c):
-        return ESCAPES.get(c) or (f"\\u{{{ord(c):x}}}" if UNSEEN.match(c) else c)
+        is_unseen = UNSEEN.match(c) or unicodedata.category(c) == "Cn"
+        return ESCAPES.get(c) or (f"\\u{{{ord(c):x}}}" if is_unseen else c)
 
     return '"' + "".join(map(shown, token)) + '"'
 

@@ -35,11 +35,11 @@ static file read_file(const char *path) {
 }
 
 static void write_quoted(const char *bytes, size_t length) {
-    static const char escaped[] = "\"\\\n\r\t", letters[] = "\"\\nrt0";
+    static const char escaped[] = "\"\\\n\r\t", letters[] = "\"\\nrt";
     putchar('"');
     for (size_t i = 0; i < length; i++) {
         unsigned char c = (unsigned char)bytes[i];
-        const char *escape = memchr(escaped, c, sizeof escaped);
+        const char *escape = memchr(escaped, c, sizeof escaped - 1);
         if (escape != NULL) {
             printf("\\%c", letters[escape - escaped]);
         } else {

@@ -4,7 +4,7 @@ from pathlib import Path
 
 from bajofeki import Kind, Lexer, RulesError, RulesErrorKind
 
-ESCAPES = {'"': '\\"', "\\": "\\\\", "\n": "\\n", "\r": "\\r", "\t": "\\t", "\0": "\\0"}
+ESCAPES = {'"': '\\"', "\\": "\\\\", "\n": "\\n", "\r": "\\r", "\t": "\\t"}
 STATUSES = {RulesErrorKind.BAD_LINE: 3, RulesErrorKind.NOT_PARSED: 3, RulesErrorKind.BAD_END: 3, RulesErrorKind.OUT_OF_MEMORY: 5}
 
 

@@ -15,7 +15,6 @@ fn quoted(text: &str) -> String {
             '\n' => all.push_str("\\n"),
             '\r' => all.push_str("\\r"),
             '\t' => all.push_str("\\t"),
-            '\0' => all.push_str("\\0"),
             c if c.is_ascii_control() => all.push_str(&format!("\\u{{{:x}}}", c as u32)),
             c => all.push(c),
         }

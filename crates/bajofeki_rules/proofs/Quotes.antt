@@ -19,7 +19,7 @@ use Rattle.bajofeki_rules.proofs.Unseen.{seen_in_ascii}
 
 -- the character whose escape has this letter
 abbrev escaped_by : ℕ → ℕ
-escaped_by letter = if letter == 110 then 10 else (if letter == 114 then 13 else (if letter == 116 then 9 else (if letter == 48 then 0 else letter)))
+escaped_by letter = if letter == 110 then 10 else (if letter == 114 then 13 else (if letter == 116 then 9 else letter))
 
 abbrev numbered : ℕ → List ℕ
 numbered c = codes "\\u{" ++ (digits 16 false c ++ codes "}")
@@ -38,14 +38,14 @@ IsForm c text = IsShort c text ⊎ ((text ≡ numbered c) ⊎ IsItself c text)
 abbrev Tells : ℕ → ℕ → Type 0
 Tells c x = ((nat_eq c x ≡ true) × (c ≡ x)) ⊎ ((nat_eq c x ≡ false) × (c ≢ x))
 
-unescaped : (c : ℕ) → nat_eq c 34 ≡ false → nat_eq c 92 ≡ false → nat_eq c 10 ≡ false → nat_eq c 13 ≡ false → nat_eq c 9 ≡ false → nat_eq c 0 ≡ false
+unescaped : (c : ℕ) → nat_eq c 34 ≡ false → nat_eq c 92 ≡ false → nat_eq c 10 ≡ false → nat_eq c 13 ≡ false → nat_eq c 9 ≡ false
     → told c ≡ (if is_unseen c then numbered c else encode_utf8 c)
-unescaped c quote backslash lf cr tab null = rw (quote, backslash, lf, cr, tab, null) refl
+unescaped c quote backslash lf cr tab = rw (quote, backslash, lf, cr, tab) refl
 
 -- a character that is seen, and is neither a quote nor a backslash, is written as it is
 pub told_plain : (c : ℕ) → c ≢ 34 → c ≢ 92 → is_unseen c ≡ false → told c ≡ encode_utf8 c
 told_plain c quote backslash seen =
-    unescaped c (ne_eqb c 34 quote) (ne_eqb c 92 backslash) (differs 10 refl) (differs 13 refl) (differs 9 refl) (differs 0 refl)
+    unescaped c (ne_eqb c 34 quote) (ne_eqb c 92 backslash) (differs 10 refl) (differs 13 refl) (differs 9 refl)
     ∙ ap (λ (t : Bool). if t then numbered c else encode_utf8 c) seen
   where
     differs : (x : ℕ) → is_unseen x ≡ true → nat_eq c x ≡ false
@@ -55,7 +55,7 @@ short : (x letter : ℕ) → told x ≡ 92 ∷ letter ∷ [] → escaped_by lett
 short x letter text back low high = inl (letter, (text, (back, (low, high))))
 
 form_of : (c : ℕ) → IsForm c (told c)
-form_of c = by (eqb_tells c 34) (eqb_tells c 92) (eqb_tells c 10) (eqb_tells c 13) (eqb_tells c 9) (eqb_tells c 0)
+form_of c = by (eqb_tells c 34) (eqb_tells c 92) (eqb_tells c 10) (eqb_tells c 13) (eqb_tells c 9)
   where
     at : (x letter : ℕ) → told x ≡ 92 ∷ letter ∷ [] → escaped_by letter ≡ x → 32 ≤ letter → letter < 117 → c ≡ x → IsForm c (told c)
     at x letter text back low high is = subst (λ (d : ℕ). IsForm d (told d)) (sym is) (short x letter text back low high)
@@ -64,14 +64,13 @@ form_of c = by (eqb_tells c 34) (eqb_tells c 92) (eqb_tells c 10) (eqb_tells c 1
     unseen true is text quote backslash = inr (inl (text ∙ ap (λ (t : Bool). if t then numbered c else encode_utf8 c) is))
     unseen false is text quote backslash = inr (inr (text ∙ ap (λ (t : Bool). if t then numbered c else encode_utf8 c) is, (quote, (backslash, is))))
 
-    by : Tells c 34 → Tells c 92 → Tells c 10 → Tells c 13 → Tells c 9 → Tells c 0 → IsForm c (told c)
-    by (inl is) b l r t n = at 34 34 refl refl (omega arith) (omega arith) is.1
-    by (inr q) (inl is) l r t n = at 92 92 refl refl (omega arith) (omega arith) is.1
-    by (inr q) (inr b) (inl is) r t n = at 10 110 refl refl (omega arith) (omega arith) is.1
-    by (inr q) (inr b) (inr l) (inl is) t n = at 13 114 refl refl (omega arith) (omega arith) is.1
-    by (inr q) (inr b) (inr l) (inr r) (inl is) n = at 9 116 refl refl (omega arith) (omega arith) is.1
-    by (inr q) (inr b) (inr l) (inr r) (inr t) (inl is) = at 0 48 refl refl (omega arith) (omega arith) is.1
-    by (inr q) (inr b) (inr l) (inr r) (inr t) (inr n) = unseen (is_unseen c) refl (unescaped c q.0 b.0 l.0 r.0 t.0 n.0) q.1 b.1
+    by : Tells c 34 → Tells c 92 → Tells c 10 → Tells c 13 → Tells c 9 → IsForm c (told c)
+    by (inl is) b l r t = at 34 34 refl refl (omega arith) (omega arith) is.1
+    by (inr q) (inl is) l r t = at 92 92 refl refl (omega arith) (omega arith) is.1
+    by (inr q) (inr b) (inl is) r t = at 10 110 refl refl (omega arith) (omega arith) is.1
+    by (inr q) (inr b) (inr l) (inl is) t = at 13 114 refl refl (omega arith) (omega arith) is.1
+    by (inr q) (inr b) (inr l) (inr r) (inl is) = at 9 116 refl refl (omega arith) (omega arith) is.1
+    by (inr q) (inr b) (inr l) (inr r) (inr t) = unseen (is_unseen c) refl (unescaped c q.0 b.0 l.0 r.0 t.0) q.1 b.1
 
 -- ---- reading one back
 

@@ -6,7 +6,7 @@ ghost use Rattle.bajofeki_rules.specs.Quoted.{is_unseen, short_escape, told, quo
 use crate::runs::{LANES, plain_run};
 use std::alloc::{AllocError, Global};
 use std::fmt::{self, Display, Formatter, Write};
-use unicode::properties::is_default_ignorable_code_point;
+use unicode::properties::{GeneralCategory, is_default_ignorable_code_point};
 
 // The escape of a character, if it has a short one.
 fn short_escape(c: char) -> Option<&'static str>
@@ -18,13 +18,12 @@ fn short_escape(c: char) -> Option<&'static str>
         '\n' => Some("\\n"),
         '\r' => Some("\\r"),
         '\t' => Some("\\t"),
-        '\0' => Some("\\0"),
         _ => None,
     }
 }
 
-/// Whether the character isn't seen: a control character, a separator of lines or paragraphs, or one that Unicode lets be shown as
-/// nothing, such as a soft hyphen, a joiner, a mark of direction, a tag or a variation selector.
+/// Whether the character isn't seen: a control character, a separator of lines or paragraphs, one that Unicode lets be shown as
+/// nothing, such as a soft hyphen, a joiner, a mark of direction, a tag or a variation selector, or one that it hasn't assigned.
 pub fn is_unseen(c: char) -> bool
     ensures { result ≡ is_unseen c }
 {
@@ -32,7 +31,10 @@ pub fn is_unseen(c: char) -> bool
     if c.is_ascii() {
         return c.is_control();
     }
-    c.is_control() || matches!(c, '\u{2028}' | '\u{2029}') || is_default_ignorable_code_point(c)
+    c.is_control()
+        || matches!(c, '\u{2028}' | '\u{2029}')
+        || is_default_ignorable_code_point(c)
+        || GeneralCategory::for_char(c) == GeneralCategory::Unassigned
 }
 
 pub fn push_escaped_char(text: &mut String, c: char) -> Result<(), AllocError>

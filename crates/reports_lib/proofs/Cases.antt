@@ -7,4 +7,6 @@ mod Reasons
 mod ReviewJson
 mod ReviewLines
 mod RuleClashes
+mod Safe
+mod ShownLine
 mod Warned

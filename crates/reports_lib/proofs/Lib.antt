@@ -10,3 +10,10 @@ pub mod ClashLineLaws
 pub mod ReviewLaws
 -- two files that are compared
 pub mod ComparedLaws
+-- what is safe to show
+pub mod LineLaws
+pub mod SafeLaws
+pub mod SafeMessages
+pub mod SafeReviews
+pub mod SafePieces
+pub mod SafeNames

@@ -92,11 +92,6 @@ piece_line form recovers file names mode text (Fault start slice) = fault_line r
 abbrev pub mode_named : List (List ℕ) → ℕ → Option (List ℕ)
 mode_named modes m = then_some (nat_lt 1 (length modes)) (name_at modes m)
 
--- the same by a layout
-abbrev pub item_line : Layout → List (List ℕ) → List ℕ → ℕ → Item → List ℕ
-item_line layout names text m x =
-    piece_line layout.form layout.recovers (option_map (λ f. f.now) layout.file) names (mode_named (map string_bytes layout.modes.now) m) text x
-
 -- ---- the lines of a text
 
 -- the lines of pieces, from this stack of modes on: each is read in the mode on top

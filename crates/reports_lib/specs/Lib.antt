@@ -7,6 +7,8 @@ pub mod ReportedFile
 pub mod ReviewJson
 pub mod ReviewLines
 pub mod RuleClashes
+pub mod Safe
+pub mod ShownLine
 pub mod Warned
 -- what serves the proofs alone
 pub mod Internal

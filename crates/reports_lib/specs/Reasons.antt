@@ -1,6 +1,6 @@
 -- cases: proofs/Cases/Reasons.antt
 -- What is said of a bad line, and of rules that make no lexer.
-use Rattle.std.specs.Prelude.{◌≡◌, ℕ, ◌+◌, List, [], ◌∷◌, ◌++◌, length, take, decimal, slice_get, option_map, unwrap_or, Option, Some, None, codes}
+use Rattle.std.specs.Prelude.{◌≡◌, ℕ, ◌+◌, ◌-◌, List, [], ◌∷◌, ◌++◌, length, take, decimal, slice_get, option_map, unwrap_or, Option, Some, None, codes}
 use Rattle.std.specs.Str.{IsCharBoundary, chars}
 use Rattle.lalrpop_hir.specs.declared.error.NfaConstructionError.{NfaConstructionError}
 use Rattle.lalrpop_hir.specs.declared.error.NfaConstructionError.TheVariants.{NamedCaptures, NonGreedy, LookAround, ByteRegex, OutOfMemory}
@@ -20,6 +20,7 @@ use Rattle.lalrpop_rule_file.specs.declared.error.RuleFileError.{RuleFileError}
 use Rattle.lalrpop_rule_file.specs.declared.error.RuleFileError.TheVariants as file_errors
 use Rattle.bajofeki_rules.specs.Quoted.{quoted_word}
 use Rattle.reports_lib.specs.ItemLines.{mode_named, name_at}
+use Rattle.reports_lib.specs.ShownLine.{numbered, pointed, signs_at}
 
 -- ---- in words
 
@@ -67,9 +68,10 @@ clash_advice (c ∷ word) = codes "Give the one that should win a greater preced
 
 -- ---- messages
 
--- about a place: its line and column, a reason, and what is shown
-abbrev pub placed : ℕ → ℕ → List ℕ → List ℕ → List ℕ
-placed line column reason shown = decimal line ++ (codes ":" ++ (decimal column ++ (codes ": " ++ (reason ++ (codes "\n" ++ shown)))))
+-- about a place in these lines: its line and column, a reason, and below it the line with a caret
+abbrev pub placed : List (List ℕ) → ℕ → ℕ → List ℕ → List ℕ
+placed ls line column reason =
+    decimal line ++ (codes ":" ++ (decimal column ++ (codes ": " ++ (reason ++ (codes "\n" ++ pointed (signs_at ls line) (column - 1))))))
 
 -- about a clash: the later line with what it has, the earlier one, where, the word, what is shown, and the advice
 abbrev pub clash_text : ℕ → List ℕ → ℕ → List ℕ → List ℕ → List ℕ → List ℕ → List ℕ → List ℕ
@@ -79,13 +81,13 @@ clash_text later later_name earlier earlier_name where_said word shown advice =
 
 -- ---- rules
 
--- what is said of a bad line
-abbrev pub SaysBadLine : RuleFileError → List ℕ → Type 0
-SaysBadLine (file_errors.BadLine line column fault) said = (shown : List ℕ) × (said ≡ placed line column (reason_of fault) shown)
-SaysBadLine (file_errors.BadPart line column kind) said = (shown : List ℕ) × (said ≡ placed line column (syntax_text kind) shown)
-SaysBadLine (file_errors.RepeatedPart line column) said = (shown : List ℕ) × (said ≡ placed line column (codes "a part above has this name") shown)
-SaysBadLine (file_errors.NoSuchMode line column) said = (shown : List ℕ) × (said ≡ placed line column (codes "no section names this mode") shown)
-SaysBadLine file_errors.OutOfMemory said = ⊥
+-- what is said of a bad line of these
+abbrev pub SaysBadLine : List (List ℕ) → RuleFileError → List ℕ → Type 0
+SaysBadLine ls (file_errors.BadLine line column fault) said = said ≡ placed ls line column (reason_of fault)
+SaysBadLine ls (file_errors.BadPart line column kind) said = said ≡ placed ls line column (syntax_text kind)
+SaysBadLine ls (file_errors.RepeatedPart line column) said = said ≡ placed ls line column (codes "a part above has this name")
+SaysBadLine ls (file_errors.NoSuchMode line column) said = said ≡ placed ls line column (codes "no section names this mode")
+SaysBadLine ls file_errors.OutOfMemory said = ⊥
 
 -- what of a text is parsed: a literal with escapes, or a pattern
 abbrev pub parsed_text : RuleText → List ℕ
@@ -106,18 +108,18 @@ abbrev pub mode_said : Option (List ℕ) → List ℕ
 mode_said None = []
 mode_said (Some mode) = codes " in mode " ++ mode
 
--- what is said of rules of modes with these names, whose texts begin at these places: where a text that can't be used begins, or doesn't parse; of a clash, both
--- names and lines, and the mode, if there are several
-abbrev pub SaysRules : List (List ℕ) → List Rule → List Position → RulesError → List ℕ → Type 0
-SaysRules modes rs places (modes_errors.NotParsed i position kind) said =
-    (shown : List ℕ) × (said ≡ placed (place_at places i).line ((place_at places i).column + length (chars (take position (text_at rs i)))) (syntax_text kind) shown)
-SaysRules modes rs places (modes_errors.BadEnd i error) said = (shown : List ℕ) × (said ≡ placed (place_at places i).line (place_at places i).column (bad_end_text error) shown)
-SaysRules modes rs places (modes_errors.NotCompiled i error) said = (shown : List ℕ) × (said ≡ placed (place_at places i).line (place_at places i).column (refusal_text error) shown)
-SaysRules modes rs places (modes_errors.Clash m i j word) said =
-    (shown : List ℕ) × (said ≡ clash_text (place_at places i).line (name_at (names_of rs) i) (place_at places j).line (name_at (names_of rs) j)
-    (mode_said (mode_named modes m)) (quoted_word word.items) shown (clash_advice word.items))
-SaysRules modes rs places (modes_errors.NoSuchMode i m) said = ⊥
-SaysRules modes rs places modes_errors.OutOfMemory said = ⊥
+-- what is said of rules in these lines, of modes with these names, whose texts begin at these places: where a text that can't be used begins, or
+-- doesn't parse; of a clash, both names and lines, and the mode, if there are several
+abbrev pub SaysRules : List (List ℕ) → List (List ℕ) → List Rule → List Position → RulesError → List ℕ → Type 0
+SaysRules ls modes rs places (modes_errors.NotParsed i position kind) said =
+    said ≡ placed ls (place_at places i).line ((place_at places i).column + length (chars (take position (text_at rs i)))) (syntax_text kind)
+SaysRules ls modes rs places (modes_errors.BadEnd i error) said = said ≡ placed ls (place_at places i).line (place_at places i).column (bad_end_text error)
+SaysRules ls modes rs places (modes_errors.NotCompiled i error) said = said ≡ placed ls (place_at places i).line (place_at places i).column (refusal_text error)
+SaysRules ls modes rs places (modes_errors.Clash m i j word) said =
+    said ≡ clash_text (place_at places i).line (name_at (names_of rs) i) (place_at places j).line (name_at (names_of rs) j) (mode_said (mode_named modes m))
+    (quoted_word word.items) (numbered ls (place_at places j).line ++ numbered ls (place_at places i).line) (clash_advice word.items)
+SaysRules ls modes rs places (modes_errors.NoSuchMode i m) said = ⊥
+SaysRules ls modes rs places modes_errors.OutOfMemory said = ⊥
 
 -- an error that rules of a file can have: they name only modes that are there, and a pattern that doesn't parse stops where a character
 -- begins, or at its end

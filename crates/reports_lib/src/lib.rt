@@ -17,6 +17,7 @@ mod review_json;
 mod review_lines;
 mod rule_explain;
 mod shown;
+mod shown_line;
 mod warnings;
 
 pub use compared::difference_reply;

@@ -1,6 +1,8 @@
 //! What the program says of files of rules that give no lexer, for programs of one's own.
 ghost use Rattle.std.specs.Prelude.{◌≡◌, ℕ, List, map, string_bytes, IfOk};
+ghost use Rattle.bajofeki_rules.specs.Lines.{lines};
 ghost use Rattle.lalrpop_rules.specs.ModeSet.{rules_of};
+ghost use Rattle.lalrpop_rule_file.specs.RuleFile.{without_mark as without_mark_of};
 ghost use Rattle.reports_lib.specs.Answer.{about, headed};
 ghost use Rattle.reports_lib.specs.Reasons.{CanBeSaid, SaysBadLine, SaysRules};
 
@@ -55,7 +57,8 @@ pub fn bad_line_message(
     error: &RuleFileError,
 ) -> Result<String, AllocError>
     ensures message { IfOk result (λ message. (said : List ℕ)
-        × (SaysBadLine error.now said × (string_bytes message ≡ headed name.now said))) }
+        × (SaysBadLine (lines (without_mark_of bytes.now)) error.now said
+        × (string_bytes message ≡ headed name.now said))) }
 {
     let said = bad_line_explained(alloc, without_mark(bytes), error)?;
     headed(alloc, name, said.as_str())
@@ -89,8 +92,9 @@ pub fn rules_message(
 ) -> Result<String, AllocError>
     ensures message { IfOk result (λ message.
         CanBeSaid (rules_of file.now.rules.items) error.now → (said : List ℕ)
-        × (SaysRules (map (λ m. m.now) file.now.modes.items) (rules_of file.now.rules.items)
-        file.now.places.items error.now said × (string_bytes message ≡ headed name.now said))) }
+        × (SaysRules (lines (without_mark_of bytes.now)) (map (λ m. m.now) file.now.modes.items)
+        (rules_of file.now.rules.items) file.now.places.items error.now said
+        × (string_bytes message ≡ headed name.now said))) }
 {
     if !can_be_said(file, error) {
         return about(alloc, name, "this error isn't one of these rules");

@@ -1,15 +1,16 @@
 //! What is wrong with a pattern, in words for people, and the place in its line.
-ghost use Rattle.std.specs.Prelude.{◌≡◌, ◌++◌, ℕ, List, chars, length, string_bytes, take, IfOk, OnOk};
+ghost use Rattle.std.specs.Prelude.{◌≡◌, chars, length, string_bytes, take, IfOk};
 ghost use Rattle.std.specs.Str.{IsCharBoundary};
+ghost use Rattle.bajofeki_rules.specs.Lines.{lines};
 ghost use Rattle.bajofeki_rules.specs.Quoted.{quoted_word};
 ghost use Rattle.reports_lib.specs.Reasons.{bad_end_text, clash_advice, placed, refusal_text, syntax_text};
 
+use crate::shown_line::pointed;
+use lalrpop_lexer::ShownWord;
 use lalrpop_lexer::lexer::nfa::NfaConstructionError;
 use lalrpop_lexer::lexer::re::SyntaxKind;
-use lalrpop_lexer::{ShownWord, is_unseen};
 use lalrpop_re::FromToError;
 use std::alloc::{AllocError, Global};
-use unicode_width::UnicodeWidthChar;
 
 /// Why a pattern doesn't parse.
 pub(crate) fn syntax_text(kind: SyntaxKind) -> &'static str
@@ -62,44 +63,6 @@ pub(crate) fn characters_before(text: &str, byte: usize) -> usize
     text[..byte].chars().count()
 }
 
-// The most characters of a line that are shown.
-const MOST_SHOWN: usize = 160;
-
-// At least this many of them stand before the place, if the line has them.
-const BEFORE: usize = 100;
-
-// A sign in the place of each character that isn't seen, so that it can't steer a terminal.
-fn seen(c: char) -> char {
-    if c != '\t' && is_unseen(c) {
-        '\u{fffd}'
-    } else {
-        c
-    }
-}
-
-// The line as it can be shown, from its character `first` on; dots in the place of what is left out.
-fn shown_from(alloc: Global, line: &str, first: usize) -> Result<String, AllocError> {
-    let mut shown = String::new(alloc);
-    if first > 0 {
-        shown.push('…')?;
-    }
-    let mut left = MOST_SHOWN;
-    for c in line.chars().skip(first) {
-        if left == 0 {
-            shown.push('…')?;
-            return Ok(shown);
-        }
-        shown.push(seen(c))?;
-        left = left.saturating_sub(1);
-    }
-    Ok(shown)
-}
-
-// The line as it can be shown: with signs for characters that aren't seen, and of a long line the beginning.
-fn line_shown(alloc: Global, line: &str) -> Result<String, AllocError> {
-    shown_from(alloc, line, 0)
-}
-
 /// How to resolve a clash on this word.
 pub(crate) fn clash_advice(word: &[u32]) -> &'static str
     ensures text { result.now ≡ clash_advice word.now }
@@ -111,31 +74,6 @@ pub(crate) fn clash_advice(word: &[u32]) -> &'static str
     }
 }
 
-// The first character of a long line that is shown, so that the one at this place, from 0, is.
-fn first_shown(line: &str, place: usize) -> usize {
-    if line.chars().count() <= MOST_SHOWN {
-        return 0;
-    }
-    place.saturating_sub(BEFORE)
-}
-
-// Blanks as wide as the first characters of the line.
-fn push_blanks(text: &mut String, line: &str, count: usize) -> Result<(), AllocError>
-    ensures { OnOk result ((blanks : List ℕ)
-        × (string_bytes text.new ≡ string_bytes text.old ++ blanks)) }
-{
-    for c in line.chars().take(count) {
-        let blanks = match (c, c.width()) {
-            ('\t', _) => "\t",
-            (_, Some(0)) => "",
-            (_, Some(2)) => "  ",
-            _ => " ",
-        };
-        text.push_str(blanks)?;
-    }
-    Ok(())
-}
-
 /// The place and the reason, and the line with a caret under the place. Lines and columns count from 1, columns in characters.
 /// Of a long line only what surrounds the place is shown. The file's name stands before it.
 ///
@@ -144,23 +82,16 @@ fn push_blanks(text: &mut String, line: &str, count: usize) -> Result<(), AllocE
 /// `AllocError` if a request for memory was refused.
 pub(crate) fn place_explained(
     alloc: Global,
+    bytes: &[u8],
     number: usize,
-    line: &str,
     column: usize,
     reason: &str,
 ) -> Result<String, AllocError>
-    ensures placed { IfOk result (λ message. (shown : List ℕ)
-        × (string_bytes message ≡ placed number column reason.now shown)) }
+    ensures placed { IfOk result (λ message.
+        string_bytes message ≡ placed (lines bytes.now) number column reason.now) }
 {
-    let place = column.saturating_sub(1);
-    let first = first_shown(line, place);
-    let shown = shown_from(alloc, line, first)?;
-    let dots = usize::from(first > 0);
-    let before = place.saturating_sub(first).saturating_add(dots);
-    let mut message = format!(in alloc; "{number}:{column}: {reason}\n    {shown}\n    ")?;
-    push_blanks(&mut message, &shown, before)?;
-    message.push_str("^\n")?;
-    Ok(message)
+    let below = pointed(alloc, bytes, number, column)?;
+    format!(in alloc; "{number}:{column}: {reason}\n{below}")
 }
 
 /// Why the end of a text from one word to another is wrong.
@@ -172,23 +103,6 @@ pub(crate) fn bad_end_text(error: FromToError) -> &'static str
         FromToError::LongEnd => "the text after `to` has more than 64 characters",
         FromToError::OutOfMemory => "out of memory",
     }
-}
-
-/// Both lines of a clash with their numbers, from 1, the earlier first.
-///
-/// # Errors
-///
-/// `AllocError` if a request for memory was refused.
-pub(crate) fn both_lines(
-    alloc: Global,
-    earlier: (usize, &str),
-    later: (usize, &str),
-) -> Result<String, AllocError> {
-    let first = line_shown(alloc, earlier.1)?;
-    let second = line_shown(alloc, later.1)?;
-    let earlier = earlier.0;
-    let later = later.0;
-    format!(in alloc; "    {earlier}: {first}\n    {later}: {second}\n")
 }
 
 /// The word in quotes.

@@ -58,7 +58,8 @@ impl Reply {
     ///
     /// `AllocError` if a request for memory was refused.
     pub fn after(self, status: u8, said: String) -> Result<Reply, AllocError>
-        ensures followed { IfOk result (λ reply. reply ≡ followed (refusal status (string_bytes said)) self) }
+        ensures followed { IfOk result (λ reply.
+            reply ≡ followed (refusal status (string_bytes said)) self) }
     {
         let Reply {
             status: own,

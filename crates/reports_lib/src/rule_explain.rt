@@ -1,34 +1,26 @@
 //! Why a file of rules gives no lexer, in words for people.
-ghost use Rattle.std.specs.Prelude.{◌≡◌, ◌+◌, ◌≤◌, ℕ, List, false, true, map, option_map, string_bytes, IfOk};
+ghost use Rattle.std.specs.Prelude.{◌≡◌, ◌+◌, ◌++◌, false, true, map, option_map, string_bytes, IfOk};
+ghost use Rattle.bajofeki_rules.specs.Lines.{lines};
 ghost use Rattle.lalrpop_rules.specs.ModeSet.{rules_of};
 ghost use Rattle.lalrpop_rules.specs.RuleSet.{names_of};
 ghost use Rattle.bajofeki_rules.specs.Quoted.{quoted_word};
 ghost use Rattle.lalrpop_rule_file.specs.RuleFault.{reason_of};
 ghost use Rattle.reports_lib.specs.ItemLines.{mode_named as mode_named_of, name_at};
+ghost use Rattle.reports_lib.specs.ShownLine.{numbered};
 ghost use Rattle.reports_lib.specs.Reasons.{CanBeSaid, SaysBadLine, SaysRules, clash_advice, clash_text, mode_said, parsed_text as what_is_parsed, place_at, placed, syntax_text, text_at};
 
 use crate::mode_file::ModeFile;
 use crate::named_clashes::{mode_named, name_of};
 use crate::reasons::{
-    bad_end_text, both_lines, characters_before, clash_advice, place_explained, quoted_word,
-    refusal_text, syntax_text,
+    bad_end_text, characters_before, clash_advice, place_explained, quoted_word, refusal_text,
+    syntax_text,
 };
+use crate::shown_line::numbered;
 use lalrpop_lexer::Position;
 use lalrpop_lexer::lexer::re::SyntaxKind;
 use lalrpop_rule_file::{LineFault, RuleFileError};
 use lalrpop_rules::{ModeRule, RuleText, RulesError};
 use std::alloc::{AllocError, Global};
-
-// The text of the line with this number, from 1, without its end; nothing if it isn't UTF-8.
-fn line_at(bytes: &[u8], number: usize) -> &str {
-    let line = bytes
-        .split(|byte| *byte == b'\n')
-        .nth(number.saturating_sub(1));
-    match str::from_utf8(line.unwrap_or(&[])) {
-        Ok(text) => text.strip_suffix('\r').unwrap_or(text),
-        Err(_) => "",
-    }
-}
 
 // Where the text of the rule with this index begins.
 fn place_of(file: &ModeFile<'_>, rule: usize) -> Position
@@ -61,7 +53,7 @@ fn text_of<'text>(rules: &[ModeRule<'text>], index: usize) -> &'text str
     }
 }
 
-// Where and why the pattern of a rule doesn't parse: `inside` characters behind the place where its text begins.
+// Where and why the pattern of a rule doesn't parse: `inside` characters after the place where its text begins.
 fn syntax_explained(
     alloc: Global,
     bytes: &[u8],
@@ -69,15 +61,14 @@ fn syntax_explained(
     inside: usize,
     kind: SyntaxKind,
 ) -> Result<String, AllocError>
-    ensures said { IfOk result (λ message. (shown : List ℕ) × (string_bytes message
-        ≡ placed place.line (place.column + inside) (syntax_text kind) shown)) }
+    ensures said { IfOk result (λ message. string_bytes message
+        ≡ placed (lines bytes.now) place.line (place.column + inside) (syntax_text kind)) }
 {
-    let line = line_at(bytes, place.line);
     // No file is so long that this overflows.
     let Some(column) = place.column.checked_add(inside) else {
         return Err(AllocError);
     };
-    place_explained(alloc, place.line, line, column, syntax_text(kind))
+    place_explained(alloc, bytes, place.line, column, syntax_text(kind))
 }
 
 // What is wrong with the text that begins at the place.
@@ -87,11 +78,10 @@ fn text_explained(
     place: Position,
     reason: &str,
 ) -> Result<String, AllocError>
-    ensures said { IfOk result (λ message. (shown : List ℕ)
-        × (string_bytes message ≡ placed place.line place.column reason.now shown)) }
+    ensures said { IfOk result (λ message.
+        string_bytes message ≡ placed (lines bytes.now) place.line place.column reason.now) }
 {
-    let line = line_at(bytes, place.line);
-    place_explained(alloc, place.line, line, place.column, reason)
+    place_explained(alloc, bytes, place.line, place.column, reason)
 }
 
 // In which mode rules clash, if there are several modes.
@@ -103,6 +93,21 @@ fn mode_shown(alloc: Global, mode: Option<&str>) -> Result<String, AllocError>
         Some(name) => format!(in alloc; " in mode {name}"),
         None => Ok(String::new(alloc)),
     }
+}
+
+// Both lines with their numbers, the earlier first.
+fn both_lines(
+    alloc: Global,
+    bytes: &[u8],
+    earlier: usize,
+    later: usize,
+) -> Result<String, AllocError>
+    ensures { IfOk result (λ text. string_bytes text
+        ≡ numbered (lines bytes.now) earlier ++ numbered (lines bytes.now) later) }
+{
+    let mut text = numbered(alloc, bytes, earlier)?;
+    text.push_str(&numbered(alloc, bytes, later)?)?;
+    Ok(text)
 }
 
 // The message about a clash: the number of the later line with its rule's name, those of the earlier one, in which mode, the
@@ -137,13 +142,16 @@ fn clash_explained(
     rules: (usize, usize),
     word: &[u32],
 ) -> Result<String, AllocError>
-    ensures said { IfOk result (λ message. (shown : List ℕ) × (string_bytes message ≡ clash_text
+    ensures said { IfOk result (λ message. string_bytes message ≡ clash_text
         (place_at file.now.places.items rules.1).line
         (name_at (names_of (rules_of file.now.rules.items)) rules.1)
         (place_at file.now.places.items rules.0).line
         (name_at (names_of (rules_of file.now.rules.items)) rules.0)
         (mode_said (mode_named_of (map (λ m. m.now) file.now.modes.items) mode))
-        (quoted_word word.now) shown (clash_advice word.now))) }
+        (quoted_word word.now)
+        (numbered (lines bytes.now) (place_at file.now.places.items rules.0).line
+        ++ numbered (lines bytes.now) (place_at file.now.places.items rules.1).line)
+        (clash_advice word.now)) }
 {
     let (other, rule) = rules;
     let earlier = place_of(file, other).line;
@@ -153,11 +161,7 @@ fn clash_explained(
     let advice = clash_advice(word);
     let quoted = quoted_word(alloc, word)?;
     let mode = mode_shown(alloc, mode_named(&file.modes, mode))?;
-    let lines = both_lines(
-        alloc,
-        (earlier, line_at(bytes, earlier)),
-        (later, line_at(bytes, later)),
-    )?;
+    let lines = both_lines(alloc, bytes, earlier, later)?;
     clash_told(
         alloc,
         (later, later_name),
@@ -196,8 +200,8 @@ pub fn rules_explained(
 ) -> Result<String, AllocError>
     requires error { CanBeSaid (rules_of file.now.rules.items) error.now }
     ensures said { IfOk result (λ message.
-        SaysRules (map (λ m. m.now) file.now.modes.items) (rules_of file.now.rules.items)
-        file.now.places.items error.now (string_bytes message)) }
+        SaysRules (lines bytes.now) (map (λ m. m.now) file.now.modes.items)
+        (rules_of file.now.rules.items) file.now.places.items error.now (string_bytes message)) }
 {
     match error {
         // A file names the modes that it has.
@@ -233,16 +237,11 @@ fn fault_explained(
     place: (usize, usize),
     fault: LineFault,
 ) -> Result<String, AllocError>
-    ensures said { IfOk result (λ message. (shown : List ℕ) × (string_bytes message
-        ≡ placed place.0 place.1 (reason_of fault) shown)) }
+    ensures said { IfOk result (λ message. string_bytes message
+        ≡ placed (lines bytes.now) place.0 place.1 (reason_of fault)) }
 {
-    let (line, column) = place;
-    if fault == LineFault::NotUtf8 {
-        return format!(in alloc; "{line}:{column}: {fault}\n");
-    }
-    let shown = line_at(bytes, line);
     let reason = format!(in alloc; "{fault}")?;
-    place_explained(alloc, line, shown, column, reason.as_str())
+    place_explained(alloc, bytes, place.0, place.1, reason.as_str())
 }
 
 /// What is wrong with the first bad line of a file of rules without its byte order mark, to stand after the file's name: the
@@ -256,7 +255,8 @@ pub fn bad_line_explained(
     bytes: &[u8],
     error: &RuleFileError,
 ) -> Result<String, AllocError>
-    ensures said { IfOk result (λ message. SaysBadLine error.now (string_bytes message)) }
+    ensures said { IfOk result (λ message.
+        SaysBadLine (lines bytes.now) error.now (string_bytes message)) }
 {
     match error {
         RuleFileError::BadLine {
@@ -266,15 +266,13 @@ pub fn bad_line_explained(
         } => fault_explained(alloc, bytes, (*line, *column), *fault),
         RuleFileError::BadPart { line, column, kind } => {
             let reason = syntax_text(*kind);
-            place_explained(alloc, *line, line_at(bytes, *line), *column, reason)
+            place_explained(alloc, bytes, *line, *column, reason)
         }
         RuleFileError::RepeatedPart { line, column } => {
-            let shown = line_at(bytes, *line);
-            place_explained(alloc, *line, shown, *column, "a part above has this name")
+            place_explained(alloc, bytes, *line, *column, "a part above has this name")
         }
         RuleFileError::NoSuchMode { line, column } => {
-            let shown = line_at(bytes, *line);
-            place_explained(alloc, *line, shown, *column, "no section names this mode")
+            place_explained(alloc, bytes, *line, *column, "no section names this mode")
         }
         RuleFileError::OutOfMemory => Err(AllocError),
     }

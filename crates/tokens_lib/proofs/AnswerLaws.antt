@@ -10,7 +10,7 @@ use Rattle.lexdfa_lib.specs.declared.error.RunError.{RunError}
 use Rattle.lexdfa_lib.specs.declared.error.RunError.TheVariants.{OutOfMemory}
 use Rattle.reports_lib.specs.Answer.{Answer, silence, followed, remark}
 use Rattle.tokens_lib.proofs.StreamLaws.{breaks_later, takes_again, takes_part}
-use Rattle.tokens_lib.specs.Streams.{Stream, Console, Works, Breaks, Takes, TakesPart, IsTold, IsToldBy, IsToldPart, Writes, WritesPart, Says, Gives, Answers, Begins, Fails}
+use Rattle.tokens_lib.specs.Streams.{Stream, Console, Breaks, Takes, TakesPart, IsTold, IsToldBy, IsToldPart, WritesPart, Says, Gives, Answers, Begins, Fails}
 
 -- ---- answers
 
@@ -36,14 +36,7 @@ silence-followed a = same_answer (followed silence a) a (omega arith) refl refl
 pub Takes-nothing : (a : Stream) → Takes a [] a
 Takes-nothing a = (refl, Appends-none a.bytes)
 
--- a prefix of the first bytes is one of all
-pub TakesPart-first : (a b : Stream) (xs ys : List ℕ) (e : RunError) → TakesPart a xs e b → TakesPart a (xs ++ ys) e b
-TakesPart-first a b xs ys e (cause, part) = (cause, AppendsPrefix-behind a.bytes a.bytes b.bytes [] xs ys (Appends-none a.bytes) part)
-
 -- ---- what is said
-
-flag : (a b : Stream) → Works a b → a.is_broken ≡ b.is_broken
-flag a b w = sym (ap (λ (s : Stream). s.is_broken) w)
 
 told_by : (f g : Bool) (a b : Stream) (xs : List ℕ) → a.is_broken ≡ f → b.is_broken ≡ g → IsToldBy f g a xs b → IsTold a xs b
 told_by f g a b xs before after told =
@@ -113,9 +106,6 @@ told_part_first a b xs ys (n, le, part) =
 abbrev pub Then : Answer → (Answer → Type 0) → Answer → Type 0
 Then first Is answer = (own : Answer) × (Is own × (answer ≡ followed first own))
 
-pub Gives-nothing : (c : Console) → Gives c silence c
-Gives-nothing c = record { out = Takes-nothing c.out; err = told_nothing c.err }
-
 pub Gives-again : (a b c : Console) (x y : Answer) → Gives a x b → Gives b y c → Gives a (followed x y) c
 Gives-again a b c x y g h = record {
   out = takes_again a.out b.out c.out x.out y.out g.out h.out;
@@ -126,11 +116,6 @@ Gives-again a b c x y g h = record {
 pub Gives-said : (a b : Console) (said : List ℕ) → Says a said b → Gives a (remark said) b
 Gives-said a b said (told, same) =
     record { out = subst (λ (s : Stream). Takes a.out [] s) (sym same) (Takes-nothing a.out); err = told }
-
--- what is written is one
-pub Gives-written : (a b : Console) (bytes : List ℕ) → Writes a bytes b → Gives a (record { status = 0; out = bytes; err = [] }) b
-Gives-written a b bytes (takes, same) =
-    record { out = takes; err = subst (λ (s : Stream). IsTold a.err [] s) (sym same) (told_nothing a.err) }
 
 pub Answers-weaker : (P Q : Answer → Type 0) (a b : Console) (status : ℕ) → ((x : Answer) → P x → Q x) → Answers P a status b → Answers Q a status b
 Answers-weaker P Q a b status then (x, (is, given)) = (x, (then x is, given))
@@ -164,10 +149,6 @@ pub Fails-first : (P : Answer → Type 0) (a b : Console) (first : Answer) (e : 
 Fails-first P a b first e (x, (inl none, parts)) = (x, (inl none, parts))
 Fails-first P a b first e (x, (inr is, parts)) = (x, (inr (silence, (inl refl, is ∙ sym (followed-silence first))), parts))
 
-pub Fails-begins : (P : Answer → Type 0) (a b : Console) (e : RunError) → Fails (Begins P) a e b → Fails P a e b
-Fails-begins P a b e (x, (inl none, parts)) = (x, (inl none, parts))
-Fails-begins P a b e (x, (inr begins, parts)) = (x, (begins, parts))
-
 -- a part of what was to be said
 pub Fails-said : (a b : Console) (said : List ℕ) (e : RunError) → (e ≡ OutOfMemory) × IsToldPart a.err said b.err → b.out ≡ a.out → Fails (λ x. x ≡ remark said) a e b
 Fails-said a b said e (memory, part) same = (
@@ -191,20 +172,6 @@ Fails-written a b c x e (told, same) (part, quiet) = (
     (
       subst (λ (s : Stream). TakesPart s x.out e c.out) same part,
       subst (λ (s : Stream). IsToldPart a.err x.err s) (sym quiet) (told_whole a.err b.err x.err told),
-    ),
-  ),
-)
-
--- of an answer that says what was to be said first, a part
-pub Fails-saying : (a b : Console) (x : Answer) (e : RunError) → Fails (λ y. y ≡ remark x.err) a e b → Fails (λ y. y ≡ x) a e b
-Fails-saying a b x e (y, (inl none, parts)) = (y, (inl none, parts))
-Fails-saying a b x e (y, (inr is, (out, err))) = (
-  x,
-  (
-    inr refl,
-    (
-      TakesPart-first a.out b.out [] x.out e (subst (λ (l : List ℕ). TakesPart a.out l e b.out) (ap (λ (z : Answer). z.out) is) out),
-      subst (λ (l : List ℕ). IsToldPart a.err l b.err) (ap (λ (z : Answer). z.err) is) err,
     ),
   ),
 )

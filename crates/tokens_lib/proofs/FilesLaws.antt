@@ -1,24 +1,16 @@
 -- The answer for files, one after another.
-use Rattle.std.proofs.Common.{◌≡◌, ◌≢◌, ℕ, ◌+◌, ◌<◌, get_or, Bool, true, false, inl, inr, List, [], ◌∷◌, ◌++◌, length, take, drop, map, refl, sym, ap, subst, ◌∙◌, arith}
+use Rattle.std.proofs.Common.{◌≡◌, ◌≢◌, ℕ, ◌+◌, ◌<◌, get_or, Bool, false, inl, inr, List, [], ◌∷◌, ◌++◌, length, take, drop, map, refl, sym, ap, subst, ◌∙◌, arith}
 use Rattle.std.specs.Prelude.{max, codes, if◌then◌else◌, Option}
 use Rattle.std.proofs.lemmas.List.{take_more, map-append, length-map, length-take-le, take-append-drop, drop_more}
 use Rattle.reports_lib.specs.Answer.{Answer, silence, followed, refusal, about}
 use Rattle.tokens_lib.specs.FileAnswers.{is_input, FileGives, ReadingAnswer, FileAnswer, NumberedAnswer, NumberedPart, FilesAnswer, FirstFilesAnswer, cut_files, TextsAnswer, FirstTextsAnswer}
 use Rattle.tokens_lib.specs.Progress.{total_said}
-use Rattle.tokens_lib.specs.Streams.{Reading, NotOpened, Reads, Stream, Console, Answers, Begins}
+use Rattle.tokens_lib.specs.Streams.{Reading, NotOpened, Stream, Console, Answers, Begins}
 use Rattle.tokens_lib.specs.Internal.Tasks.{EitherAnswer, ReadAnswer}
 use Rattle.tokens_lib.specs.declared.command.Verbosity.{Verbosity}
 use Rattle.tokens_lib.proofs.AnswerLaws.{Then, followed-assoc, followed-silence, silence-followed, Gives-again}
 
 -- ---- a FILE
-
--- what is read of it, where it is standard input
-pub from_input : (GivesFile : List ℕ → Reading → Type 0) (IsFor : List ℕ → Reading → Answer → Type 0) (i j : Stream) (file : List ℕ) (answer : Answer)
-    → is_input file ≡ true → ReadAnswer (Reads i j) (IsFor (codes "<stdin>")) answer → FileAnswer GivesFile IsFor i j file answer
-from_input GivesFile IsFor i j file answer is (reading, (gives, done)) = (
-  reading,
-  subst (λ (b : Bool). FileGives GivesFile i j b file reading × IsFor (if b then codes "<stdin>" else file) reading answer) (sym is) (gives, done),
-)
 
 -- where it is read by its name
 pub from_file : (GivesFile : List ℕ → Reading → Type 0) (IsFor : List ℕ → Reading → Answer → Type 0) (i : Stream) (file : List ℕ) (answer : Answer)
@@ -28,21 +20,7 @@ from_file GivesFile IsFor i file answer is (reading, (gives, done)) = (
   subst (λ (b : Bool). FileGives GivesFile i i b file reading × IsFor (if b then codes "<stdin>" else file) reading answer) (sym is) ((refl, gives), done),
 )
 
--- what was read of an open file has the same answer
-pub opened_answer : (Here Gives_it : Reading → Type 0) (IsFor : List ℕ → Reading → Answer → Type 0) (file : List ℕ) (answer : Answer) → ((reading : Reading) → Here reading → Gives_it reading)
-    → ReadAnswer Here (IsFor file) answer → ReadAnswer Gives_it (ReadingAnswer IsFor file) answer
-opened_answer Here Gives_it IsFor file answer opens (reading, (here, is)) = (reading, (opens reading here, inr is))
-
-pub opened_part : (Here Gives_it : Reading → Type 0) (IsFor PartFor : List ℕ → Reading → Answer → Type 0) (file : List ℕ) (answer : Answer) → ((reading : Reading) → Here reading → Gives_it reading)
-    → ReadAnswer Here (EitherAnswer IsFor PartFor file) answer → ReadAnswer Gives_it (EitherAnswer (ReadingAnswer IsFor) PartFor file) answer
-opened_part Here Gives_it IsFor PartFor file answer opens (reading, (here, inl is)) = (reading, (opens reading here, inl (inr is)))
-opened_part Here Gives_it IsFor PartFor file answer opens (reading, (here, inr part)) = (reading, (opens reading here, inr part))
-
 -- it wasn't opened
-pub unopened : (Gives_it : Reading → Type 0) (IsFor : List ℕ → Reading → Answer → Type 0) (file reason : List ℕ) (answer : Answer) → Gives_it (record { bytes = []; end = NotOpened reason })
-    → answer ≡ refusal 6 (about file reason) → ReadAnswer Gives_it (ReadingAnswer IsFor file) answer
-unopened Gives_it IsFor file reason answer gives is = (record { bytes = []; end = NotOpened reason }, (gives, inl (reason, (refl, is))))
-
 pub unopened_part : (Gives_it : Reading → Type 0) (IsFor PartFor : List ℕ → Reading → Answer → Type 0) (file reason : List ℕ) (answer : Answer)
     → Gives_it (record { bytes = []; end = NotOpened reason }) → answer ≡ refusal 6 (about file reason) → ReadAnswer Gives_it (EitherAnswer (ReadingAnswer IsFor) PartFor file) answer
 unopened_part Gives_it IsFor PartFor file reason answer gives is = (record { bytes = []; end = NotOpened reason }, (gives, inl (inl (reason, (refl, is)))))

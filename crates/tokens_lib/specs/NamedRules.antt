@@ -56,11 +56,11 @@ abbrev pub WarnedAnswer : (List ℕ → Answer) → Verbosity → (Answer → Ty
 WarnedAnswer told verbosity Is file ls answer =
     (said : List ℕ) × (Warned verbosity file ls said × ((own : Answer) × (Is own × (answer ≡ followed (told said) own))))
 
--- the bytes have a bad line; or their lines are rules with this answer, behind the answer for the warnings about them
+-- the bytes have a bad line; or their lines are rules with this answer, after the answer for the warnings about them
 abbrev pub RulesTold : (List ℕ → Answer) → Verbosity → (List ℕ → List (List ℕ) → List (List ℕ) → List ModeRule → Answer → Type 0) → List ℕ → List ℕ → Answer → Type 0
 RulesTold told verbosity IsFor file bytes answer =
     ((error : RuleFileError) × (IsRuleFileError (without_mark bytes) error
-    × ((said : List ℕ) × (SaysBadLine error said × (answer ≡ refusal 3 (headed file said))))))
+    × ((said : List ℕ) × (SaysBadLine (lines (without_mark bytes)) error said × (answer ≡ refusal 3 (headed file said))))))
     ⊎ WarnedAnswer told verbosity (LinesAnswer IsFor file (lines (without_mark bytes))) file (lines (without_mark bytes)) answer
 
 -- where a warning is a remark: nothing is wrong
@@ -71,7 +71,7 @@ RulesOf verbosity IsFor file bytes answer = RulesTold remark verbosity IsFor fil
 abbrev pub ErrorAnswer : List ℕ → List (List ℕ) → List (List ℕ) → List ModeRule → RulesError → Answer → Type 0
 ErrorAnswer file ls modes rs error answer =
     (places : List Position) × (StandAt ls rs places
-    × ((said : List ℕ) × (SaysRules modes (rules_of rs) places error said × (answer ≡ refusal (rules_status error) (headed file said)))))
+    × ((said : List ℕ) × (SaysRules ls modes (rules_of rs) places error said × (answer ≡ refusal (rules_status error) (headed file said)))))
 
 -- a rule has no tree or can't be compiled, which is said; no clash is meant
 abbrev pub FaultAnswer : List ℕ → List (List ℕ) → List (List ℕ) → List ModeRule → Answer → Type 0

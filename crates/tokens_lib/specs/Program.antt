@@ -1,11 +1,12 @@
 -- cases: proofs/Cases/Program.antt
 -- The answer of the whole program, for its arguments, what the files give and what standard input gives.
-use Rattle.std.specs.Prelude.{◌≡◌, ℕ, ◌⊎◌, nat_lt, List, [], length, map, slice_get, unwrap_or, codes}
+use Rattle.std.specs.Prelude.{◌≡◌, ℕ, ◌⊎◌, nat_lt, Bool, true, false, List, [], length, map, slice_get, unwrap_or, Result, Ok, Err, codes}
 use Rattle.lalrpop_rules.specs.Modes.{ModeRules}
+use Rattle.lexdfa_lib.specs.Ending.{ending_status}
 use Rattle.lexdfa_lib.specs.declared.ending.Failure.{Failure}
 use Rattle.lexdfa_lib.specs.declared.ending.Failure.TheVariants.{Usage, Run as Failing}
 use Rattle.lexdfa_lib.specs.declared.error.RunError.TheVariants as run_errors
-use Rattle.reports_lib.specs.Answer.{Answer, refusal, remark, followed}
+use Rattle.reports_lib.specs.Answer.{Answer, silence, refusal, remark, followed}
 use Rattle.reports_lib.specs.Compared.{DifferenceAnswer}
 use Rattle.tokens_lib.specs.FileAnswers.{BytesAnswer, TextsAnswer, FirstTextsAnswer}
 use Rattle.tokens_lib.specs.Arguments.{joined, options, names}
@@ -93,3 +94,11 @@ failure_text Usage = codes "tokens: an argument isn't UTF-8\n"
 failure_text (Failing run_errors.OutOfMemory) = codes "tokens: out of memory\n"
 failure_text (Failing run_errors.Read) = codes "tokens: read failed\n"
 failure_text (Failing run_errors.Write) = codes "tokens: write failed\n"
+
+-- the exit status at the end, and what is said there: nothing if the reader of standard output has gone away; why the run failed, or that a write
+-- did, which a failed flush is; or nothing after a run that gave an answer with this status
+abbrev pub ending : {T E : Type 0} → Bool → Result T E → Result ℕ Failure → Answer
+ending true flush found = silence
+ending false flush (Err failure) = refusal (ending_status (Err failure)) (failure_text failure)
+ending false (Ok done) (Ok status) = refusal status []
+ending false (Err error) (Ok status) = refusal 6 (failure_text (Failing run_errors.Write))

@@ -23,7 +23,7 @@ use reports_lib::{
 };
 use std::alloc::{AllocError, Global};
 
-// The status of a line that is no rule, and of a text that has no tree.
+// The status of a bad line, and of a rule's text that doesn't parse.
 const BAD_LINE: u8 = 3;
 
 /// The status of rules that can't be compiled or clash.
@@ -51,7 +51,8 @@ pub(crate) fn line_refused(
     error: &RuleFileError,
 ) -> Result<Reply, AllocError>
     ensures answer { IfOk result (λ reply. (said : List ℕ)
-        × (SaysBadLine error.now said × (reply ≡ refusal 3 (headed name.now said)))) }
+        × (SaysBadLine (lines bytes.now) error.now said
+        × (reply ≡ refusal 3 (headed name.now said)))) }
 {
     let said = bad_line_explained(alloc, bytes, error)?;
     let message = headed(alloc, name, said.as_str())?;
@@ -78,8 +79,8 @@ pub(crate) fn rules_refused(
 ) -> Result<Reply, AllocError>
     requires error { CanBeSaid (rules_of file.now.rules.items) error.now }
     ensures answer { IfOk result (λ reply. (said : List ℕ)
-        × (SaysRules (map (λ m. m.now) file.now.modes.items) (rules_of file.now.rules.items)
-        file.now.places.items error.now said
+        × (SaysRules (lines bytes.now) (map (λ m. m.now) file.now.modes.items)
+        (rules_of file.now.rules.items) file.now.places.items error.now said
         × (reply ≡ refusal (rules_status error.now) (headed name.now said)))) }
 {
     let said = rules_explained(alloc, bytes, file, error)?;
@@ -118,8 +119,8 @@ fn lexer_of_rules(
     bytes: &[u8],
     file: &RuleFile<'_>,
 ) -> Result<Result<FileLexer, Reply>, AllocError>
-    requires rules { AreRules (lines (without_mark_of bytes.now)) (map (λ m. m.now) file.now.modes.items)
-        file.now.rules.items }
+    requires rules { AreRules (lines (without_mark_of bytes.now))
+        (map (λ m. m.now) file.now.modes.items) file.now.rules.items }
     requires parts { AreFileParts (lines (without_mark_of bytes.now)) file.now.parts.items }
     requires places { ArePlaces (lines (without_mark_of bytes.now)) file.now.rules.items }
     requires some { 0 < length file.now.modes.items }

@@ -48,7 +48,7 @@ fn error_reason(error: &EmitError) -> &'static str
     }
 }
 
-// The source file of a lexer in numbers.
+// The source file of the lexer that these numbers describe.
 fn file_of(
     alloc: Global,
     numbers: &LexerNumbers,
@@ -87,7 +87,7 @@ fn refused(alloc: Global, name: &str, error: &EmitError) -> Result<Reply, AllocE
     Ok(Reply::refusal(alloc, REFUSED, message))
 }
 
-// What is answered where the lexer of the rules with this name is wanted as a source file.
+// The answer to a request for the lexer of the file with this name as a source file.
 fn source_reply(
     alloc: Global,
     name: &str,
@@ -102,7 +102,7 @@ fn source_reply(
     }
 }
 
-/// What is answered where the lexer of a file of rules is wanted as a source file.
+/// The answer to a request for the lexer of a file of rules as a source file.
 ///
 /// # Errors
 ///

@@ -1,4 +1,9 @@
 //! Standard output, whose reader may go away.
+ghost use Rattle.std.specs.Prelude.{◌≡◌, ◌⊎◌, ◌↔◌, true, false};
+ghost use Rattle.std.specs.Io.{WritesAtMost};
+ghost use Rattle.std.specs.Io.KnownBytes.{Keeps, WriteAppends};
+ghost use Rattle.std.specs.IoError.{error_kind};
+ghost use Rattle.std.specs.Result.{IsErrAnd};
 
 use std::io::{self, ErrorKind, Write};
 
@@ -11,7 +16,9 @@ pub(crate) struct Output<W> {
 
 impl<W: Write> Output<W> {
     /// Wraps a writer, whose reader is there.
-    pub(crate) fn new(inner: W) -> Output<W> {
+    pub(crate) fn new(inner: W) -> Output<W>
+        ensures { result ≡ record { inner = inner; is_closed = false } }
+    {
         Output {
             inner,
             is_closed: false,
@@ -19,11 +26,17 @@ impl<W: Write> Output<W> {
     }
 
     /// Whether a call has found that the reader has gone away.
-    pub(crate) fn is_closed(&self) -> bool {
+    pub(crate) fn is_closed(&self) -> bool
+        ensures { result ≡ self.now.is_closed }
+    {
         self.is_closed
     }
 
-    fn note(&mut self, kind: ErrorKind) {
+    fn note(&mut self, kind: ErrorKind)
+        ensures inner { self.new.inner ≡ self.old.inner }
+        ensures closed { (self.new.is_closed ≡ true)
+            ↔ ((self.old.is_closed ≡ true) ⊎ (kind ≡ ErrorKind.BrokenPipe)) }
+    {
         if kind == ErrorKind::BrokenPipe {
             self.is_closed = true;
         }
@@ -31,7 +44,15 @@ impl<W: Write> Output<W> {
 }
 
 impl<W: Write> Write for Output<W> {
-    fn write(&mut self, buf: &[u8]) -> io::Result<usize> {
+    ghost contents = { λ o. W.contents o.inner };
+
+    fn write(&mut self, buf: &[u8]) -> io::Result<usize>
+        ensures bound { WritesAtMost result buf.now }
+        ensures bytes { WriteAppends (W.contents self.old.inner) (W.contents self.new.inner)
+            result buf.now }
+        ensures closed { (self.new.is_closed ≡ true) ↔ ((self.old.is_closed ≡ true)
+            ⊎ IsErrAnd result (λ e. error_kind e ≡ ErrorKind.BrokenPipe)) }
+    {
         let result = self.inner.write(buf);
         if let Err(error) = &result {
             self.note(error.kind());
@@ -39,7 +60,11 @@ impl<W: Write> Write for Output<W> {
         result
     }
 
-    fn flush(&mut self) -> io::Result<()> {
+    fn flush(&mut self) -> io::Result<()>
+        ensures bytes { Keeps (W.contents self.old.inner) (W.contents self.new.inner) }
+        ensures closed { (self.new.is_closed ≡ true) ↔ ((self.old.is_closed ≡ true)
+            ⊎ IsErrAnd result (λ e. error_kind e ≡ ErrorKind.BrokenPipe)) }
+    {
         let result = self.inner.flush();
         if let Err(error) = &result {
             self.note(error.kind());

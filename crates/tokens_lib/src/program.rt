@@ -1,10 +1,11 @@
 //! The program `tokens`: its arguments, what it says if it fails, and its exit status.
-ghost use Rattle.std.specs.Prelude.{◌≡◌, ◌≢◌, ◌≤◌, map, length, nat_lt, string_bytes, IfOk, OnOk, IfErr};
+ghost use Rattle.std.specs.Prelude.{◌≡◌, ◌≢◌, ◌≤◌, map, length, nat_lt, string_bytes, Err, IfOk, OnOk, IfErr};
 ghost use Rattle.std.specs.Process.{exit_status};
+ghost use Rattle.lexdfa_lib.specs.Ending.{ending_status};
 ghost use Rattle.reports_lib.specs.Answer.{refusal};
 ghost use Rattle.tokens_lib.specs.FileAnswers.{TextsAnswer, FirstTextsAnswer};
-ghost use Rattle.tokens_lib.specs.Program.{ActionAnswer, ByLexer, CommandAnswer, IsAnswer, IsFirstAnswer, failure_text, information};
-ghost use Rattle.tokens_lib.specs.Streams.{Answers, Begins, Fails, GivesWhole};
+ghost use Rattle.tokens_lib.specs.Program.{ActionAnswer, ByLexer, CommandAnswer, IsAnswer, IsFirstAnswer, ending, failure_text, information};
+ghost use Rattle.tokens_lib.specs.Streams.{Answers, Begins, Fails, GivesWhole, IsTold};
 ghost use Rattle.tokens_lib.specs.TextAnswer.{PiecesAnswer, PiecesPart, PageAnswer, PagePart};
 ghost use Rattle.tokens_lib.specs.Usage.{help, version, wrong_text};
 
@@ -22,7 +23,7 @@ use crate::listing::{Listing, list_rules};
 use crate::output::Output;
 use crate::pictured::draw;
 use crate::progress::reading_message;
-use crate::streams::{Reader, Sink, Source, System};
+use crate::streams::{Reader, Sink, Source, System, Writer};
 use crate::usage::{help, version, wrong_text};
 use lexdfa_lib::{Failure, RunError, flushed, status_of, without_arguments};
 use reports_lib::{LineForm, Reply};
@@ -282,30 +283,37 @@ fn failure_text(failure: &Failure) -> &'static str
     }
 }
 
-// Flushes standard output after a run, says what failed, and returns the exit status. If the reader of standard output has gone
-// away, that is no failure: nothing is said, and the status is 0.
-fn finish<W: Write + Drop, E: Sink>(
-    found: Result<u8, Failure>,
-    console: Console<System<Output<W>>, E>,
-) -> u8
-    ensures { IfOk found (λ status. status ≤ 6) → result ≤ 6 }
+// Says why a run failed, and returns the exit status.
+fn fail<W: Write + Drop>(failure: Failure, err: &mut Writer<System<W>>) -> u8
+    ensures status { result ≡ ending_status (Err failure) }
+    ensures said { IsTold err.old (failure_text failure) err.new }
 {
-    let (out, mut err) = console.into_writers();
-    let System(mut output) = out.into_sink();
-    let ending = match found {
-        Ok(status) => flushed(status, &output.flush()),
-        Err(failure) => Err(failure),
-    };
-    if output.is_closed() {
+    // If that fails, the exit status still reports the failure.
+    let _ = err.tell(failure_text(&failure));
+    status_of(&Err(failure))
+}
+
+// Says what failed, if anything did, and returns the exit status, by the flush after the run: a failed flush is a failed write.
+// If the reader of standard output has gone away, nothing is said, and the status is 0.
+fn finish<W: Write + Drop>(
+    found: Result<u8, Failure>,
+    flush: &io::Result<()>,
+    is_closed: bool,
+    err: &mut Writer<System<W>>,
+) -> u8
+    ensures status { result ≡ (ending is_closed flush.now found).status }
+    ensures said { IsTold err.old (ending is_closed flush.now found).err err.new }
+    ensures bound { IfOk found (λ status. status ≤ 6) → result ≤ 6 }
+{
+    if is_closed {
         return 0;
     }
-    match ending {
-        Ok(status) => status,
-        Err(failure) => {
-            // If that fails, the exit status still reports the failure.
-            let _ = err.tell(failure_text(&failure));
-            status_of(&Err(failure))
-        }
+    match found {
+        Ok(status) => match flushed(status, flush) {
+            Ok(status) => status,
+            Err(failure) => fail(failure, err),
+        },
+        Err(failure) => fail(failure, err),
     }
 }
 
@@ -320,5 +328,8 @@ pub fn run_program<R: Env + RuntimeFiles + Input + Print + Eprint + AllocGlobal>
         System(ErrorStream { rt }),
     );
     let found = run_in_system(rt, &mut console);
-    ExitCode::from(finish(found, console))
+    let (out, mut err) = console.into_writers();
+    let System(mut output) = out.into_sink();
+    let flush = output.flush();
+    ExitCode::from(finish(found, &flush, output.is_closed(), &mut err))
 }

@@ -23,7 +23,7 @@ pub trait Source: Drop {
     // Whether a read can fail.
     ghost may_fail: { Self → Bool };
 
-    /// Puts bytes at the front of `buf`, and returns their number: 0 only at the end, or if there is no room.
+    /// Puts bytes at the front of `buf`, and returns their number: 0 only at the end, or if `buf` is empty.
     ///
     /// # Errors
     ///
@@ -63,6 +63,9 @@ pub trait Sink: Drop {
     // Whether a write can fail.
     ghost may_fail: { Self → Bool };
 
+    // Whether a write asks for memory.
+    ghost needs_memory: { Bool };
+
     /// Takes all of these bytes.
     ///
     /// # Errors
@@ -73,6 +76,7 @@ pub trait Sink: Drop {
         ensures part { OnErr result (AppendsPrefix (taken self.old) (taken self.new) bytes.now) }
         ensures read { IfErr result (λ e. e ≢ RunError.Read) }
         ensures fails { IfErr result (λ e. e ≡ RunError.Write → may_fail self.old ≡ true) }
+        ensures memory { IfErr result (λ e. e ≡ RunError.OutOfMemory → needs_memory ≡ true) }
         ensures same { may_fail self.new ≡ may_fail self.old };
 }
 
@@ -80,6 +84,8 @@ impl Sink for Vec<u8> {
     ghost taken = { λ v. Some v.items };
 
     ghost may_fail = { λ _. false };
+
+    ghost needs_memory = { true };
 
     fn take(&mut self, bytes: &[u8]) -> Result<(), RunError> {
         match self.extend_from_slice(bytes) {
@@ -114,6 +120,8 @@ impl<W: Write + Drop> Sink for System<W> {
     ghost taken = { λ s. W.contents s.0 };
 
     ghost may_fail = { λ _. true };
+
+    ghost needs_memory = { false };
 
     fn take(&mut self, bytes: &[u8]) -> Result<(), RunError> {
         let mut at = 0;
@@ -179,7 +187,7 @@ impl<S: Source> Reader<S> {
         source
     }
 
-    /// Puts bytes at the front of `buf`, and returns their number: 0 only at the end, or if there is no room. None if a read
+    /// Puts bytes at the front of `buf`, and returns their number: 0 only at the end, or if `buf` is empty. None if a read
     /// fails, or has failed before: then the source isn't read any more.
     pub(crate) fn read(&mut self, buf: &mut [u8]) -> Option<usize>
         ensures bound { IfSome result (λ n. n ≤ length buf.new) }
@@ -253,6 +261,7 @@ impl<S: Sink> Writer<S> {
     pub(crate) fn write(&mut self, bytes: &[u8]) -> Result<(), RunError>
         ensures all { OnOk result (Takes self.old bytes.now self.new) }
         ensures part { IfErr result (λ e. TakesPart self.old bytes.now e self.new) }
+        ensures refused { IfErr result (λ e. e ≡ RunError.OutOfMemory → S.needs_memory ≡ true) }
     {
         if self.is_broken {
             return Err(RunError::Write);
@@ -267,7 +276,7 @@ impl<S: Sink> Writer<S> {
         }
     }
 
-    /// Writes a message, unless a write fails or has failed: that is no error.
+    /// Writes a message. A write that fails, or has failed before, is passed over.
     ///
     /// # Errors
     ///
@@ -276,6 +285,7 @@ impl<S: Sink> Writer<S> {
         ensures told { OnOk result (IsTold self.old message.now self.new) }
         ensures memory { IfErr result (λ e. (e ≡ RunError.OutOfMemory)
             × IsToldPart self.old message.now self.new) }
+        ensures refused { OnErr result (S.needs_memory ≡ true) }
     {
         if self.is_broken {
             return Ok(());

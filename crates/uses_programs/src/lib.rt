@@ -9,6 +9,7 @@ pub mod read_rules;
 pub mod run_over_ends;
 pub mod run_tokens;
 pub mod say_errors;
+pub mod show_safely;
 pub mod streams;
 pub mod watch_an_end;
 pub mod write_a_word;

@@ -1,5 +1,7 @@
 //! What the program says of files that give no lexer, said by a program of one's own.
 ghost use Rattle.std.specs.Prelude.{◌≡◌, ℕ, List, [], codes, length, string_bytes, IfOk, IfSome};
+ghost use Rattle.bajofeki_rules.specs.Lines.{lines};
+ghost use Rattle.lalrpop_rule_file.specs.RuleFile.{without_mark};
 ghost use Rattle.tokens_lib.specs.Answer.{headed};
 ghost use Rattle.tokens_lib.specs.Reasons.{SaysBadLine, place_at, placed, refusal_text};
 ghost use Rattle.tokens_lib.specs.Warned.{AreWarnings};
@@ -18,7 +20,8 @@ pub fn said_of_a_line(
     error: &RuleFileError,
 ) -> Result<String, AllocError>
     ensures said { IfOk result (λ message. (said : List ℕ)
-        × (SaysBadLine error.now said × (string_bytes message ≡ headed (codes "f") said))) }
+        × (SaysBadLine (lines (without_mark bytes.now)) error.now said
+        × (string_bytes message ≡ headed (codes "f") said))) }
 {
     bad_line_message(alloc, "f", bytes, error)
 }
@@ -32,9 +35,10 @@ pub fn said_of_a_rule(
     rule: usize,
     error: NfaConstructionError,
 ) -> Result<String, AllocError>
-    ensures said { IfOk result (λ message. (shown : List ℕ) × (string_bytes message
-        ≡ headed (codes "f") (placed (place_at file.now.places.items rule).line
-        (place_at file.now.places.items rule).column (refusal_text error) shown))) }
+    ensures said { IfOk result (λ message. string_bytes message
+        ≡ headed (codes "f") (placed (lines (without_mark bytes.now))
+        (place_at file.now.places.items rule).line (place_at file.now.places.items rule).column
+        (refusal_text error))) }
 {
     rules_message(
         alloc,

@@ -2,9 +2,8 @@
 use Rattle.std.proofs.Common.{◌≡◌, ◌≢◌, true, false, [], Some, None, codes, length, refl, ap, arith}
 use Rattle.std.specs.Fmt.{digits}
 use Rattle.std.specs.Str.{chars}
-use Rattle.unicode.specs.Binary.{is_default_ignorable_code_point}
-use Rattle.unicode.specs.Rows.{in_ranges}
-use Rattle.ucd_derived.specs.DefaultIgnorableCodePointRanges.{default_ignorable_code_point_ranges}
+use Rattle.ucd_category.proofs.Computing.{ucd_category}
+use Rattle.ucd_derived.proofs.Computing.{ucd_derived}
 use Rattle.bajofeki_rules.specs.Quoted.{short_escape, is_unseen, told, quoted}
 
 -- a quote and a line feed have a short escape, a letter and the character 1 don't
@@ -16,7 +15,7 @@ characters_without_a_short_escape = (refl, refl)
 
 -- a letter and `'` are written as they are
 characters_that_stand_for_themselves : (told 97 ≡ codes "a") × (told 39 ≡ codes "'")
-unfolding lib.Utf8.encode is_default_ignorable_code_point in_ranges default_ignorable_code_point_ranges
+unfolding lib.Utf8.encode ucd_category ucd_derived
 characters_that_stand_for_themselves = (refl, refl)
 
 -- other characters that aren't seen by their number
@@ -29,33 +28,38 @@ separators : (is_unseen 0x2028 ≡ true) × (is_unseen 0x2029 ≡ true)
 separators = (refl, refl)
 
 soft_hyphen : (is_unseen 0xAC ≡ false) × (is_unseen 0xAD ≡ true) × (is_unseen 0xAE ≡ false)
-unfolding is_default_ignorable_code_point default_ignorable_code_point_ranges in_ranges
+unfolding ucd_category ucd_derived
 soft_hyphen = (refl, refl, refl)
 
 marks_of_direction : (is_unseen 0x61B ≡ false) × (is_unseen 0x61C ≡ true) × (is_unseen 0x200E ≡ true) × (is_unseen 0x202E ≡ true) × (is_unseen 0x202F ≡ false) × (is_unseen 0x2066 ≡ true)
-unfolding is_default_ignorable_code_point default_ignorable_code_point_ranges in_ranges
+unfolding ucd_category ucd_derived
 marks_of_direction = (refl, refl, refl, refl, refl, refl)
 
 joiners : (is_unseen 0x200A ≡ false) × (is_unseen 0x200D ≡ true) × (is_unseen 0x2060 ≡ true) × (is_unseen 0xFEFF ≡ true)
-unfolding is_default_ignorable_code_point default_ignorable_code_point_ranges in_ranges
+unfolding ucd_category ucd_derived
 joiners = (refl, refl, refl, refl)
 
 variation_selectors : (is_unseen 0xFE00 ≡ true) × (is_unseen 0xFE0F ≡ true) × (is_unseen 0xFE10 ≡ false) × (is_unseen 0xE0100 ≡ true) × (is_unseen 0xE01EF ≡ true)
-unfolding is_default_ignorable_code_point default_ignorable_code_point_ranges in_ranges
+unfolding ucd_category ucd_derived
 variation_selectors = (refl, refl, refl, refl, refl)
 
-tags : (is_unseen 0xE0001 ≡ true) × (is_unseen 0xE0020 ≡ true) × (is_unseen 0xE007F ≡ true) × (is_unseen 0xE1000 ≡ false)
-unfolding is_default_ignorable_code_point default_ignorable_code_point_ranges in_ranges
+tags : (is_unseen 0xE0001 ≡ true) × (is_unseen 0xE0020 ≡ true) × (is_unseen 0xE007F ≡ true) × (is_unseen 0xE1000 ≡ true)
+unfolding ucd_category ucd_derived
 tags = (refl, refl, refl, refl)
+
+-- a character that isn't assigned, beside one that is
+unassigned : (is_unseen 0x377 ≡ false) × (is_unseen 0x378 ≡ true)
+unfolding ucd_category ucd_derived
+unassigned = (refl, refl)
 
 -- slices in quotes
 slices_in_quotes : (quoted (codes "a\n") ≡ codes "\"a\\n\"") × (quoted [] ≡ codes "\"\"") × (quoted (codes "\"") ≡ codes "\"\\\"\"")
-unfolding chars lib.Utf8.encode is_default_ignorable_code_point in_ranges default_ignorable_code_point_ranges
+unfolding chars lib.Utf8.encode ucd_category ucd_derived
 slices_in_quotes = (refl, refl, refl)
 
 -- not without the quotes, and a line feed isn't written as it is
 slice_without_quotes : quoted (codes "a") ≢ codes "a"
-unfolding chars lib.Utf8.encode is_default_ignorable_code_point in_ranges default_ignorable_code_point_ranges
+unfolding chars lib.Utf8.encode ucd_category ucd_derived
 slice_without_quotes e = let n : 3 ≡ 1 = ap length e in omega (arith, n)
 
 line_feed_in_quotes : quoted (codes "\n") ≢ codes "\"\n\""

@@ -2,9 +2,8 @@
 use Rattle.std.proofs.Common.{◌≡◌, ℕ, Bool, List, [], ◌∷◌, Option, Some, None, codes, refl, false}
 use Rattle.std.specs.Fmt.{digits}
 use Rattle.std.specs.Str.{chars}
-use Rattle.unicode.specs.Binary.{is_default_ignorable_code_point}
-use Rattle.unicode.specs.Rows.{in_ranges}
-use Rattle.ucd_derived.specs.DefaultIgnorableCodePointRanges.{default_ignorable_code_point_ranges}
+use Rattle.ucd_category.proofs.Computing.{ucd_category}
+use Rattle.ucd_derived.proofs.Computing.{ucd_derived}
 use Rattle.json.specs.Print.{print_from, escape_byte}
 use Rattle.bajofeki_rules.specs.declared.position.Position.{Position}
 use Rattle.lalrpop_rules.specs.Modes.{ModeRules}
@@ -18,15 +17,15 @@ second = record { line = 1; column = 2 }
 -- ---- plain lines
 
 line_of_a_name : plain_line None second (Some (codes "N")) (codes "a") ≡ codes "1:2 N \"a\"\n"
-unfolding digits chars lib.Utf8.encode is_default_ignorable_code_point in_ranges default_ignorable_code_point_ranges
+unfolding digits chars lib.Utf8.encode ucd_category ucd_derived
 line_of_a_name = refl
 
 line_with_a_file : plain_line (Some (codes "f")) second (Some (codes "N")) (codes "a") ≡ codes "f:1:2 N \"a\"\n"
-unfolding digits chars lib.Utf8.encode is_default_ignorable_code_point in_ranges default_ignorable_code_point_ranges
+unfolding digits chars lib.Utf8.encode ucd_category ucd_derived
 line_with_a_file = refl
 
 line_of_a_fault : plain_line None second None (codes "a") ≡ codes "1:2 ! \"a\"\n"
-unfolding digits chars lib.Utf8.encode is_default_ignorable_code_point in_ranges default_ignorable_code_point_ranges
+unfolding digits chars lib.Utf8.encode ucd_category ucd_derived
 line_of_a_fault = refl
 
 -- ---- lines of JSON

@@ -1,7 +1,9 @@
 -- Cases of specs/Reasons.antt.
 use Rattle.std.proofs.Common.{◌≡◌, ◌≢◌, ℕ, List, [], ◌∷◌, ◌++◌, codes, decimal, get_or, length, length-append, refl, ap, arith, Bor, Some}
 use Rattle.std.specs.Fmt.{digits}
-use Rattle.std.specs.Str.{chars}
+use Rattle.std.specs.Char.{encode_utf8}
+use Rattle.std.specs.Str.{chars, is_utf8}
+use Rattle.unicode_width.specs.Width.{str_width}
 use Rattle.lalrpop_hir.specs.declared.error.NfaConstructionError.TheVariants.{LookAround, NonGreedy}
 use Rattle.lalrpop_re.specs.declared.error.SyntaxKind.TheVariants.{UnclosedGroup, UnopenedGroup}
 use Rattle.bajofeki_rules.specs.declared.position.Position.{Position}
@@ -13,6 +15,7 @@ use Rattle.bajofeki_rules.specs.declared.rule.Rule.{Rule}
 use Rattle.lalrpop_rule_file.specs.declared.error.LineFault.TheVariants.{NoEquals}
 use Rattle.lalrpop_rule_file.specs.declared.error.RuleFileError.TheVariants.{BadLine, NoSuchMode}
 use Rattle.reports_lib.specs.Reasons.{syntax_text, refusal_text, bad_end_text, clash_advice, mode_said, parsed_text, placed, clash_text, SaysBadLine, place_at, text_at, SaysRules}
+use Rattle.reports_lib.specs.ShownLine.{pointed, signs_at}
 
 -- ---- in words
 
@@ -37,8 +40,9 @@ advice_for_the_empty_word e = let k : 78 ≡ 71 = ap (λ (l : List ℕ). get_or 
 
 -- ---- messages
 
-message_about_a_place : placed 2 7 (codes "why") (codes "    x\n") ≡ codes "2:7: why\n    x\n"
-unfolding digits
+-- below a line that isn't there, which is empty
+message_about_a_place : placed [] 2 1 (codes "why") ≡ codes "2:1: why\n    \n    ^\n"
+unfolding digits is_utf8 chars encode_utf8 str_width
 message_about_a_place = refl
 
 -- the later line comes first, and the advice last
@@ -59,16 +63,12 @@ clash_turned e = let k : 49 ≡ 50 = ap (λ (l : List ℕ). get_or l 0 0) e in o
 
 -- ---- rules
 
--- a bad line is told with its place and the reason; and nothing else is said of it
-bad_line : SaysBadLine (BadLine 2 7 NoEquals) (placed 2 7 (reason_of NoEquals) (codes "    A /x/\n"))
-bad_line = (codes "    A /x/\n", refl)
+-- a mode that no section names is told with its place; and nothing else is said of it
+no_such_mode : (ls : List (List ℕ)) → SaysBadLine ls (NoSuchMode 1 8) (placed ls 1 8 (codes "no section names this mode"))
+no_such_mode ls = refl
 
--- a mode that no section names
-no_such_mode : SaysBadLine (NoSuchMode 1 8) (placed 1 8 (codes "no section names this mode") (codes "    A push B = 'a'\n"))
-no_such_mode = (codes "    A push B = 'a'\n", refl)
-
-no_place : ¬ SaysBadLine (BadLine 2 7 NoEquals) []
-no_place said = absurd (omega (arith, ap length said.1, length-append (decimal 2) (codes ":" ++ (decimal 7 ++ (codes ": " ++ (reason_of NoEquals ++ (codes "\n" ++ said.0)))))))
+no_place : (ls : List (List ℕ)) → ¬ SaysBadLine ls (BadLine 2 7 NoEquals) []
+no_place ls said = absurd (omega (arith, ap length said, length-append (decimal 2) (codes ":" ++ (decimal 7 ++ (codes ": " ++ (reason_of NoEquals ++ (codes "\n" ++ pointed (signs_at ls 2) 6)))))))
 
 -- the place of the second rule, and the text of the first
 second_place : (p q : Position) → place_at (p ∷ q ∷ []) 1 ≡ q
@@ -77,26 +77,23 @@ second_place p q = refl
 first_text : (r s : Rule) (text : Bor (List ℕ)) → r.text ≡ Pattern text → text_at (r ∷ s ∷ []) 0 ≡ text.now
 first_text r s text is = ap parsed_text is
 
--- a rule on line 4 that can't be compiled
-look_around : SaysRules [] [] (record { line = 4; column = 6 } ∷ []) (NotCompiled 0 LookAround) (placed 4 6 (refusal_text LookAround) (codes "    A = /^/\n"))
-look_around = (codes "    A = /^/\n", refl)
-
--- its line stands before the column
-not_the_column : ¬ SaysRules [] [] (record { line = 4; column = 6 } ∷ []) (NotCompiled 0 LookAround) (placed 6 4 (refusal_text LookAround) (codes "    A = /^/\n"))
+-- the line of a rule that can't be compiled stands before the column
+not_the_column : (ls : List (List ℕ)) → ¬ SaysRules ls [] [] (record { line = 4; column = 6 } ∷ []) (NotCompiled 0 LookAround) (placed ls 6 4 (refusal_text LookAround))
 unfolding digits
-not_the_column said = let k : 54 ≡ 52 = ap (λ (l : List ℕ). get_or l 0 0) said.1 in omega (arith, k)
+not_the_column ls said = let k : 54 ≡ 52 = ap (λ (l : List ℕ). get_or l 0 0) said in omega (arith, k)
 
 -- the second character of a text that begins in column 6
-second_character : (r : Rule) (text : Bor (List ℕ)) → r.text ≡ Pattern text → text.now ≡ codes "a)" → SaysRules [] (r ∷ []) (record { line = 4; column = 6 } ∷ []) (NotParsed 0 1 UnopenedGroup) (placed 4 7 (syntax_text UnopenedGroup) [])
+second_character : (ls : List (List ℕ)) (r : Rule) (text : Bor (List ℕ)) → r.text ≡ Pattern text → text.now ≡ codes "a)"
+    → SaysRules ls [] (r ∷ []) (record { line = 4; column = 6 } ∷ []) (NotParsed 0 1 UnopenedGroup) (placed ls 4 7 (syntax_text UnopenedGroup))
 unfolding chars
-second_character r text form is = ([], rw (form, is) refl)
+second_character ls r text form is = rw (form, is) refl
 
 -- the end of a text on line 4 is empty
-empty_end : SaysRules [] [] (record { line = 4; column = 6 } ∷ []) (BadEnd 0 EmptyEnd) (placed 4 6 (bad_end_text EmptyEnd) (codes "    A = from '' to ''\n"))
-empty_end = (codes "    A = from '' to ''\n", refl)
+empty_end : (ls : List (List ℕ)) → SaysRules ls [] [] (record { line = 4; column = 6 } ∷ []) (BadEnd 0 EmptyEnd) (placed ls 4 6 (bad_end_text EmptyEnd))
+empty_end ls = refl
 
 another_end : bad_end_text LongEnd ≢ bad_end_text EmptyEnd
 another_end e = let k : 116 ≡ 110 = ap (λ (l : List ℕ). get_or l 0 0) e in omega (arith, k)
 
-no_word_of_memory : (modes : List (List ℕ)) (rs : List Rule) (places : List Position) (said : List ℕ) → ¬ SaysRules modes rs places OutOfMemory said
-no_word_of_memory modes rs places said says = says
+no_word_of_memory : (ls modes : List (List ℕ)) (rs : List Rule) (places : List Position) (said : List ℕ) → ¬ SaysRules ls modes rs places OutOfMemory said
+no_word_of_memory ls modes rs places said says = says

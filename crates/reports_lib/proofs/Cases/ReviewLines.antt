@@ -4,9 +4,8 @@ use Rattle.std.specs.Fmt.{digits}
 use Rattle.std.specs.declared.alloc.Global.{Global}
 use Rattle.std.specs.declared.vec.Vec.{Vec}
 use denote.RawPtr.{null_ptr}
-use Rattle.unicode.specs.Binary.{is_default_ignorable_code_point}
-use Rattle.unicode.specs.Rows.{in_ranges}
-use Rattle.ucd_derived.specs.DefaultIgnorableCodePointRanges.{default_ignorable_code_point_ranges}
+use Rattle.ucd_category.proofs.Computing.{ucd_category}
+use Rattle.ucd_derived.proofs.Computing.{ucd_derived}
 use Rattle.json.specs.Print.{print_from, escape_byte}
 use Rattle.lalrpop_hir.specs.Clashes.{Entry}
 use Rattle.lalrpop_dfa.specs.Witness.{OpenMatch}
@@ -54,20 +53,20 @@ unfolding digits
 name_is_empty = refl
 
 one_winner : winner_text two name_wins ≡ codes "NAME wins \"if\""
-unfolding lib.Utf8.encode is_default_ignorable_code_point in_ranges default_ignorable_code_point_ranges
+unfolding lib.Utf8.encode ucd_category ucd_derived
 one_winner = refl
 
 two_winners : winners_text two (if_wins ∷ name_wins ∷ []) ≡ codes "IF wins \"i\", NAME wins \"if\""
-unfolding lib.Utf8.encode is_default_ignorable_code_point in_ranges default_ignorable_code_point_ranges
+unfolding lib.Utf8.encode ucd_category ucd_derived
 two_winners = refl
 
 -- not without the last
 last_winner : winners_text two (if_wins ∷ name_wins ∷ []) ≢ winners_text two (if_wins ∷ [])
-unfolding lib.Utf8.encode is_default_ignorable_code_point in_ranges default_ignorable_code_point_ranges
+unfolding lib.Utf8.encode ucd_category ucd_derived
 last_winner e = let n : 27 ≡ 11 = ap length e in omega (arith, n)
 
 never_wins : idle_reason two (Some (codes "A")) (name_wins ∷ []) ≡ codes " never wins in mode A: NAME wins \"if\""
-unfolding lib.Utf8.encode is_default_ignorable_code_point in_ranges default_ignorable_code_point_ranges
+unfolding lib.Utf8.encode ucd_category ucd_derived
 never_wins = refl
 
 matches_nothing : (idle_reason two None [] ≡ codes " matches no nonempty text") × (idle_reason two (Some (codes "A")) [] ≡ codes " matches no nonempty text in mode A")
@@ -78,12 +77,12 @@ unfolding digits
 one_pair = refl
 
 clash_in_a_mode : clash_line two (Some (codes "A")) clash ≡ codes "f:2:8: NAME clashes with IF of line 1 in mode A: both match \"if\", and neither wins\n"
-unfolding digits lib.Utf8.encode is_default_ignorable_code_point in_ranges default_ignorable_code_point_ranges
+unfolding digits lib.Utf8.encode ucd_category ucd_derived
 clash_in_a_mode = refl
 
 -- the mode is told
 clash_without_its_mode : clash_line two (Some (codes "A")) clash ≢ clash_line two None clash
-unfolding digits lib.Utf8.encode is_default_ignorable_code_point in_ranges default_ignorable_code_point_ranges
+unfolding digits lib.Utf8.encode ucd_category ucd_derived
 clash_without_its_mode e = let n : 83 ≡ 73 = ap length e in omega (arith, n)
 
 -- ---- the automaton of a mode
@@ -99,7 +98,7 @@ numbers_of_characters = (refl, refl, refl)
 
 -- the token `1` is left open by `e+`
 left_open : after_text (49 ∷ []) (101 ∷ 43 ∷ []) ≡ codes ", as after \"1\" when \"e+\" follows"
-unfolding lib.Utf8.encode is_default_ignorable_code_point in_ranges default_ignorable_code_point_ranges
+unfolding lib.Utf8.encode ucd_category ucd_derived
 left_open = refl
 
 left_open_by_nothing : after_text (49 ∷ []) [] ≡ []
@@ -109,7 +108,7 @@ abbrev exponent : OpenMatch
 exponent = record { word = 49 ∷ []; after = 101 ∷ [] }
 
 with_a_witness : witness_text (Some exponent) ≡ codes ", as after \"1\" when \"e\" follows"
-unfolding lib.Utf8.encode is_default_ignorable_code_point in_ranges default_ignorable_code_point_ranges
+unfolding lib.Utf8.encode ucd_category ucd_derived
 with_a_witness = refl
 
 with_no_witness : witness_text None ≡ []
@@ -119,7 +118,7 @@ names_of_rules : (rules_text two (0 ∷ 1 ∷ []) ≡ codes "IF, NAME") × (rule
 names_of_rules = (refl, refl)
 
 bounded : look_text two (AtMost 1 (Some exponent)) ≡ codes "at most 2 characters are read past a token, as after \"1\" when \"e\" follows"
-unfolding digits lib.Utf8.encode is_default_ignorable_code_point in_ranges default_ignorable_code_point_ranges
+unfolding digits lib.Utf8.encode ucd_category ucd_derived
 bounded = refl
 
 bounded_by_one : look_text two (AtMost 0 None) ≡ codes "at most 1 character is read past a token"
@@ -144,7 +143,7 @@ module _ (alloc : Global) where
   mode_of_if = record { idle = vector (idle_if ∷ []) (omega arith); states = 4; least_states = 3; look = AtMost 0 None }
 
   if_never_wins : idle_line two None idle_if ≡ codes "f:1:6: IF never wins: NAME wins \"if\"\n"
-  unfolding digits lib.Utf8.encode is_default_ignorable_code_point in_ranges default_ignorable_code_point_ranges
+  unfolding digits lib.Utf8.encode ucd_category ucd_derived
   if_never_wins = refl
 
   unbounded : look_text two (Unbounded (vector (0 ∷ 1 ∷ []) (omega arith))) ≡ codes "any number of characters is read past a token of IF, NAME"
@@ -175,7 +174,7 @@ module _ (alloc : Global) where
 
   -- the rule that never wins is told before the automaton
   one_mode : mode_told Plain two None mode_of_if ≡ idle_line two None idle_if ++ automaton_line two None mode_of_if
-  unfolding digits lib.Utf8.encode is_default_ignorable_code_point in_ranges default_ignorable_code_point_ranges
+  unfolding digits lib.Utf8.encode ucd_category ucd_derived
   one_mode = refl
 
   -- IF matches the empty text, and never wins in the second mode
@@ -184,7 +183,7 @@ module _ (alloc : Global) where
 
   whole_review : review_told Plain two both
       ≡ empty_line two 0 ++ (automaton_line two (Some (codes "A")) smallest ++ (idle_line two (Some (codes "B")) idle_if ++ automaton_line two (Some (codes "B")) mode_of_if))
-  unfolding digits lib.Utf8.encode is_default_ignorable_code_point in_ranges default_ignorable_code_point_ranges
+  unfolding digits lib.Utf8.encode ucd_category ucd_derived
   whole_review = refl
 
   by_its_parts : review_text Plain two.file two.modes two.names two.places both ≡ review_told Plain two both
@@ -209,7 +208,7 @@ one_mode_alone = refl
 
 -- the clash of the second mode
 clashes : clashes_told Plain two 0 ([] ∷ (clash ∷ []) ∷ []) ≡ clash_line two (Some (codes "B")) clash
-unfolding digits lib.Utf8.encode is_default_ignorable_code_point in_ranges default_ignorable_code_point_ranges
+unfolding digits lib.Utf8.encode ucd_category ucd_derived
 clashes = refl
 
 clashes_by_parts : clash_report Json two.file two.modes two.names two.places 0 ([] ∷ (clash ∷ []) ∷ []) ≡ clashes_told Json two 0 ([] ∷ (clash ∷ []) ∷ [])

@@ -1,9 +1,8 @@
 -- Cases of specs/RuleClashes.antt.
 use Rattle.std.proofs.Common.{◌≡◌, [], ◌∷◌, None, codes, refl}
 use Rattle.std.specs.Fmt.{digits}
-use Rattle.unicode.specs.Binary.{is_default_ignorable_code_point}
-use Rattle.unicode.specs.Rows.{in_ranges}
-use Rattle.ucd_derived.specs.DefaultIgnorableCodePointRanges.{default_ignorable_code_point_ranges}
+use Rattle.ucd_category.proofs.Computing.{ucd_category}
+use Rattle.ucd_derived.proofs.Computing.{ucd_derived}
 use Rattle.lalrpop_hir.specs.Clashes.{Entry}
 use Rattle.reports_lib.specs.RuleClashes.{clash_lines, named_line}
 
@@ -15,7 +14,7 @@ on_a_surrogate = record { match0 = 1; match1 = 0; word = 55296 ∷ [] }
 
 -- the earlier rule comes first
 line_of_if : named_line (codes "IF" ∷ codes "NAME" ∷ []) None on_if ≡ codes "IF NAME \"if\"\n"
-unfolding lib.Utf8.encode is_default_ignorable_code_point in_ranges default_ignorable_code_point_ranges
+unfolding lib.Utf8.encode ucd_category ucd_derived
 line_of_if = refl
 
 line_of_a_surrogate : named_line (codes "A" ∷ codes "B" ∷ []) None on_a_surrogate ≡ codes "A B \"\\u{d800}\"\n"
@@ -24,10 +23,10 @@ line_of_a_surrogate = refl
 
 -- of two modes the second has a clash
 lines_of_two_modes : clash_lines (codes "A" ∷ codes "B" ∷ []) (codes "IF" ∷ codes "NAME" ∷ []) 0 ([] ∷ (on_if ∷ []) ∷ []) ≡ codes "B IF NAME \"if\"\n"
-unfolding lib.Utf8.encode is_default_ignorable_code_point in_ranges default_ignorable_code_point_ranges
+unfolding lib.Utf8.encode ucd_category ucd_derived
 lines_of_two_modes = refl
 
 -- one mode isn't named
 lines_of_one_mode : clash_lines (codes "A" ∷ []) (codes "IF" ∷ codes "NAME" ∷ []) 0 ((on_if ∷ []) ∷ []) ≡ codes "IF NAME \"if\"\n"
-unfolding lib.Utf8.encode is_default_ignorable_code_point in_ranges default_ignorable_code_point_ranges
+unfolding lib.Utf8.encode ucd_category ucd_derived
 lines_of_one_mode = refl

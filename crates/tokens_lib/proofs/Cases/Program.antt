@@ -1,12 +1,13 @@
 -- Cases of specs/Program.antt.
-use Rattle.std.proofs.Common.{◌≡◌, ◌≢◌, ℕ, false, inl, inr, List, [], ◌∷◌, codes, get_or, map, refl, ap, arith, Vec, Bor, Global}
-use Rattle.std.specs.Prelude.{Err}
+use Rattle.std.proofs.Common.{◌≡◌, ◌≢◌, ℕ, false, true, inl, inr, List, [], ◌∷◌, codes, get_or, map, refl, ap, arith, Vec, Bor, Global}
+use Rattle.std.specs.Prelude.{Result, Ok, Err}
 use Rattle.lalrpop_rules.specs.Modes.{ModeRules}
+use Rattle.lexdfa_lib.specs.declared.ending.Failure.{Failure}
 use Rattle.lexdfa_lib.specs.declared.ending.Failure.TheVariants.{Usage, Run as Failing}
-use Rattle.lexdfa_lib.specs.declared.error.RunError.TheVariants.{Read, Write}
+use Rattle.lexdfa_lib.specs.declared.error.RunError.TheVariants.{OutOfMemory, Read, Write}
 use Rattle.reports_lib.specs.Answer.{refusal, silence, about}
 use Rattle.reports_lib.specs.declared.layout.LineForm.TheVariants.{Plain}
-use Rattle.tokens_lib.specs.Program.{failure_text, information, IsAnswer, IsFirstAnswer, other_of, ComparedAnswer}
+use Rattle.tokens_lib.specs.Program.{ending, failure_text, information, IsAnswer, IsFirstAnswer, other_of, ComparedAnswer}
 use Rattle.tokens_lib.specs.Streams.{Given, Reading, NotOpened, Stream}
 use Rattle.tokens_lib.specs.Usage.{help}
 use Rattle.tokens_lib.specs.declared.command.Action.TheVariants.{Cut}
@@ -23,6 +24,20 @@ no_text = refl
 
 another_failure : failure_text (Failing Read) ≢ failure_text (Failing Write)
 another_failure e = let k : 114 ≡ 119 = ap (λ (l : List ℕ). get_or l 8 0) e in omega (arith, k)
+
+-- nothing is said once the reader of standard output has gone away
+reader_gone : {T E : Type 0} (flush : Result T E) (found : Result ℕ Failure) → ending true flush found ≡ silence
+reader_gone flush found = refl
+
+-- a failed flush is a failed write, but a run that failed says why it did; and a text with a fault has its status
+flush_fails : (T : Type 0) {E : Type 0} (error : E) → ending {T = T} false (Err error) (Ok 1) ≡ refusal 6 (codes "tokens: write failed\n")
+flush_fails T error = refl
+
+run_fails : (T : Type 0) {E : Type 0} (error : E) → ending {T = T} false (Err error) (Err (Failing OutOfMemory)) ≡ refusal 5 (codes "tokens: out of memory\n")
+run_fails T error = refl
+
+fault_stays : {T : Type 0} (E : Type 0) (done : T) → ending {E = E} false (Ok done) (Ok 1) ≡ refusal 1 []
+fault_stays E done = refl
 
 -- only what was asked for is written, with status 0
 informed : (Gives : List ℕ → Reading → Type 0) (i k : Stream) → IsAnswer Gives i k (codes "--help" ∷ []) (information help)

@@ -1,17 +1,9 @@
 -- The first fault of a text, and the modes of rules.
-use Rattle.std.specs.Prelude.{◌≡◌, ◌<◌, ℕ, Bool, true, false, List, Option, Some, None, slice_get}
+use Rattle.std.specs.Prelude.{◌≡◌, ◌<◌, ℕ, Bool, true, false, List, Some, slice_get}
 use Rattle.lalrpop_rules.specs.ModeSet.{NamesMode}
 use Rattle.lalrpop_rules.specs.declared.error.RulesError.{RulesError}
 use Rattle.lalrpop_rules.specs.declared.error.RulesError.TheVariants.{Clash}
 use Rattle.bajofeki_rules.specs.declared.mode_rule.ModeRule.{ModeRule}
-use Rattle.lalrpop_rules.specs.declared.item.Item.{Item}
-use Rattle.lalrpop_rules.specs.declared.item.Item.TheVariants.{Fault}
-
--- where the first fault begins after one more piece
-abbrev pub first_with : Option ℕ → Item → Option ℕ
-first_with (Some at) item = Some at
-first_with None (Fault start slice) = Some start
-first_with None item = None
 
 -- whether the error is a clash
 abbrev pub is_clash : RulesError → Bool

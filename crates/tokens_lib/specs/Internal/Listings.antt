@@ -1,20 +1,12 @@
 -- What is listed of a file of rules.
-use Rattle.std.specs.Prelude.{ℕ, Bool, List, Option, Some, None, if◌then◌else◌}
+use Rattle.std.specs.Prelude.{ℕ, Bool, List, if◌then◌else◌}
 use Rattle.bajofeki_rules.specs.declared.mode_rule.ModeRule.{ModeRule}
 use Rattle.reports_lib.specs.Answer.{Answer, refusal}
 use Rattle.tokens_lib.specs.Checked.{CheckAnswer}
 use Rattle.tokens_lib.specs.NamedRules.{ClashesAnswer}
 use Rattle.tokens_lib.specs.WarningsSaid.{is_said}
-use Rattle.tokens_lib.specs.declared.command.Action.{Action}
-use Rattle.tokens_lib.specs.declared.command.Action.TheVariants as actions
 use Rattle.tokens_lib.specs.declared.listing.Listing.{Listing}
 use Rattle.tokens_lib.specs.declared.listing.Listing.TheVariants.{Clashes, Review}
-
--- what an action lists, if it lists something
-abbrev pub listing_of : Action → Option Listing
-listing_of actions.Clashes = Some Clashes
-listing_of (actions.Check form) = Some (Review form)
-listing_of action = None
 
 -- what is answered for the rules
 abbrev pub ListingAnswer : Listing → List ℕ → List (List ℕ) → List (List ℕ) → List ModeRule → Answer → Type 0

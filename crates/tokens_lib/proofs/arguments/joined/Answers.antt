@@ -19,11 +19,6 @@ two f xs i d e l =
 of_end : (word next : List ℕ) (words : List (List ℕ)) → is_end word ≡ true → joined (word ∷ next ∷ words) ≡ word ∷ next ∷ words
 of_end word next words t = ap (λ b. cond b (word ∷ next ∷ words) (cond (takes_value word) ((word ++ (codes "=" ++ next)) ∷ joined words) (word ∷ joined (next ∷ words)))) t
 
-of_value : (word next : List ℕ) (words : List (List ℕ)) → is_end word ≡ false → takes_value word ≡ true → joined (word ∷ next ∷ words) ≡ (word ++ (codes "=" ++ next)) ∷ joined words
-of_value word next words e t =
-    ap (λ b. cond b (word ∷ next ∷ words) (cond (takes_value word) ((word ++ (codes "=" ++ next)) ∷ joined words) (word ∷ joined (next ∷ words)))) e
-    ∙ ap (λ b. cond b ((word ++ (codes "=" ++ next)) ∷ joined words) (word ∷ joined (next ∷ words))) t
-
 of_other : (word next : List ℕ) (words : List (List ℕ)) → is_end word ≡ false → takes_value word ≡ false → joined (word ∷ next ∷ words) ≡ word ∷ joined (next ∷ words)
 of_other word next words e t =
     ap (λ b. cond b (word ∷ next ∷ words) (cond (takes_value word) ((word ++ (codes "=" ++ next)) ∷ joined words) (word ∷ joined (next ∷ words)))) e
