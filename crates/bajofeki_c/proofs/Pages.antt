@@ -17,7 +17,7 @@ piece_more s t u o item xs x y is gives ok =
     let same : map Ok xs ++ item ∷ [] ≡ map Ok (xs ++ x ∷ []) = rw (ok, map-append) refl in
     subst (λ (ys : List (Result Item AllocError)). Yields GivesPieceOrError s ys u) same longer
 
--- no piece behind those that there are
+-- no piece after those that there are
 pub all_pieces : (s r t u : ModeCut) (o : Option (Result Item AllocError)) (xs : List Item) → r ≡ s → Yields GivesPieceOrError r (map Ok xs) t → o ≡ None
     → GivesPieceOrError t o u
     → ((ys : List Item) (w : ModeCut) → Yields GivesPieceOrError s (map Ok ys) w → Yields GivesModePiece s ys w × (w.is_over ≡ false))

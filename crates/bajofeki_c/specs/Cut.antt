@@ -31,7 +31,7 @@ told skips p = record { kind = kind_told skips p.kind p.rule; rule = p.rule; sta
 abbrev pub AreBetween : ModeRules → List ℕ → List ℕ → ByteCut → List NumberedPiece → ByteCut → Type 0
 AreBetween r kinds text c ps d = AreBytePiecesTo r kinds 1024 text (place_of c) (stack_in c) ps (place_of d) (stack_in d)
 
--- these are n pieces, at the front of the array; what is behind them is as it was
+-- these are n pieces, at the front of the array; what is after them is as it was
 pub record AreFilled (l : BuiltLexer) (text : List ℕ) (c : ByteCut) (before : List Piece) (n : ℕ) (after : List Piece) (d : ByteCut) : Type 0 where
   pub pieces : List NumberedPiece
   pub between : (r : ModeRules) → AreNumbersOf r l.numbers → AreBetween r l.numbers.kinds text c pieces d

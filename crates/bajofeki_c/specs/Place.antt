@@ -4,7 +4,7 @@ use Rattle.std.specs.Prelude.{ℕ, List, length, take, min}
 use Rattle.lalrpop_emit.specs.BytePositions.{line_behind, column_behind}
 use Rattle.bajofeki_c.specs.declared.position.Place.{Place}
 
--- the place behind this many bytes
+-- the place after this many bytes
 abbrev pub place_behind : ℕ → List ℕ → Place
 place_behind at bytes = record { at = at; line = line_behind bytes; column = column_behind bytes }
 

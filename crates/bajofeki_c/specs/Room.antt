@@ -88,7 +88,7 @@ pub record Cutter : Type 0 where
   pub view : View
   pub cutting : Cutting
 
--- the cut lies there, gone on behind the pieces that were written
+-- the cut lies there, gone on after the pieces that were written
 abbrev pub cut_at : Ptr → Cutter → List ℕ → List Piece → Cut → List Piece → Fml
 cut_at p c text before cut after =
     fex Cutting (λ d. fsep (cutting_at p d) (said (IsCutOn c.view.held text c.cutting before cut after d × GoesOn c.view.held text d)))

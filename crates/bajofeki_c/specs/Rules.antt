@@ -9,7 +9,7 @@ use Rattle.bajofeki_c.specs.declared.held.BuiltLexer.{BuiltLexer}
 use Rattle.bajofeki_c.specs.declared.held.Held.{Held}
 use Rattle.bajofeki_c.specs.declared.held.NamedRule.{NamedRule}
 
--- there are n values; as many as fit are at the front of the array, and what is behind them is as it was
+-- there are n values; as many as fit are at the front of the array, and what is after them is as it was
 pub record IsWritten {X : Type 0} (values before after : List X) (n : ℕ) : Type 0 where
   pub count : n ≡ length values
   pub front : take (length values) after ≡ take (length before) values

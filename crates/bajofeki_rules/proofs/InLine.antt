@@ -1,4 +1,4 @@
--- The place behind characters of ASCII other than line feeds.
+-- The place after characters of ASCII other than line feeds.
 use Rattle.std.proofs.Common.{◌≡◌, ◌≢◌, ℕ, ◌+◌, ◌-◌, ◌<◌, ◌≤◌, suc, List, [], ◌∷◌, ◌++◌, length, get_or, take, drop, arith, refl, sym, ap, subst, ◌∙◌, length-drop, length-take, append_assoc, append-nil}
 use Rattle.std.specs.Str.{chars, IsUtf8, IsCharBoundary, IsAscii}
 use Rattle.std.proofs.lemmas.Bool.{ne_eqb}

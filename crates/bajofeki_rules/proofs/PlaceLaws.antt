@@ -1,4 +1,4 @@
--- The place behind a text, by the place where it begins and by its bytes.
+-- The place after a text, by the place where it begins and by its bytes.
 use Rattle.std.proofs.Common.{◌≡◌, ◌≢◌, ℕ, ◌+◌, ◌-◌, ◌/◌, ◌%◌, ◌<◌, ◌≤◌, ◌⊎◌, inl, inr, eqb, Bool, true, false, List, [], ◌∷◌, ◌++◌, length, take, drop, length-take, length-drop, arith, refl, sym, ap, subst, ◌∙◌, append_assoc, append-nil}
 use Rattle.std.specs.Prelude.{if◌then◌else◌}
 use Rattle.std.specs.List.{fold}
@@ -115,7 +115,7 @@ place_after_char p c =
       ]
     ]
 
--- and those of all characters so far to the place behind them
+-- and those of all characters so far to the place after them
 place_after_chars : (front cs : List ℕ) → fold place_after_byte (place_behind front) (encodes cs) ≡ place_behind (front ++ cs)
 place_after_chars front [] = ap place_behind (sym (append-nil front))
 place_after_chars front (c ∷ cs) =

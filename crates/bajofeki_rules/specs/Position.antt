@@ -25,7 +25,7 @@ IsBefore p q = (p.line < q.line) ⊎ ((p.line ≡ q.line) × (p.column < q.colum
 abbrev pub moved : Position → Position → Position
 moved p q = if q.line == 1 then record { line = p.line; column = p.column + (q.column - 1) } else record { line = p.line + (q.line - 1); column = q.column }
 
--- the place behind a text that begins at a place
+-- the place after a text that begins at a place
 abbrev pub place_after : Position → List ℕ → Position
 place_after p text = moved p (place_behind (chars text))
 

@@ -72,7 +72,7 @@ impl Position {
         })
     }
 
-    /// The place behind the text, if the text begins at this place. `None` if its numbers are too large.
+    /// The place after the text, if the text begins at this place. `None` if its numbers are too large.
     pub fn after(self, text: &str) -> Option<Position>
         ensures place { IfSome result (λ p. p ≡ place_after self text.now) }
         ensures none { IfNone result ((2 ^ 64 ≤ self.line + length text.now + 1)
@@ -121,7 +121,7 @@ impl Position {
     }
 }
 
-// The place behind a text.
+// The place after a text.
 #[tactic(auto, using(std::proofs::lemmas::List::Sums::fold_more))]
 fn place_behind(text: &str) -> Position
     ensures place { result ≡ place_behind (chars text.now) }

@@ -119,7 +119,7 @@ impl<'text> Rule<'text> {
         }
     }
 
-    /// The words that begin with `from` and end with the first `to` behind it. Its precedence is 0, and it isn't skipped.
+    /// The words that begin with `from` and end with the first `to` after it. Its precedence is 0, and it isn't skipped.
     ///
     /// ```
     /// use bajofeki_rules::Rule;

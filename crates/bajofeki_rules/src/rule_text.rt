@@ -27,7 +27,7 @@ pub enum RuleText<'text> {
         text: &'text str,
         parts: &'text [Part],
     },
-    /// The words that begin with `from` and end with the first `to` behind it. `from` may be empty; `to` has 1 to 64 characters.
+    /// The words that begin with `from` and end with the first `to` after it. `from` may be empty; `to` has 1 to 64 characters.
     FromTo {
         from: &'text str,
         to: &'text str,

@@ -22,7 +22,7 @@ module _ (r : ModeRules) (m n : ℕ) where
       let place : n + 0 ≡ n = omega arith in
       subst (λ i. IsVerdict (trees_in r m) r.precedences i v) place (are 0 v (ap (λ vs. slice_get vs 0) all))
 
-  -- the others are on the trees behind it; if there is none, there are no others
+  -- the others are on the trees after it; if there is none, there are no others
   pub other_verdicts : (o : Option Verdict) (old new : List Verdict) → old ≡ option_to_list o ++ new → (o ≡ None → length old ≡ 0) → AreVerdictsFrom r m n old
       → AreVerdictsFrom r m (n + 1) new
   other_verdicts None old new parts none are k v at =

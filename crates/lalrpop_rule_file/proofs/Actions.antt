@@ -48,7 +48,7 @@ placed_more from text name skipped actions a are is i b e = by (old_or_new actio
         let same : take i (actions ++ a ∷ []) ≡ actions = take_at actions (a ∷ []) i (sym h.0) in
         rw same (subst (λ (x : WrittenAction). IsPlaced from text (head_with name skipped actions) x) h.1 is)
 
--- behind a name and its mark these actions were read, up to the rest
+-- after a name and its mark these actions were read, up to the rest
 pub record HasActed (text rest : List ℕ) (actions : List WrittenAction) : Type 0 where
   pub reads : (name : List ℕ) (skipped : Bool) → Reads (Named (head_with name skipped [])) text (Named (head_with name skipped actions)) rest
   pub placed : (name : List ℕ) (skipped : Bool) → ArePlaced (Named (head_with name skipped [])) text name skipped actions

@@ -7,7 +7,7 @@ use Rattle.lalrpop_rule_file.specs.Words.{is_blank, IsSpan}
 use Rattle.lalrpop_rule_file.specs.RuleFile.{IsBlankOrComment}
 use Rattle.lalrpop_rule_file.proofs.Spans.{IsSpan-unique, nothing_left}
 
--- behind blanks stands a `#` or something else
+-- after blanks stands a `#` or something else
 pub comment_test : (line front here : List ℕ) (found : Option (Bor (List ℕ))) → IsSpan is_blank line front here → (length here ≡ 0 → ⊥) → IfSome found (λ rest. here ≡ 35 ∷ rest.now) → IfNone found ((rest : List ℕ) → here ≢ 35 ∷ rest) → MatchBool (is_some found) (IsBlankOrComment line) (¬ IsBlankOrComment line)
 comment_test line front here (Some rest) span some is none =
     inr (front, (rest.now, (span.parts ∙ ap (λ (x : List ℕ). front ++ x) is, span.passes)))

@@ -51,9 +51,9 @@ IsUpToTo-unique text a rest b other g h =
     let front : a ≡ b = sym (take_at a g.mark (length a) refl) ∙ ap (take (length a)) (sym g.parts ∙ h.parts) ∙ take_at b h.mark (length a) (sym n) in
     (front, IsTo-unique (drop (length a) text) rest other (to_there text a rest g) (rw n (to_there text b other h)))
 
--- ---- behind the first apostrophe
+-- ---- after the first apostrophe
 
--- blanks stand there, and `to` behind them
+-- blanks stand there, and `to` after them
 pub to_words : (text first gap word rest : List ℕ) → text ≡ 39 ∷ first → IsSpan is_blank first gap word → (to : IsTo text rest) → (gap ≡ to.gap) × (word ≡ codes "to" ++ to.second)
 to_words text first gap word rest parts span to =
     let quotes : to.first ≡ first = ap (drop 1) (sym to.quote ∙ parts) in

@@ -347,14 +347,14 @@ Reads-unique (lexeme_then {mid = mid} s more) (lexeme_then {q = q} {r = r} {mid 
     let back : Reads q mid r other = subst (λ (x : List ℕ). Reads q x r other) (sym same.1) own in
     Reads-unique more (subst (λ (x : Part). Reads x mid r other) (sym same.0) back) g h
 
--- behind a rule nothing can follow
+-- after a rule nothing can follow
 pub end_is_stuck : (rule : WrittenRule) → IsStuck (Closed rule) []
 end_is_stuck rule q rest s = elim s [ ]
 
--- nor behind a part
+-- nor after a part
 pub part_is_stuck : (part : WrittenPart) → IsStuck (Defined part) []
 part_is_stuck part q rest s = elim s [ ]
 
--- nor behind a section
+-- nor after a section
 pub section_is_stuck : (section : Section) → IsStuck (Headed section) []
 section_is_stuck section q rest s = elim s [ ]

@@ -18,7 +18,7 @@ through (lexeme_then {mid = mid} s more) (lexeme_then {q = q} {r = r} {mid = her
     let back : Reads q mid r rest = subst (λ (x : List ℕ). Reads q x r rest) (sym same.1) own in
     through more (subst (λ (x : Part). Reads x mid r rest) (sym same.0) back) stuck
 
--- ---- behind a name
+-- ---- after a name
 
 abbrev IsOfRule : Part → Type 0
 IsOfRule (Named head) = Unit {0}

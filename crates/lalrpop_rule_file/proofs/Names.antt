@@ -95,7 +95,7 @@ kept_name : (x y : List ℕ) → Or y x → bytes_eq x y ≡ false → without x
 kept_name x y (inl e) h = absurd (false≢true (sym h ∙ is_eq x y (sym (same y x e))))
 kept_name x y (inr e) h = rw e refl
 
--- a name that isn't there yet comes behind them
+-- a name that isn't there yet comes after them
 firsts_new : (xs : List (List ℕ)) (y : List ℕ) → has xs y ≡ false → firsts (xs ++ y ∷ []) ≡ firsts xs ++ y ∷ []
 firsts_new [] y e = refl
 firsts_new (x ∷ xs) y e = by (eq_or_not x y) (firsts_new xs y)

@@ -64,7 +64,7 @@ not_slashed name inner rest (inr (pattern, (trail, (gap, (parts, lacks, blanks, 
       is_fault = some_left rest (λ x. fault_at (Defined part) x ≡ Some NotClosed) (λ b bs. refl) (λ e. omega (arith, e, some));
     }
 
--- ---- behind what stands before them
+-- ---- after what stands before them
 
 pub slash_reads : (name right lead here inner : List ℕ) (r : Result LinePart Stop) → IsSpan is_blank right lead here → here ≡ 47 ∷ inner → IfOk r (λ p. Reads (Defines name) (codes "/" ++ inner) (Defined (part_of p)) [])
     → IfOk r (λ p. Reads (Defines name) right (Defined (part_of p)) [])

@@ -10,7 +10,7 @@ use Rattle.lalrpop_rule_file.proofs.Actions.{map_more}
 use Rattle.lalrpop_rule_file.proofs.Lexemes.{joined}
 use Rattle.lalrpop_rule_file.proofs.Stopping.{no_list, one_mode}
 
--- behind the `[` of a section these names were read, up to the rest
+-- after the `[` of a section these names were read, up to the rest
 pub record HasListed (text rest : List ℕ) (modes : List (Bor (List ℕ))) : Type 0 where
   pub reads : Reads (Listing []) text (Listing (map (λ m. m.now) modes)) rest
   pub no_blank : begins is_blank rest ≡ false

@@ -19,7 +19,7 @@ cut_unique p (x ∷ xs) us (y ∷ ys) vs a b c d e =
 pub IsSpan-unique : (p : ℕ → Bool) (text xs us ys vs : List ℕ) → IsSpan p text xs us → IsSpan p text ys vs → (xs ≡ ys) × (us ≡ vs)
 IsSpan-unique p text xs us ys vs h g = cut_unique p xs us ys vs h.passes h.stops g.passes g.stops (sym h.parts ∙ g.parts)
 
--- the text may be cut behind bytes of ASCII
+-- the text may be cut after bytes of ASCII
 pub boundary_behind : (p : ℕ → Bool) → ((b : ℕ) → p b ≡ true → b < 128) → (text : List ℕ) → IsUtf8 text → IsCharBoundary text (prefix_len p text)
 boundary_behind p ascii text utf8 = at (prefix_len p text) refl
   where

@@ -11,7 +11,7 @@ use Rattle.lalrpop_rule_file.specs.RuleLine.{Entry, Head, Pops, Enters, bare, ma
 use Rattle.lalrpop_rule_file.specs.RuleFault.{StopsBefore, fault_at}
 use Rattle.lalrpop_rule_file.specs.Internal.Stops.{IsBeforeText, IsClosed, IsListed, IsNotClosed, IsUnread, NoActionAt, ReadsText, StopsText, before_end}
 use Rattle.lalrpop_rule_file.specs.declared.error.LineFault.{LineFault}
-use Rattle.lalrpop_rule_file.specs.declared.error.LineFault.TheVariants.{NoName, NoMode, NoBracket, BehindSection, NoEquals, PrecedenceTooLarge, NoText, NoLiteral, NoFrom, NoTo, NotClosed}
+use Rattle.lalrpop_rule_file.specs.declared.error.LineFault.TheVariants.{NoName, NoMode, NoBracket, AfterSection, NoEquals, PrecedenceTooLarge, NoText, NoLiteral, NoFrom, NoTo, NotClosed}
 use Rattle.lalrpop_rule_file.specs.declared.stop.Unread.{Unread}
 use Rattle.lalrpop_rule_file.specs.declared.stop.Unread.TheVariants.{Stopped, OutOfMemory}
 use Rattle.lalrpop_rule_file.proofs.Lexemes.{joined, blanks_read, span_read, begins_front, precedence_begins}
@@ -78,7 +78,7 @@ pub some_left : (rest : List ℕ) (P : List ℕ → Type 0) → ((b : ℕ) (bs :
 some_left [] P more none = absurd (none refl)
 some_left (b ∷ bs) P more none = more b bs
 
--- what isn't read behind some lexemes isn't read before them
+-- what isn't read after some lexemes isn't read before them
 pub unread_behind : {p q : Part} {text mid : List ℕ} (e : Unread) → Reads p text q mid → IsUnread q mid e → IsUnread p text e
 unread_behind (Stopped stop) reads h = stops_behind reads h
 unread_behind OutOfMemory reads h = tt
@@ -200,12 +200,12 @@ no_more_here : {section : Section} {q : Part} {text rest : List ℕ} → begins 
 no_more_here blank (a_blank h) = false≢true (sym blank ∙ h)
 
 pub behind_section : (section : Section) (text behind gap rest : List ℕ) → IsListed section text → text ≡ 93 ∷ behind → IsSpan is_blank behind gap rest → (length rest ≡ 0 → ⊥)
-    → StopsBefore (before_end section) text rest BehindSection
+    → StopsBefore (before_end section) text rest AfterSection
 behind_section section text behind gap rest listed parts blanks some = record {
   part = Headed section;
   reads = headed section text behind gap rest listed parts blanks;
   stuck = λ q other. no_more_here blanks.stops;
-  is_fault = some_left rest (λ x. fault_at (Headed section) x ≡ Some BehindSection) (λ b bs. refl) some;
+  is_fault = some_left rest (λ x. fault_at (Headed section) x ≡ Some AfterSection) (λ b bs. refl) some;
 }
 
 -- ---- a precedence
@@ -271,7 +271,7 @@ no_blank_here blank (a_blank h) = false≢true (sym blank ∙ h)
 pub all_blanks : (p : Part) (gap : List ℕ) → AreBlanks gap → Reads p gap p []
 all_blanks p gap h = subst (λ (x : List ℕ). Reads p x p []) (append-nil gap) (blanks_read p gap [] h)
 
--- behind a text more than blanks stands
+-- after a text more than blanks stands
 closed_before : (rule : WrittenRule) (from : Part) (text trail gap rest : List ℕ) → Reads from text (Closed rule) trail → IsSpan is_blank trail gap rest → 0 < length rest → StopsBefore from text rest NotClosed
 closed_before rule from text trail gap rest reads blanks some = record {
   part = Closed rule;
@@ -364,7 +364,7 @@ no_from text lead here span none head written =
 
 -- ---- columns
 
--- the column of what ends some bytes is the one behind what stands before it
+-- the column of what ends some bytes is the one after what stands before it
 pub behind_front : (front rest line : List ℕ) → line ≡ front ++ rest → length line - length rest ≡ length front
 behind_front front rest line parts = let n : length line ≡ length front + length rest = ap length parts ∙ length-append front rest in omega (arith, n)
 

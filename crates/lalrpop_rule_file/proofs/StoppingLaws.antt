@@ -9,7 +9,7 @@ use Rattle.lalrpop_rule_file.specs.FileModes.{Said, Nothing, Heading, Define, Ru
 use Rattle.lalrpop_rule_file.specs.RuleFault.{StopsBefore, fault_at}
 use Rattle.lalrpop_rule_file.specs.RuleFile.{IsBlankOrComment, IsLineFault, LineSays, Says, without_return}
 use Rattle.lalrpop_rule_file.specs.declared.error.LineFault.{LineFault}
-use Rattle.lalrpop_rule_file.specs.declared.error.LineFault.TheVariants.{NotUtf8, NoName, NoMode, NoBracket, BehindSection, NoEquals, PrecedenceTooLarge, NoText, NoPattern, NoLiteral, NoFrom, NoTo, NotClosed}
+use Rattle.lalrpop_rule_file.specs.declared.error.LineFault.TheVariants.{NotUtf8, NoName, NoMode, NoBracket, AfterSection, NoEquals, PrecedenceTooLarge, NoText, NoPattern, NoLiteral, NoFrom, NoTo, NotClosed}
 use Rattle.lalrpop_rule_file.specs.Internal.Stops.{IsStopped, IsUnread}
 use Rattle.lalrpop_rule_file.specs.declared.stop.Unread.{Unread}
 use Rattle.lalrpop_rule_file.specs.declared.stop.Unread.TheVariants.{Stopped, OutOfMemory}
@@ -111,7 +111,7 @@ fault_of_line line rest content column fault utf8 is stops at =
     by NoName s parts place = (utf8, (_, (rest, (parts, (place, s)))))
     by NoMode s parts place = (utf8, (_, (rest, (parts, (place, s)))))
     by NoBracket s parts place = (utf8, (_, (rest, (parts, (place, s)))))
-    by BehindSection s parts place = (utf8, (_, (rest, (parts, (place, s)))))
+    by AfterSection s parts place = (utf8, (_, (rest, (parts, (place, s)))))
     by NoEquals s parts place = (utf8, (_, (rest, (parts, (place, s)))))
     by PrecedenceTooLarge s parts place = (utf8, (_, (rest, (parts, (place, s)))))
     by NoText s parts place = (utf8, (_, (rest, (parts, (place, s)))))
@@ -134,7 +134,7 @@ where_line line column NotUtf8 h = inl (refl, h)
 where_line line column NoName h = inr h
 where_line line column NoMode h = inr h
 where_line line column NoBracket h = inr h
-where_line line column BehindSection h = inr h
+where_line line column AfterSection h = inr h
 where_line line column NoEquals h = inr h
 where_line line column PrecedenceTooLarge h = inr h
 where_line line column NoText h = inr h

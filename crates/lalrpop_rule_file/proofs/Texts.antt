@@ -1,4 +1,4 @@
--- What is read of a text, behind what stands before it.
+-- What is read of a text, after what stands before it.
 use Rattle.std.proofs.Common.{◌≡◌, ℕ, List, [], ◌∷◌, ◌++◌, Option, Result, Ok, Err, sym, ap, subst, ◌∙◌}
 use Rattle.std.specs.Prelude.{IfOk, IfErr}
 use Rattle.lalrpop_rule_file.specs.Words.{IsSpan, is_blank}
@@ -19,9 +19,9 @@ pub here_behind : (front mid line : List ℕ) (r : Result LineText Stop) → lin
 here_behind front mid line (Ok m) parts is = ends_behind front mid m.here.now line parts is
 here_behind front mid line (Err e) parts is = tt
 
--- ---- behind a word
+-- ---- after a word
 
--- behind this word, whatever stands before it, the text is read to its end
+-- after this word, whatever stands before it, the text is read to its end
 abbrev pub ReadsIn : (Head → Option ℕ → Part) → List ℕ → LineText → Type 0
 ReadsIn word text m = (head : Head) (written : Option ℕ) → Reads (word head written) text (Closed (rule_of head written (text_of m.text))) []
 
@@ -42,7 +42,7 @@ pub stops_in_text : (word : Head → Option ℕ → Part) (rest text : List ℕ)
 stops_in_text word rest text (Ok m) is stops = tt
 stops_in_text word rest text (Err e) is stops = λ written before head. stops_behind (lexeme_then (is head written) nothing) (stops head written)
 
--- ---- behind blanks and an apostrophe
+-- ---- after blanks and an apostrophe
 
 pub in_quote : (word : Head → Option ℕ → Part) (text gap here inner : List ℕ) (r : Result LineText Stop) → IsSpan is_blank text gap here → here ≡ 39 ∷ inner → IfOk r (ReadsIn word (39 ∷ inner)) → IfOk r (ReadsIn word text)
 in_quote word text gap here inner (Ok m) blanks parts reads = λ head written.

@@ -11,7 +11,7 @@ use Rattle.std.proofs.lemmas.Bool.{false≢true}
 
 -- ---- parts
 
--- the bytes stand in no pattern behind the part, up to this one
+-- the bytes stand in no pattern after the part, up to this one
 abbrev pub NoneInParts : List ℕ → ℕ → List PartLine → ℕ → Type 0
 NoneInParts bytes i ps k = (j : ℕ) (p : PartLine) → i < j → j < k → slice_get ps j ≡ Some p → HasSubslice p.pattern.now bytes → ⊥
 

@@ -34,7 +34,7 @@ parts_above n (Rule rule ∷ said) = n ∷ parts_above n said
 
 -- ---- places in the line of a part
 
--- a name stands in this column, behind blanks at most
+-- a name stands in this column, after blanks at most
 pub record IsNameColumn (line name : List ℕ) (column : ℕ) : Type 0 where
   pub lead : List ℕ
   pub here : List ℕ

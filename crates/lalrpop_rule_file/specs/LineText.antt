@@ -1,6 +1,6 @@
 -- cases: proofs/Cases/LineText.antt
 -- The text of a rule: `'LITERAL'`; `"LITERAL"`, in which escapes stand for characters; `/PATTERN/`; `anycase 'LITERAL'`, the literal in
--- any case; or `from 'A' to 'B'`, which are the words from A up to the first B behind it.
+-- any case; or `from 'A' to 'B'`, which are the words from A up to the first B after it.
 use Rattle.std.specs.Prelude.{◌≡◌, ℕ, ◌<◌, Option, Some, None, List, ◌∷◌, ◌++◌, length, drop, codes}
 use Rattle.lalrpop_rule_file.specs.Words.{IsSpan, AreBlanks, is_blank}
 
@@ -53,7 +53,7 @@ pub record IsUpToTo (text a rest : List ℕ) : Type 0 where
   pub is_to : IsTo mark rest
   pub first : NoToBefore text (length a)
 
--- the line from where a text begins, behind the first delimiter: the text, its last delimiter, and blanks
+-- the line from where a text begins, after the first delimiter: the text, its last delimiter, and blanks
 abbrev pub BeginsText : Text → List ℕ → Type 0
 BeginsText (Quoted form inner) here = (trail : List ℕ) × ((here ≡ inner ++ (delimiter form ∷ trail)) × AreBlanks trail)
 BeginsText (AnyCase inner) here = (trail : List ℕ) × ((here ≡ inner ++ (codes "'" ++ trail)) × AreBlanks trail)

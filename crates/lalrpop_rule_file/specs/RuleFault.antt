@@ -5,7 +5,7 @@ use Rattle.std.specs.Char.{is_ascii_digit}
 use Rattle.lalrpop_rule_file.specs.Words.{begins}
 use Rattle.lalrpop_rule_file.specs.RuleLine.{Part, Start, Listing, Starred, Headed, Named, Entering, Equals, InAnyCase, From, Unjoined, Defining, Defines, Defined, Open, Closed, Lexeme, Reads}
 use Rattle.lalrpop_rule_file.specs.declared.error.LineFault.{LineFault}
-use Rattle.lalrpop_rule_file.specs.declared.error.LineFault.TheVariants.{NotUtf8, NoName, NoMode, NoBracket, BehindSection, NoEquals, PrecedenceTooLarge, NoText, NoPattern, NoLiteral, NoFrom, NoTo, NotClosed}
+use Rattle.lalrpop_rule_file.specs.declared.error.LineFault.TheVariants.{NotUtf8, NoName, NoMode, NoBracket, AfterSection, NoEquals, PrecedenceTooLarge, NoText, NoPattern, NoLiteral, NoFrom, NoTo, NotClosed}
 
 -- what is wrong if no lexeme follows this part, before this rest; nothing at the end of a section, a part or a rule
 abbrev pub fault_at : Part → List ℕ → Option LineFault
@@ -14,7 +14,7 @@ fault_at (Listing []) rest = Some NoMode
 fault_at (Listing (mode ∷ modes)) rest = Some NoBracket
 fault_at Starred rest = Some NoBracket
 fault_at (Headed section) [] = None
-fault_at (Headed section) (b ∷ rest) = Some BehindSection
+fault_at (Headed section) (b ∷ rest) = Some AfterSection
 fault_at (Named head) rest = Some NoEquals
 fault_at (Entering head entry) rest = Some NoMode
 fault_at (Equals head None) rest = Some (if begins is_ascii_digit rest then PrecedenceTooLarge else NoText)
@@ -42,16 +42,16 @@ pub record StopsBefore (from : Part) (text rest : List ℕ) (fault : LineFault) 
 abbrev pub reason_of : LineFault → List ℕ
 reason_of NotUtf8 = codes "this isn't UTF-8"
 reason_of NoName =
-    codes "a line is a rule, as NAME = 'TEXT' or NAME = /PATTERN/, a section, as [A], or a comment behind `#`; a name has ASCII letters, digits and `_`, and doesn't begin with a digit"
+    codes "a line is a rule, as NAME = 'TEXT' or NAME = /PATTERN/, a section, as [A], or a comment, as # TEXT; a name has ASCII letters, digits and `_`, and doesn't begin with a digit"
 reason_of NoMode = codes "the name of a mode is missing: ASCII letters, digits and `_`, not a digit first; in a section `[*]` is every mode"
 reason_of NoBracket = codes "`]` is missing: a section is `[A B]`, names of modes with blanks between them, or `[*]`"
-reason_of BehindSection = codes "nothing may stand behind the `]` of a section: a rule or a comment is a line of its own"
+reason_of AfterSection = codes "nothing may stand after the `]` of a section: a rule or a comment is a line of its own"
 reason_of NoEquals = codes "`=` is missing: a name has only ASCII letters, digits and `_`, and only `part`, or `skip`, then `mode M`, `push M` and `pop` may follow it"
 reason_of PrecedenceTooLarge = codes "the precedence is too large: at most 20 digits, and below 2^64"
-reason_of NoText = codes "a text is missing: 'LITERAL', \"LITERAL\", anycase 'LITERAL', /PATTERN/ or from 'A' to 'B'"
+reason_of NoText = codes "a text is missing: 'LITERAL', \"LITERAL\", anycase 'LITERAL', /PATTERN/ or from 'A' to 'B'; before it only the digits of a precedence may stand"
 reason_of NoPattern = codes "a part is a pattern in slashes"
-reason_of NoLiteral = codes "an apostrophe is missing behind `anycase`: write anycase 'TEXT'"
-reason_of NoFrom = codes "an apostrophe is missing behind `from`: write from 'A' to 'B'"
-reason_of NoTo = codes "`to` is missing behind the apostrophe that ends A: write from 'A' to 'B'"
+reason_of NoLiteral = codes "an apostrophe is missing after `anycase`: write anycase 'TEXT'"
+reason_of NoFrom = codes "an apostrophe is missing after `from`: write from 'A' to 'B'"
+reason_of NoTo = codes "`to` is missing after the apostrophe that ends A: write from 'A' to 'B'"
 reason_of NotClosed =
     codes "the line must end with the apostrophe, quote or slash of its text: a comment is a line of its own, and flags stand in the pattern, as in /(?i)a/"

@@ -193,7 +193,7 @@ IsLineFault line column fault =
     IsUtf8 line × ((front : List ℕ) × ((rest : List ℕ) × ((without_return line ≡ front ++ rest)
     × ((column ≡ (position_of (without_return line) (length front)).column) × StopsBefore Start (without_return line) rest fault))))
 
--- the name of a mode stands in this column of the line, behind `mode` or `push`; the actions before it lead into modes of the file, and it doesn't
+-- the name of a mode stands in this column of the line, after `mode` or `push`; the actions before it lead into modes of the file, and it doesn't
 pub record IsNoMode (modes : List (List ℕ)) (line : List ℕ) (column : ℕ) : Type 0 where
   pub front : List ℕ
   pub here : List ℕ

@@ -73,7 +73,7 @@ pub data Part : Type 0 where
   Starred : Part
   -- all of a section
   Headed : (section : Section) → Part
-  -- a rule's name, and words behind it
+  -- a rule's name, and words after it
   Named : (head : Head) → Part
   -- the word `mode` or `push` too
   Entering : (head : Head) (entry : Entry) → Part
@@ -97,7 +97,7 @@ pub data Part : Type 0 where
   Closed : (rule : WrittenRule) → Part
 
 -- `Lexeme p text q rest`: where a line is read as far as p, the text begins with a blank, or with what makes q of p; the rest is
--- behind it
+-- after it
 pub data Lexeme : Part → List ℕ → Part → List ℕ → Type 0 where
   a_blank : {p : Part} {b : ℕ} {rest : List ℕ} → is_blank b ≡ true → Lexeme p (b ∷ rest) p rest
   -- a section
@@ -123,7 +123,7 @@ pub data Lexeme : Part → List ℕ → Part → List ℕ → Type 0 where
   its_equals : {name rest : List ℕ} → Lexeme (Defining name) (codes "=" ++ rest) (Defines name) rest
   its_pattern : {name inner rest : List ℕ} → Lacks 47 rest → Lexeme (Defines name) (codes "/" ++ (inner ++ (codes "/" ++ rest))) (Defined (part_of name inner)) rest
   an_open_pattern : {name inner : List ℕ} → Lacks 47 inner → Lexeme (Defines name) (codes "/" ++ inner) Open []
-  -- behind the `=` of a rule
+  -- after the `=` of a rule
   a_precedence : {head : Head} {text digits rest : List ℕ} {n : ℕ} → IsSpan is_ascii_digit text digits rest → IsPrecedence digits n →
       Lexeme (Equals head None) text (Equals head (Some n)) rest
   -- a text ends at the last delimiter of the line; without a second one it is open, up to the end

@@ -23,7 +23,7 @@ StandsIn bytes (Pattern inner) = HasSubslice inner.now bytes
 StandsIn bytes (PatternWith inner parts) = HasSubslice inner.now bytes
 StandsIn bytes text = ⊥
 
--- they stand in the pattern of a part behind the one with this index
+-- they stand in the pattern of a part after the one with this index
 abbrev pub StandsInPart : List ℕ → ℕ → List PartLine → Type 0
 StandsInPart bytes i ps = (j : ℕ) × ((p : PartLine) × ((i < j) × (slice_get ps j ≡ Some p) × HasSubslice p.pattern.now bytes))
 
@@ -79,6 +79,6 @@ number_of (LiteralEmpty i) = i
 abbrev pub ComesBefore : Warning → Warning → Type 0
 ComesBefore v w = (kind_of v < kind_of w) ⊎ ((kind_of v ≡ kind_of w) × (number_of v < number_of w))
 
--- each comes before those behind it: so no two are alike
+-- each comes before those after it: so no two are alike
 abbrev pub AreInOrder : List Warning → Type 0
 AreInOrder ws = (i j : ℕ) (v w : Warning) → i < j → slice_get ws i ≡ Some v → slice_get ws j ≡ Some w → ComesBefore v w

@@ -28,8 +28,8 @@ pub enum LineFault {
     NoMode,
     /// There is no `]` after the modes of a section.
     NoBracket,
-    /// Something stands behind the `]` of a section.
-    BehindSection,
+    /// Something stands after the `]` of a section.
+    AfterSection,
     /// There is no `=` after the name and the words that may follow it, `part` among them.
     NoEquals,
     /// The precedence has more than 20 digits or doesn't fit 64 bits.
@@ -54,24 +54,24 @@ fn reason_of(fault: &LineFault) -> &'static str
     match fault {
         LineFault::NotUtf8 => "this isn't UTF-8",
         LineFault::NoName =>
-            "a line is a rule, as NAME = 'TEXT' or NAME = /PATTERN/, a section, as [A], or a comment behind `#`; a name has ASCII letters, digits and `_`, and doesn't begin with a digit",
+            "a line is a rule, as NAME = 'TEXT' or NAME = /PATTERN/, a section, as [A], or a comment, as # TEXT; a name has ASCII letters, digits and `_`, and doesn't begin with a digit",
         LineFault::NoMode =>
             "the name of a mode is missing: ASCII letters, digits and `_`, not a digit first; in a section `[*]` is every mode",
         LineFault::NoBracket =>
             "`]` is missing: a section is `[A B]`, names of modes with blanks between them, or `[*]`",
-        LineFault::BehindSection =>
-            "nothing may stand behind the `]` of a section: a rule or a comment is a line of its own",
+        LineFault::AfterSection =>
+            "nothing may stand after the `]` of a section: a rule or a comment is a line of its own",
         LineFault::NoEquals =>
             "`=` is missing: a name has only ASCII letters, digits and `_`, and only `part`, or `skip`, then `mode M`, `push M` and `pop` may follow it",
         LineFault::PrecedenceTooLarge =>
             "the precedence is too large: at most 20 digits, and below 2^64",
         LineFault::NoText =>
-            "a text is missing: 'LITERAL', \"LITERAL\", anycase 'LITERAL', /PATTERN/ or from 'A' to 'B'",
+            "a text is missing: 'LITERAL', \"LITERAL\", anycase 'LITERAL', /PATTERN/ or from 'A' to 'B'; before it only the digits of a precedence may stand",
         LineFault::NoPattern => "a part is a pattern in slashes",
-        LineFault::NoLiteral => "an apostrophe is missing behind `anycase`: write anycase 'TEXT'",
-        LineFault::NoFrom => "an apostrophe is missing behind `from`: write from 'A' to 'B'",
+        LineFault::NoLiteral => "an apostrophe is missing after `anycase`: write anycase 'TEXT'",
+        LineFault::NoFrom => "an apostrophe is missing after `from`: write from 'A' to 'B'",
         LineFault::NoTo =>
-            "`to` is missing behind the apostrophe that ends A: write from 'A' to 'B'",
+            "`to` is missing after the apostrophe that ends A: write from 'A' to 'B'",
         LineFault::NotClosed =>
             "the line must end with the apostrophe, quote or slash of its text: a comment is a line of its own, and flags stand in the pattern, as in /(?i)a/",
     }

@@ -136,7 +136,7 @@ pub fn without_mark(bytes: &[u8]) -> &[u8]
 /// a section names its modes, and a rule above the first section names INITIAL. If nothing names a mode, INITIAL is the only
 /// one.
 ///
-/// The text ends at the last delimiter of the line, so it may contain delimiters too, and no comment stands behind it:
+/// The text ends at the last delimiter of the line, so it may contain delimiters too, and no comment stands after it:
 /// `A = 'x' # 'y'` is the literal `x' # 'y`. In `"LITERAL"` the escapes of patterns stand for their characters: `"\n"` is a
 /// line feed, and `"\\"` a backslash. Between apostrophes nothing is escaped. `anycase 'LITERAL'` is the literal in any case:
 /// after `SELECT = anycase 'select'` also `Select` is a SELECT. In `from 'A' to 'B'`, A ends at the first `' to '`, where one
@@ -175,7 +175,7 @@ pub fn without_mark(bytes: &[u8]) -> &[u8]
 /// - for `NoName`, after the blanks at the front;
 /// - for `NoMode`, where the name of a mode should begin, after `mode`, `push` or `[` and blanks;
 /// - for `NoBracket`, after the names of a section or its `*`, and blanks;
-/// - for `BehindSection`, at the first nonblank after the `]`;
+/// - for `AfterSection`, at the first nonblank after the `]`;
 /// - for `NoEquals`, after the name, `skip` and the actions, or `part`, and blanks;
 /// - for `PrecedenceTooLarge`, at its first digit;
 /// - for `NoText`, where the text should begin;

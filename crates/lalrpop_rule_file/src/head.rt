@@ -33,7 +33,7 @@ pub(crate) fn name_and_rest(line: &str) -> Result<(LineName<'_>, &str), Stop<'_>
     Ok((LineName { name, here }, rest))
 }
 
-// Whether `skip` follows a name, and what is behind it.
+// Whether `skip` follows a name, and what is after it.
 fn mark_at(text: &str) -> (bool, &str)
     requires { begins is_blank text.now ≡ false }
     ensures marked { (name : List ℕ) → Reads (Named (bare name)) text.now

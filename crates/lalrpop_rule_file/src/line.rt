@@ -53,7 +53,7 @@ fn says_nothing(line: &str) -> bool
     behind(here, '#').is_some()
 }
 
-// What follows the `[` of a section, which may stand behind blanks.
+// What follows the `[` of a section, which may stand after blanks.
 fn behind_bracket(line: &str) -> Option<&str>
     ensures some { IfSome result (λ rest. (lead : List ℕ)
         × IsSpan is_blank line.now lead (codes "[" ++ rest.now)) }

@@ -1,4 +1,4 @@
-//! A part: what stands behind its name and the word `part`.
+//! A part: what stands after its name and the word `part`.
 ghost use Rattle.std.specs.Prelude.{◌≡◌, ◌++◌, ℕ, List, [], codes, IfOk, IfErr};
 ghost use Rattle.lalrpop_rule_file.specs.RuleLine.{Defining, Defines, Defined, Reads};
 ghost use Rattle.lalrpop_rule_file.specs.RuleFault.{StopsBefore};
@@ -12,7 +12,7 @@ use crate::stop::Stop;
 use crate::word::behind;
 use crate::written::{Form, LineName, LinePart};
 
-// The pattern behind its first slash.
+// The pattern after its first slash.
 fn slashed<'text>(name: LineName<'text>, inner: &'text str) -> Result<LinePart<'text>, Stop<'text>>
     ensures part { IfOk result (λ part.
         Reads (Defines name.entry.name.now) (codes "/" ++ inner.now) (Defined (part_of part)) []) }
@@ -29,7 +29,7 @@ fn slashed<'text>(name: LineName<'text>, inner: &'text str) -> Result<LinePart<'
     })
 }
 
-// The pattern in slashes behind the `=`.
+// The pattern in slashes after the `=`.
 fn pattern_behind<'text>(
     name: LineName<'text>,
     right: &'text str,

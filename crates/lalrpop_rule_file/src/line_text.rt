@@ -87,7 +87,7 @@ pub(crate) fn closed(inner: &str, form: Form) -> Result<&str, Stop<'_>>
     Ok(text)
 }
 
-// The text of this form behind its first delimiter.
+// The text of this form after its first delimiter.
 fn quoted<'text>(form: Form, inner: &'text str) -> Result<LineText<'text>, Stop<'text>>
     ensures quoted { IfOk result (λ m. (written : Option ℕ)
         → ReadsText written (delimiter (form_of form) ∷ inner.now) (text_of m.text)) }
@@ -103,7 +103,7 @@ fn quoted<'text>(form: Form, inner: &'text str) -> Result<LineText<'text>, Stop<
     })
 }
 
-// A literal in any case, from behind its first apostrophe.
+// A literal in any case, from after its first apostrophe.
 fn in_any_case(inner: &str) -> Result<LineText<'_>, Stop<'_>>
     ensures any_case { IfOk result (λ m. (head : Head) (written : Option ℕ)
         → Reads (InAnyCase head written) (codes "'" ++ inner.now)
@@ -120,7 +120,7 @@ fn in_any_case(inner: &str) -> Result<LineText<'_>, Stop<'_>>
     })
 }
 
-// The text behind the word `anycase`.
+// The text after the word `anycase`.
 fn any_case(text: &str) -> Result<LineText<'_>, Stop<'_>>
     ensures any_case { IfOk result (λ m. (head : Head) (written : Option ℕ)
         → Reads (InAnyCase head written) text.now
@@ -180,7 +180,7 @@ fn from_apostrophe(inner: &str) -> &str
     }
 }
 
-// A and B, from behind the apostrophe with which A begins.
+// A and B, from after the apostrophe with which A begins.
 fn joined(inner: &str) -> Result<LineText<'_>, Stop<'_>>
     ensures joined { IfOk result (λ m. (head : Head) (written : Option ℕ)
         → Reads (From head written) (codes "'" ++ inner.now)
@@ -203,7 +203,7 @@ fn joined(inner: &str) -> Result<LineText<'_>, Stop<'_>>
     })
 }
 
-// The text behind the word `from`.
+// The text after the word `from`.
 fn from_to(text: &str) -> Result<LineText<'_>, Stop<'_>>
     ensures joined { IfOk result (λ m. (head : Head) (written : Option ℕ)
         → Reads (From head written) text.now

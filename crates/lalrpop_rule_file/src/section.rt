@@ -37,7 +37,7 @@ fn mode_names<'text>(
     Ok((modes, rest))
 }
 
-// The modes behind the `[` of a section, and what follows them.
+// The modes after the `[` of a section, and what follows them.
 fn modes_at<'text>(
     alloc: Global,
     text: &'text str,
@@ -82,7 +82,7 @@ fn ended<'text>(section: &Section<'_>, text: &'text str) -> Result<(), Stop<'tex
     let (_, rest) = split_front(behind, Class::Blank);
     if !rest.is_empty() {
         return Err(Stop {
-            fault: LineFault::BehindSection,
+            fault: LineFault::AfterSection,
             rest,
         });
     }

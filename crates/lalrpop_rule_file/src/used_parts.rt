@@ -36,7 +36,7 @@ fn stands_in(text: &RuleText<'_>, reference: &str) -> bool
     }
 }
 
-/// Whether the reference stands in the pattern of a part behind this one.
+/// Whether the reference stands in the pattern of a part after this one.
 pub(crate) fn stands_in_part(parts: &[PartLine<'_>], part: usize, reference: &str) -> bool
     requires within { part < length parts.now }
     ensures { IsTrue result ↔ StandsInPart reference.now part parts.now }

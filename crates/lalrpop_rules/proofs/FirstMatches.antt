@@ -49,7 +49,7 @@ within_char ts text rest rest2 at at2 c n u h e l above below m =
     (omega arith) (omega arith) in
     omega (arith, ap length whole, later.place)
 
--- where nothing matches at the next character either, nothing matches before the one behind it
+-- where nothing matches at the next character either, nothing matches before the one after it
 pub before_next : (ts : List Tree) (ps text rest rest2 : List ℕ) (at at2 c : ℕ) → IsUtf8 text → IsCut text at rest → rest ≡ encode_utf8 c ++ rest2
     → at2 ≡ at + length (encode_utf8 c) → NoMatchBefore ts text at → IsLongest ts ps rest None → NoMatchBefore ts text at2
 before_next ts ps text rest rest2 at at2 c u h e l before none n below m = by_order (cases_order n at)

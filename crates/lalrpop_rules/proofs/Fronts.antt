@@ -29,7 +29,7 @@ fault_to_match ts rest slice n u m before some is =
       ends = inr (subst (λ (k : ℕ). MatchesAt ts rest k) (sym size) m);
     }
 
--- behind a prefix of the rest the text may be cut
+-- after a prefix of the rest the text may be cut
 pub boundary_behind : (text : List ℕ) (at : ℕ) (p : List ℕ) → IsCharBoundary text at → IsUtf8 (drop at text) → IsPrefix p (drop at text)
     → IsCharBoundary text (at + length p)
 boundary_behind text at p here u b = IsCharBoundary-from_rest text at (length p) here.0 (cut_behind p (drop at text) u b)

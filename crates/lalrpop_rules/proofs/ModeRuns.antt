@@ -76,7 +76,7 @@ pub act-within : (n : ℕ) (acts : List Action) (s t : Stack) → t ≡ act_all 
     → EachMode (λ m. m < n) t
 act-within n acts s t is lead there = subst (λ (u : Stack). EachMode (λ m. m < n) u) (sym is) (act-keeps (λ m. m < n) acts s lead there)
 
--- the text may be cut behind a piece
+-- the text may be cut after a piece
 pub cut-behind : (ts : List Tree) (ps : List ℕ) (skips : List Bool) (text : List ℕ) (at : ℕ) (x : Item) → IsUtf8 text → IsCharBoundary text at
     → IsPiece ts ps skips text at x → IsCharBoundary text (at + length (slice_of x))
 cut-behind ts ps skips text at x u here is = boundary_behind text at (slice_of x) here (IsUtf8-drop text at u here) (is_front ts ps skips text at x is)

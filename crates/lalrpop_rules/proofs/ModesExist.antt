@@ -1,4 +1,4 @@
--- A text has a list of pieces by rules with modes, and a stack behind it.
+-- A text has a list of pieces by rules with modes, and a stack after it.
 use Rattle.std.proofs.Common.{◌≡◌, ◌≢◌, ℕ, zero, suc, ◌+◌, ◌<◌, ◌≤◌, Bool, List, [], ◌∷◌, length, drop, arith, refl, sym}
 use Rattle.std.specs.Str.{IsUtf8}
 use Rattle.std.proofs.lemmas.List.{nil_from_length}

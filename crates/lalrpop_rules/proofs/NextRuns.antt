@@ -34,7 +34,7 @@ fewer_behind_piece s t x u on g =
     let still : t.is_over ≡ false = ap (λ (w : ModeCut). w.is_over) g.1 ∙ on in
     omega (arith, fewer_chars s t x u g, left_on s on, left_on t still)
 
--- none is left behind an error
+-- none is left after an error
 pub fewer_behind_error : (s : ModeCut) → IsUtf8 (left_text s) → s.is_over ≡ false → left_text s ≢ [] → items_left (record s { is_over = true }) < items_left s
 fewer_behind_error s u on some = omega (arith, left_on s on, some_char (left_text s) u some)
 

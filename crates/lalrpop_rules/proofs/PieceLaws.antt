@@ -31,7 +31,7 @@ is_some ts ps skips text at (Fault start slice) is = is.1.some
 pub rest_some : (p rest : List ℕ) → IsPrefix p rest → p ≢ [] → rest ≢ []
 rest_some p rest b some none = omega (arith, some_length p some, ap length b.1.0, length-append p b.0, ap length none)
 
--- what is left behind a prefix of the rest
+-- what is left after a prefix of the rest
 pub split_at : (text : List ℕ) (at : ℕ) (p : List ℕ) → IsPrefix p (drop at text) → drop at text ≡ p ++ drop (at + length p) text
 split_at text at p b =
     let behind : b.0 ≡ drop (length p) (drop at text) = sym (ap (drop (length p)) b.1.0 ∙ drop_at p b.0 (length p) refl) in
@@ -52,7 +52,7 @@ fewer_left text at p u b some =
 
 -- ---- what holds of the pieces of a text
 
--- no fault stands right behind a fault
+-- no fault stands right after a fault
 pub two_faults : (ts : List Tree) (text : List ℕ) (at : ℕ) (p q : List ℕ) → IsFault ts (drop at text) p → IsFault ts (drop (at + length p) text) q → ⊥
 two_faults ts text at p q first second = elim first.ends [
   | inl whole ↦ rest_some q (drop (at + length p) text) second.front second.some

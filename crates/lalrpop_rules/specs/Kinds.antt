@@ -41,7 +41,7 @@ one_tree [] = alternation (trees [])
 one_tree (t ∷ []) = t
 one_tree (t ∷ u ∷ ts) = alternation (trees (t ∷ u ∷ ts))
 
--- what the first rule of the lists has, behind rules of other kinds: the trees of its kind; none, if it isn't at work or isn't the first of its kind
+-- what the first rule of the lists has, after rules of other kinds: the trees of its kind; none, if it isn't at work or isn't the first of its kind
 abbrev pub gathered : List (Option ℕ) → Option ℕ → List (Option ℕ) → List Tree → List Tree
 gathered before None os ts = []
 gathered before (Some k) os ts = if list_any (λ o. is_kind k o) before then [] else trees_of_kind k os ts

@@ -35,7 +35,7 @@ edges_are (t ∷ ts) other = ap (λ (qs : List ℕ). t.1 ∷ qs) (edges_are ts o
 pub test_in_turn : (old now new : List ℕ) (ts : List (Range × ℕ)) (t : Range × ℕ) → AreMetInTurn old (targets_of ts) now → AreMetInTurn now (t.1 ∷ []) new → AreMetInTurn old (targets_of (ts ++ t ∷ [])) new
 test_in_turn old now new ts t g h = subst (λ (qs : List ℕ). AreMetInTurn old qs new) (sym (targets_push ts t)) (next_then (targets_of ts) (t.1 ∷ []) (length old) (length now) (length new) g h)
 
--- behind the tests the other edge
+-- after the tests the other edge
 pub edges_in_turn : (old now new : List ℕ) (ts : List (Range × ℕ)) (other : ℕ) → AreMetInTurn old (targets_of ts) now → AreMetInTurn now (other ∷ []) new → AreMetInTurn old (edges_of ts other) new
 edges_in_turn old now new ts other g h = subst (λ (qs : List ℕ). AreMetInTurn old qs new) (sym (edges_are ts other)) (next_then (targets_of ts) (other ∷ []) (length old) (length now) (length new) g h)
 

@@ -218,7 +218,7 @@ reached_start d classes numbers states are numbered met n first = record {
   reached = λ i l. ([], sym (met.since i (omega arith) l));
 }
 
--- a value behind a word that leads to p
+-- a value after a word that leads to p
 pub led_further : (d : List Row) (p q : ℕ) → (w : List ℕ) × (after d w ≡ p) → LeadsTo d p q → (w : List ℕ) × (after d w ≡ q)
 led_further d p q (w, e) (c, led) = (w ++ c ∷ [], after_push d w c ∙ ap (λ r. step d r c) e ∙ led)
 

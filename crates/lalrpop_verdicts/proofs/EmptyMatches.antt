@@ -66,7 +66,7 @@ all_next ts i t l is =
     subst (λ us. MatchInTurn (trees us) [] ↔ (Matches t [] × MatchInTurn (trees (drop (i + 1) ts)) [])) (sym (from_place ts i t l is))
     (λ m. then_empty (Matches t) (MatchInTurn (trees (drop (i + 1) ts))) m, λ m. ([], [], (refl, m.0, m.1)))
 
--- where the tree at the place matches the empty word, all do just if those behind it do; and where it doesn't, not all do
+-- where the tree at the place matches the empty word, all do just if those after it do; and where it doesn't, not all do
 pub all_go_on : (ts : List Tree) (i : ℕ) (t : Tree) → i < length ts → t ≡ get_or ts i t → Matches t []
     → MatchInTurn (trees (drop i ts)) [] ↔ MatchInTurn (trees ts) [] → MatchInTurn (trees (drop (i + 1) ts)) [] ↔ MatchInTurn (trees ts) []
 all_go_on ts i t l is m same = let next = all_next ts i t l is in (λ h. same.0 (next.1 (m, h)), λ h. (next.0 (same.1 h)).1)

@@ -41,7 +41,7 @@ at_first t ts o a = leads_first t ts o t.0.start (omega arith, first_some t ts a
 behind_first : (t : Range × ℕ) (ts : List (Range × ℕ)) (o c : ℕ) → t.0.end < c → edge_target (t ∷ ts) o c ≡ edge_target ts o c
 behind_first t ts o c l = leads_later t ts o c (λ h. omega (arith, l, h.1))
 
--- the value right behind a test leads elsewhere
+-- the value right after a test leads elsewhere
 next_elsewhere : (t : Range × ℕ) (ts : List (Range × ℕ)) (o : ℕ) → AreAscendingTests (t ∷ ts) → AreFewestTests o (t ∷ ts) → ¬ (edge_target ts o (t.0.end + 1) ≡ t.1)
 next_elsewhere t [] o a few e = few (sym e)
 next_elsewhere t (v ∷ ts) o a few e =
@@ -116,7 +116,7 @@ module _ (X : ℕ → ℕ → Type 0) (right : (a b c : ℕ) → X a b → X a c
             (λ (l : c ≤ t.0.end). subst (X (edge_target ts o c)) (sym (after_first u us n c b (omega (arith, l, ends)))) (subst (λ q. X q n) (sym (after_first t ts o c a l)) others))
             (cases_lt t.0.end c)
 
-  -- rows of which the tests match, in automata that have met the same states before, are equal, and the same are met behind them
+  -- rows of which the tests match, in automata that have met the same states before, are equal, and the same are met after them
   same_target : (a b m : ℕ) → X a b → ((i : ℕ) → i < m → X i i) → (a < m) ⊎ (a ≡ m) → (b < m) ⊎ (b ≡ m) → a ≡ b
   same_target a b m x known (inl l) there = right a a b (known a l) x
   same_target a b m x known (inr e) (inl l) = left a b b x (known b l)

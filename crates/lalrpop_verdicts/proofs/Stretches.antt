@@ -15,7 +15,7 @@ pub along_edge : (ts : List (Range × ℕ)) (place other value : ℕ) (t : Range
     → (c : ℕ) → value ≤ c → c ≤ t.0.end → edge_target ts other c ≡ t.1
 along_edge ts place other value t up at l c a b = leads_at ts up place other c t at (omega arith, b)
 
--- before the edge at the place, or behind all edges
+-- before the edge at the place, or after all edges
 pub between_edges : (ts : List (Range × ℕ)) (place other value last : ℕ) → AreAscendingTests ts → EndBefore ts place value → ((t : Range × ℕ) → slice_get ts place ≡ Some t → last < t.0.start)
     → (c : ℕ) → value ≤ c → c ≤ last → edge_target ts other c ≡ other
 between_edges ts place other value last up passed behind c a b =

@@ -119,7 +119,7 @@ module _ (us : List Tree) (i : ℕ) (o : List Row) (own : IsOwn us i o) where
 
 -- ---- one verdict after the other
 
--- the verdicts so far are right, and the rest has the least words of the trees behind them
+-- the verdicts so far are right, and the rest has the least words of the trees after them
 pub record AreVerdictsTo (d : List Row) (ts : List Tree) (found : List Verdict) (rest : List (Option (Vec ℕ Global))) : Type 0 where
   pub all : length found + length rest ≡ length ts
   pub each : (ps : List ℕ) → Recognizes d ts ps → (i : ℕ) (v : Verdict) → slice_get found i ≡ Some v → IsVerdict ts ps i v

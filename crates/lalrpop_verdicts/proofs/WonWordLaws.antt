@@ -227,7 +227,7 @@ pub entry_within : (f : ℕ → Option ℕ) (n : ℕ) (es done : List (ℕ × �
     → All (λ e. lookup (is_at (nat_cmp e.0)) es ≡ Some e.1) es → e.1 < n
 entry_within f n es done e rest same firsts each = (entry_first f n es e firsts each (entry_among es done e rest same)).0
 
--- the next entry is behind those so far
+-- the next entry is after those so far
 pub entry_turn : (es done s t : List (ℕ × ℕ)) (e : ℕ × ℕ) → done ++ s ≡ es → s ≡ e ∷ t → (done ++ e ∷ []) ++ t ≡ es
 entry_turn es done s t e h turn = append_assoc done (e ∷ []) t ∙ ap (λ x. done ++ x) (sym turn) ∙ h
 

@@ -128,7 +128,7 @@ fn joined_edges(
     Ok(edges)
 }
 
-// Adds an edge behind the others. If it touches the last one, and both lead into one class, they become one edge.
+// Adds an edge after the others. If it touches the last one, and both lead into one class, they become one edge.
 fn add_joined(
     edges: &mut Vec<(Test, DfaStateIndex)>,
     classes: &[usize],
@@ -154,7 +154,7 @@ fn add_joined(
     Ok(())
 }
 
-// Whether the test begins right behind the last one.
+// Whether the test begins right after the last one.
 #[inline(always)]
 fn touches(last: &Test, test: &Test) -> bool
     ensures { IsTrue result ↔ (test.now.start ≡ last.now.end + 1) }

@@ -417,7 +417,7 @@ fn warnings_stand_before_the_answer(rt: HostRuntime) {
         (
             &["bad.rules", "g"],
             b"",
-            b"tokens: bad.rules:2:4: a text is missing: 'LITERAL', \"LITERAL\", anycase 'LITERAL', /PATTERN/ or from 'A' to 'B'\n    A =\n       ^\n",
+            b"tokens: bad.rules:2:4: a text is missing: 'LITERAL', \"LITERAL\", anycase 'LITERAL', /PATTERN/ or from 'A' to 'B'; before it only the digits of a precedence may stand\n    A =\n       ^\n",
             3,
         ),
     ];

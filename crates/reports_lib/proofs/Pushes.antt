@@ -10,7 +10,7 @@ six_pushed s a b c d e f p1 p2 p3 p4 p5 p6 =
     ∙ ap (λ (x : List ℕ). x ++ (c ++ (d ++ (e ++ f)))) p2 ∙ append_assoc _ b (c ++ (d ++ (e ++ f)))
     ∙ ap (λ (x : List ℕ). x ++ (b ++ (c ++ (d ++ (e ++ f))))) p1 ∙ append_assoc s a (b ++ (c ++ (d ++ (e ++ f))))
 
--- behind the beginning of a message
+-- after the beginning of a message
 pub four_pushed : (t p a m b : List ℕ) {s1 s2 s3 s4 : List ℕ} → s1 ≡ t ++ p → s2 ≡ s1 ++ a → s3 ≡ s2 ++ m → s4 ≡ s3 ++ b → s4 ≡ t ++ (p ++ (a ++ (m ++ b)))
 four_pushed t p a m b p1 p2 p3 p4 =
     p4 ∙ ap (λ (x : List ℕ). x ++ b) p3 ∙ append_assoc _ m b

@@ -60,7 +60,7 @@ abbrev pub difference_lines : List ℕ → ModeRules → List (List ℕ) → Lis
 difference_lines old r modes new s others m [] = []
 difference_lines old r modes new s others m (f ∷ fs) = difference_line old r modes new s others m f ++ difference_lines old r modes new s others (m + 1) fs
 
--- names, each behind a space
+-- names, each after a space
 abbrev pub spaced : List (List ℕ) → List ℕ
 spaced names = flat_map (λ name. codes " " ++ name) names
 

@@ -137,7 +137,7 @@ fn push_mode(
     }
 }
 
-// Names, each behind a space.
+// Names, each after a space.
 fn push_names(text: &mut String, names: &[String]) -> Result<(), AllocError>
     ensures { OnOk result (string_bytes text.new ≡ string_bytes text.old
         ++ spaced (map string_bytes names.now)) }

@@ -27,14 +27,17 @@ pub(crate) fn syntax_text(kind: SyntaxKind) -> &'static str
         SyntaxKind::EscapeUnrecognized => "this escape is unknown",
         SyntaxKind::EscapeHex => "this number names no character",
         SyntaxKind::UnicodeSetUnknown => "there is no set of characters by this name",
-        SyntaxKind::RepetitionMissing => "there is nothing to repeat before this operator",
-        SyntaxKind::RepetitionCount => "this count is malformed, too great or out of order",
+        SyntaxKind::RepetitionMissing =>
+            "there is nothing to repeat before this operator: the character itself has a backslash before it",
+        SyntaxKind::RepetitionCount =>
+            "this count is malformed, too great or out of order: a count is {2}, {2,} or {0,2}, a part {NAME}, and a brace itself \\{",
         SyntaxKind::Flag => "this flag is unknown, missing or written twice",
         SyntaxKind::GroupName => "this group name is malformed, missing or taken",
         SyntaxKind::UnsupportedLookAround => "patterns have no look-around",
         SyntaxKind::UnsupportedBackreference => "patterns have no references to groups",
         SyntaxKind::NestLimitExceeded => "groups, brackets and repetitions nest too deeply",
-        SyntaxKind::PartUnknown => "there is no part by this name",
+        SyntaxKind::PartUnknown =>
+            "there is no part by this name above: a part is a line NAME part = /PATTERN/",
         SyntaxKind::PartUnderFlag => "a part stands only where no flag is on",
         SyntaxKind::PartName => "this name of a part is malformed",
     }

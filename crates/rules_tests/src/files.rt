@@ -90,8 +90,8 @@ A popper = 'x' => 1 3 NoEquals
 [A, B] => 1 3 NoBracket
 [A *] => 1 4 NoBracket
 [* A] => 1 4 NoBracket
-[A] B => 1 5 BehindSection
-[*] # all => 1 5 BehindSection
+[A] B => 1 5 AfterSection
+[*] # all => 1 5 AfterSection
 A part => 1 7 NoEquals
 A part 'x' => 1 8 NoEquals
 A parts = /x/ => 1 3 NoEquals
@@ -289,9 +289,9 @@ fn bad_lines_are_named(rt: HostRuntime) {
 }
 
 const IN_WORDS: &str = r#"
-1 => line 1, column 1: a line is a rule, as NAME = 'TEXT' or NAME = /PATTERN/, a section, as [A], or a comment behind `#`; a name has ASCII letters, digits and `_`, and doesn't begin with a digit
-A = x => line 1, column 5: a text is missing: 'LITERAL', "LITERAL", anycase 'LITERAL', /PATTERN/ or from 'A' to 'B'
-A = anycase x => line 1, column 13: an apostrophe is missing behind `anycase`: write anycase 'TEXT'
+1 => line 1, column 1: a line is a rule, as NAME = 'TEXT' or NAME = /PATTERN/, a section, as [A], or a comment, as # TEXT; a name has ASCII letters, digits and `_`, and doesn't begin with a digit
+A = x => line 1, column 5: a text is missing: 'LITERAL', "LITERAL", anycase 'LITERAL', /PATTERN/ or from 'A' to 'B'; before it only the digits of a precedence may stand
+A = anycase x => line 1, column 13: an apostrophe is missing after `anycase`: write anycase 'TEXT'
 A = /a/i => line 1, column 8: the line must end with the apostrophe, quote or slash of its text: a comment is a line of its own, and flags stand in the pattern, as in /(?i)a/
 "#;
 

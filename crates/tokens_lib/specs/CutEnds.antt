@@ -17,12 +17,12 @@ use Rattle.tokens_lib.specs.declared.cut_end.CutEnd.TheVariants.{Whole, Stopped,
 use Rattle.tokens_lib.specs.declared.cut_end.TextError.{TextError}
 use Rattle.tokens_lib.specs.declared.cut_end.TextError.TheVariants.{NotText, Read}
 
--- the text that bytes are, as far as they are one: behind a byte order mark, up to a character that isn't whole, or a byte that is of none; and
+-- the text that bytes are, as far as they are one: after a byte order mark, up to a character that isn't whole, or a byte that is of none; and
 -- the bytes that are left
 abbrev pub IsTextOf : List ℕ → List ℕ → List ℕ → Type 0
 IsTextOf bytes text left = (without_mark bytes ≡ text ++ left) × (IsUtf8 text × NoCharacter left)
 
--- behind a byte order mark, the bytes begin with the text; and the bytes that are left
+-- after a byte order mark, the bytes begin with the text; and the bytes that are left
 abbrev pub BeginsWith : List ℕ → List ℕ → List ℕ → Type 0
 BeginsWith bytes text left = (without_mark bytes ≡ text ++ left) × IsUtf8 text
 

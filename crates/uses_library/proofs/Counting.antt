@@ -12,7 +12,7 @@ pub item_more : {S A : Type 0} (gives : S → Option A → S → Type 0) (s r t 
 item_more {S} {A} gives s r t u xs o x same y is g =
     Yields-more gives s xs t x u (subst (λ (r : S). Yields gives r xs t) same y) (subst (λ (o : Option A). gives t o u) is g)
 
--- no item behind those that there are
+-- no item after those that there are
 pub no_more : {S A : Type 0} (gives : S → Option A → S → Type 0) (s r t u : S) (xs : List A) (o : Option A) → r ≡ s → Yields gives r xs t → o ≡ None
     → gives t o u → Drains gives s xs
 no_more {S} {A} gives s r t u xs o same y is g = (u, (t, subst (λ (r : S). Yields gives r xs t) same y, subst (λ (o : Option A). gives t o u) is g))

@@ -30,7 +30,7 @@ whole_text l m r empty text c before after first none edited paid =
     subst (λ (n : ℕ). after ≤ before + 270 * n + open_in_all r * (2 * n + 256)) size
     (subst (λ (q : ModeRules). after ≤ before + 270 * length m.text + open_in_all q * (2 * length m.text + 256)) rules cost)
 
--- where nothing from a place in it up to a place behind it begins a word, no more is read
+-- where nothing from a place in it up to a place after it begins a word, no more is read
 pub read_no_further : (r : ModeRules) (text : List ℕ) (from to far : ℕ)
     → ((mode k behind : ℕ) → from ≤ k → k ≤ to → to < behind → ¬ ReadsTo (trees_in r mode) text k behind) → IsReadTo r text from to far → far ≡ to
 read_no_further r text from to far none is = by_place is.reads

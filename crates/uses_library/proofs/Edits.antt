@@ -30,7 +30,7 @@ counts_of xs ys c is =
     let fits_too = is.inserted in
     omega (arith, as_many, length-drop (c.first + c.removed) xs, length-drop (c.first + c.inserted) ys, fits, fits_too)
 
--- a piece that reaches a place behind its end reads up to there
+-- a piece that reaches a place after its end reads up to there
 pub reads_on : (ts : List Tree) (text : List ℕ) (place : ℕ) (x : Item) → Reaches ts text place x → start_of x + length (slice_of x) < place
     → (at : ℕ) × ((start_of x ≤ at) × (at ≤ start_of x + length (slice_of x)) × ReadsTo ts text at place)
 reads_on ts text place (Token token) (inl within) later = absurd (omega (arith, within, later))
@@ -68,7 +68,7 @@ module _ (l : Lexed) (ys : List Item) (are : (xs : List Item) → ArePiecesOf l 
       subst (λ (m : ℕ). AreSame (take m xs) (ys ++ y ∷ [])) more
       (one_more xs ys y (are xs all) (subst (λ (m : ℕ). IsSomeAnd (slice_get xs m) (λ x. IsSame y x)) count (is xs all)))
 
-  -- and none behind them
+  -- and none after them
   pub handed_all : (n : ℕ) → n ≡ length ys → HasPieces l n → (xs : List Item) → ArePiecesOf l xs → AreSame xs ys
   handed_all n count many xs all =
       subst (λ (zs : List Item). AreSame zs ys) (ap (λ (m : ℕ). take m xs) (sym count ∙ sym (many xs all)) ∙ take-length xs) (are xs all)

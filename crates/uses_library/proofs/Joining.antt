@@ -55,7 +55,7 @@ same_joined (x ∷ xs) [] are = absurd are
 same_joined (x ∷ xs) (y ∷ ys) are =
     ap (λ (p : List ℕ). p ++ joined xs) (same_slice x y are.0) ∙ ap (λ (t : List ℕ). slice_of y ++ t) (same_joined xs ys are.1)
 
--- a fault that begins behind what was given is there in the whole text
+-- a fault that begins after what was given is there in the whole text
 pub fault_at : (r : ModeRules) (text bytes : List ℕ) (xs : List Item) (c : Chunked) (at : ℕ) → Came r text xs c → c.is_ended ≡ false → BeginsFault c → bytes ≡ joined xs
     → at ≡ length bytes → (back : List ℕ) (ys : List Item) (end : Stack) → ArePiecesFrom r (text ++ back) 0 start ys end
     → (n : ℕ) × ((slice : Bor (List ℕ)) × (slice_get ys n ≡ Some (Fault at slice)))

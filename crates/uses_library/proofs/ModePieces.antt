@@ -15,7 +15,7 @@ piece_more s r t u o item xs x same y is g ok =
     subst (λ (zs : List (Result Item AllocError)). Yields GivesPieceOrError s zs u) (token_more (map Ok xs) item xs x refl ok)
     (item_more GivesPieceOrError s r t u (map Ok xs) o item same y is g)
 
--- no piece behind those that there are
+-- no piece after those that there are
 pub all_pieces : (s r t u : ModeCut) (o : Option (Result Item AllocError)) (xs : List Item) → r ≡ s → Yields GivesPieceOrError r (map Ok xs) t → o ≡ None
     → GivesPieceOrError t o u
     → ((ys : List Item) (w : ModeCut) → Yields GivesPieceOrError s (map Ok ys) w → Yields GivesModePiece s ys w × (w.is_over ≡ false))

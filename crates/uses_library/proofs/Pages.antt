@@ -66,7 +66,7 @@ no_end_of_comment page tags (a, b, e) =
     let same : (a ++ codes "-") ++ 45 ∷ 62 ∷ [] ≡ (a ++ codes "--") ++ 62 ∷ [] = append_assoc a (codes "-") (45 ∷ 62 ∷ []) ∙ sym (append_assoc a (codes "--") (62 ∷ [])) in
     no_dash (a ++ codes "-") found.0 found.1.0 (same ∙ found.1.1.0) found.1.1.1
 
--- behind its `&` an entity has a letter or `#`
+-- after its `&` an entity has a letter or `#`
 abbrev NoSpace : Option (List ℕ) → Type 0
 NoSpace found = IfSome found (λ e. (1 < length e) × (get_or e 1 0 ≢ 32))
 

@@ -7,7 +7,7 @@ use Rattle.uses_library.proofs.Counting.{item_more}
 use Rattle.std.proofs.lemmas.List.{length-map, map-append}
 use Rattle.std.proofs.lemmas.Str.{encodes-chars, length-le-encodes}
 
--- and none behind it
+-- and none after it
 pub item_last : {S A : Type 0} (gives : S → Option A → S → Type 0) (s r t u : S) (xs : List A) (o : Option A) (x : A) → r ≡ s → Yields gives r xs t → o ≡ Some x
     → gives t o u → gives u None u → Drains gives s (xs ++ x ∷ [])
 item_last gives s r t u xs o x same y is g none = (u, (u, item_more gives s r t u xs o x same y is g, none))
@@ -27,7 +27,7 @@ room_for_one_more text xs x n tokens u le are count =
     let same : length xs ≡ length tokens = rw (are, length-map) refl in
     omega (arith, length-append xs (x ∷ []), length-le-encodes (chars text), ap length (encodes-chars text u))
 
--- and a fault behind them
+-- and a fault after them
 pub then_a_fault : {A B : Type 0} (xs : List (Result A B)) (x : Result A B) (tokens : List A) (fault : B) → xs ≡ map Ok tokens → x ≡ Err fault
     → xs ++ x ∷ [] ≡ map Ok tokens ++ Err fault ∷ []
 then_a_fault xs x tokens fault are is = rw (are, is) refl

@@ -120,7 +120,7 @@ pub fn gone_and_come(
 }
 
 // Needs lalrpop_edits::LexedText::edit: earliest.
-/// Edits a text. Where old and new pieces meet behind those at the front that stay, none are gone and none came.
+/// Edits a text. Where old and new pieces meet after those at the front that stay, none are gone and none came.
 ///
 /// # Errors
 ///
@@ -141,7 +141,7 @@ pub fn cut_no_further(
 }
 
 // Needs lalrpop_edits::LexedText::edit: first.
-/// Edits a text. Where the first piece that is cut anew ends before the range, all from some place in it, or right behind it, up to
+/// Edits a text. Where the first piece that is cut anew ends before the range, all from some place in it, or right after it, up to
 /// the range begins a word that some rule matches.
 ///
 /// # Errors

@@ -51,7 +51,7 @@ pub fn cut_whole<'rules>(
 }
 
 // Needs lalrpop_edits::LexedText::edit_counted: cost, never_falls.
-/// Edits a text, and says where what was cut anew begins and ends, in bytes. Where nothing from a place in it up to a place behind it
+/// Edits a text, and says where what was cut anew begins and ends, in bytes. Where nothing from a place in it up to a place after it
 /// begins a word, what is read depends on its length alone, however long the text is.
 ///
 /// # Errors

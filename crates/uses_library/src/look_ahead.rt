@@ -73,7 +73,7 @@ pub fn is_left_open(alloc: Global, lexer: &Lexer, count: usize) -> Result<bool, 
 }
 
 // Needs lalrpop_edits::SettledToken::of: token, settled, within.
-/// The token at the front of a text, if it's the same whatever comes behind the text.
+/// The token at the front of a text, if it's the same whatever comes after the text.
 pub fn final_token<'text>(alloc: Global, lexer: &Lexer, text: &'text str) -> Option<Token<'text>>
     ensures stays { IfSome result (λ token. (more : List ℕ)
         → IsLongest lexer.now.trees lexer.now.precedences (text.now ++ more)

@@ -103,7 +103,7 @@ pub fn first_unseen(slice: &str) -> Option<char>
 }
 
 // Needs lalrpop_lexer::push_quoted: quoted.
-/// The slice in quotes, behind a comma.
+/// The slice in quotes, after a comma.
 ///
 /// # Errors
 ///

@@ -25,7 +25,7 @@ name_in_column_3 = record {
   counted = refl;
 }
 
--- behind a blank line, the part `D` of the second line stands in its column 3
+-- after a blank line, the part `D` of the second line stands in its column 3
 part_in_line_2 : (p : PartLine) → p.name.now ≡ codes "D" → p.pattern.now ≡ codes "0" → p.place.line ≡ 2 → p.place.column ≡ 3 → ArePartsFrom 1 ([] ∷ line ∷ []) (Nothing ∷ Define written ∷ []) (p ∷ [])
 part_in_line_2 p name pattern in_line column =
     (record { name = name; pattern = pattern; in_line = in_line; column = subst (λ (c : ℕ). IsNameColumn (without_return line) (codes "D") c) (sym column) name_in_column_3 }, tt)

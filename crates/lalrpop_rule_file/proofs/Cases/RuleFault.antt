@@ -4,7 +4,7 @@ use Rattle.lalrpop_rule_file.specs.Words.{IsSpan, is_blank, is_of_name}
 use Rattle.lalrpop_rule_file.specs.LineText.{Form, Literal, Escaped, Pattern, delimiter}
 use Rattle.lalrpop_rule_file.specs.RuleLine.{Push, Head, WrittenPart, WrittenRule, Section, Start, Listing, Headed, Entering, Equals, InAnyCase, From, Defines, Defined, Closed}
 use Rattle.lalrpop_rule_file.specs.RuleFault.{StopsBefore, fault_at}
-use Rattle.lalrpop_rule_file.specs.declared.error.LineFault.TheVariants.{NoName, NoMode, NoBracket, BehindSection, PrecedenceTooLarge, NoText, NoPattern, NoLiteral, NoFrom, NoTo, NotClosed}
+use Rattle.lalrpop_rule_file.specs.declared.error.LineFault.TheVariants.{NoName, NoMode, NoBracket, AfterSection, PrecedenceTooLarge, NoText, NoPattern, NoLiteral, NoFrom, NoTo, NotClosed}
 use Rattle.lalrpop_rule_file.proofs.Stopping.{no_from, no_literal, no_mode, no_name, no_text, not_quoted, open_in_any_case, without_to}
 use Rattle.lalrpop_rule_file.proofs.StoppingLaws.{StopsBefore-unique}
 use Rattle.lalrpop_rule_file.proofs.PartLines.{no_pattern}
@@ -28,7 +28,7 @@ letter_behind_a_part part = refl
 end_of_a_section : (section : Section) → fault_at (Headed section) [] ≡ None
 end_of_a_section section = refl
 
-letter_behind_a_section : (section : Section) → fault_at (Headed section) (codes "x") ≡ Some BehindSection
+letter_behind_a_section : (section : Section) → fault_at (Headed section) (codes "x") ≡ Some AfterSection
 letter_behind_a_section section = refl
 
 section_without_a_mode : fault_at (Listing []) (codes "]") ≡ Some NoMode
@@ -50,7 +50,7 @@ digit_begins_no_name = no_name (codes " 1") (codes " ") (codes "1") (record { pa
 blank_is_no_place : ¬ StopsBefore Start (codes " 1") (codes " 1") NoName
 blank_is_no_place stops = let k : 2 ≡ 1 = ap length (StopsBefore-unique Start (codes " 1") (codes " 1") (codes "1") NoName NoName stops digit_begins_no_name).0 in omega (arith, k)
 
--- behind `push` ` =` stops at the `=`
+-- after `push` ` =` stops at the `=`
 push_without_a_mode : (head : Head) → StopsBefore (Entering head Push) (codes " =") (codes "=") NoMode
 push_without_a_mode head = no_mode Push (codes " =") (codes " ") (codes "=") (record { parts = refl; passes = (refl, tt); stops = refl }) refl head
 
@@ -90,7 +90,7 @@ letter_behind_from head = no_from (codes " x") (codes " ") (codes "x") (record {
 no_to_there : (head : Head) → StopsBefore (From head None) (codes "'a'b") (codes "'b") NoTo
 no_to_there head = without_to (codes "a'b") (codes "a") (codes "'b") letter_is_no_to (record { parts = refl; passes = (refl, tt); stops = refl }) head None
 
--- `'x` stops at its end, and `'x'y` at what stands behind the second apostrophe
+-- `'x` stops at its end, and `'x'y` at what stands after the second apostrophe
 open_literal : (head : Head) → StopsBefore (Equals head None) (codes "'x") [] NotClosed
 open_literal head = not_quoted Literal (codes "x") [] (inl ((refl, tt), refl)) None head
 

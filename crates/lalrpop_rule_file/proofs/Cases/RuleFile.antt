@@ -70,7 +70,7 @@ section_line =
     let word : IsSpan is_of_name (codes "A]") (codes "A") (codes "]") = record { parts = refl; passes = (refl, tt); stops = refl } in
     lexeme_then a_bracket (lexeme_then (a_mode refl word) (lexeme_then an_end nothing))
 
--- a name alone isn't a rule: it stops behind its name
+-- a name alone isn't a rule: it stops after its name
 no_action_in_nothing : NoActionAt []
 no_action_in_nothing behind = (λ span. absurd (cc span.parts), λ entry. no_word entry)
   where
@@ -160,7 +160,7 @@ mode_it_leads_into_is_named r e = inr (subst (λ (acts : List Action). OneLeadsI
 
 -- ---- places
 
--- in `A = 'x' ` the text begins in column 6, behind its first delimiter
+-- in `A = 'x' ` the text begins in column 6, after its first delimiter
 text_in_column_6 : IsTextColumn (codes "A = 'x' ") (Quoted Literal (codes "x")) 6
 unfolding chars
 text_in_column_6 = record { front = codes "A = '"; here = codes "x' "; parts = refl; begins = (codes " ", (refl, (refl, tt))); counted = refl }

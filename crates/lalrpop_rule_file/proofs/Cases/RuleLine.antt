@@ -31,7 +31,7 @@ rule_called_skip = a_name refl skip_word
 skip_behind_a_name : (name : List ℕ) → Lexeme (Named (bare name)) (codes "skip=") (Named (marked name)) (codes "=")
 skip_behind_a_name name = a_skip skip_word
 
--- but `skip` doesn't stand behind an action
+-- but `skip` doesn't stand after an action
 third : List ℕ → ℕ
 third bs = get_or bs 2 0
 
@@ -100,7 +100,7 @@ mode_called_pop head = its_mode refl (record { parts = refl; passes = (refl, (re
 longer_word_is_no_action : (rest : List ℕ) → ¬ IsSpan is_of_name (codes "popper") (codes "pop") rest
 longer_word_is_no_action rest span = false≢true (sym (ap (begins is_of_name) (ap (drop 3) span.parts) ∙ span.stops))
 
--- ---- behind the `=`
+-- ---- after the `=`
 
 twelve : IsPrecedence (codes "12") 12
 twelve = record { numeral = search arith; short = omega arith; value = refl; fits = omega arith }
@@ -127,7 +127,7 @@ pattern_with_a_precedence head = a_text Pattern (refl, tt)
 one_delimiter_alone : (head : Head) (written : Option ℕ) → Lexeme (Equals head written) (codes "'a") Open []
 one_delimiter_alone head written = an_open_text Literal (refl, tt)
 
--- a quote behind a backslash ends a text too
+-- a quote after a backslash ends a text too
 quote_behind_a_backslash : (head : Head) → Lexeme (Equals head None) (codes "\"a\\\"") (Closed (rule_of head None (Quoted Escaped (codes "a\\")))) []
 quote_behind_a_backslash head = a_text Escaped tt
 

@@ -34,9 +34,9 @@ abbrev pub IsListed : Section → List ℕ → Type 0
 IsListed (These modes) rest = (0 < length modes) × (begins begins_name rest ≡ false)
 IsListed Every rest = Unit {0}
 
--- ---- what is right of the `=`, behind any head
+-- ---- what is right of the `=`, after any head
 
--- behind the precedence that is written, if any, neither blanks nor a precedence follow
+-- after the precedence that is written, if any, neither blanks nor a precedence follow
 abbrev pub IsBeforeText : Option ℕ → List ℕ → Type 0
 IsBeforeText None rest = (begins is_blank rest ≡ false) × (begins is_ascii_digit rest ≡ false)
 IsBeforeText (Some n) rest = begins is_blank rest ≡ false

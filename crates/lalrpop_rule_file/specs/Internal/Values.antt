@@ -70,7 +70,7 @@ IsPlaced from text head (Enter entry mode here) =
     Reads from text (Entering head (entry_of entry)) here.now × (begins begins_name here.now ≡ true) × ((behind : List ℕ) × IsSpan is_of_name here.now mode.now behind)
 IsPlaced from text head Pop = Unit {0}
 
--- so is each of these, behind those before it
+-- so is each of these, after those before it
 abbrev pub ArePlaced : Part → List ℕ → List ℕ → Bool → List WrittenAction → Type 0
 ArePlaced from text name skipped actions =
     (i : ℕ) (a : WrittenAction) → slice_get actions i ≡ Some a → IsPlaced from text (head_with name skipped (take i actions)) a
@@ -82,11 +82,11 @@ ArePlacedIn line rule = ArePlaced Start line rule.head.name.now rule.head.is_ski
 abbrev pub HasText : List ℕ → LineRule → Type 0
 HasText line rule = (front : List ℕ) × ((line ≡ front ++ rule.text.here.now) × BeginsText (text_of rule.text.text) rule.text.here.now)
 
--- the line begins with the name, behind blanks
+-- the line begins with the name, after blanks
 abbrev pub IsNameIn : List ℕ → LineName → Type 0
 IsNameIn line n = (lead : List ℕ) × ((behind : List ℕ) × (IsSpan is_blank line lead n.here.now × IsSpan is_of_name n.here.now n.name.now behind))
 
--- it ends with the pattern, from behind its first slash on
+-- it ends with the pattern, from after its first slash on
 abbrev pub HasPattern : List ℕ → LinePart → Type 0
 HasPattern line p = (front : List ℕ) × ((line ≡ front ++ p.here.now) × BeginsText (text.Quoted text.Pattern p.pattern.now) p.here.now)
 

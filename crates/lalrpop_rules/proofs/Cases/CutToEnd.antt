@@ -13,7 +13,7 @@ nothing_is_left rules skips m = (refl, refl)
 end_told_early : (rules : Rules) (skips : List Bool) (m : Memo) (new : CutToEnd) → ¬ GivesPiece (uncut rules skips (codes "a") m) None new
 end_told_early rules skips m new (same, end) = absurd (cc)
 
--- the rest begins behind the piece
+-- the rest begins after the piece
 piece_given_again : (rules : Rules) (skips : List Bool) (text : List ℕ) (m : Memo) (slice : Bor (List ℕ)) → slice.now ≡ 195 ∷ 169 ∷ []
     → ¬ GivesPiece (uncut rules skips text m) (Some (Fault 0 slice)) (uncut rules skips text m)
 piece_given_again rules skips text m slice two (is, goes, paid) =

@@ -6,7 +6,7 @@ use Rattle.lalrpop_hir.specs.declared.token.Token.{Token}
 use Rattle.lalrpop_rules.specs.Found.{MatchesAt, NoMatchBefore, IsFound, NothingFound}
 use Rattle.lalrpop_rules.proofs.FirstMatches.{match_within}
 
--- nothing matches at `b`, and `a` is the token behind it
+-- nothing matches at `b`, and `a` is the token after it
 found_behind_a_fault : (ts : List Tree) (ps : List ℕ) (token : Token) → token.start ≡ 1 → IsToken ts ps (codes "ba") token.start token
     → ¬ MatchesAt ts (codes "ba") 0 → IsFound ts ps (codes "ba") token
 found_behind_a_fault ts ps token one is none = (is, λ n below m. none (subst (λ (k : ℕ). MatchesAt ts (codes "ba") k) (zero n below) m))

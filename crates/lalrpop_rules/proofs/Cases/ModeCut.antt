@@ -23,7 +23,7 @@ nothing_is_left r = (refl, refl)
 end_told_early : (r : ModeRules) (new : ModeCut) → ¬ GivesModePiece (uncut r (codes "a") 0) None new
 end_told_early r new (same, end) = absurd (cc)
 
--- the rest begins behind the piece
+-- the rest begins after the piece
 piece_given_again : (r : ModeRules) (text : List ℕ) (slice : Bor (List ℕ)) → slice.now ≡ 195 ∷ 169 ∷ []
     → ¬ GivesModePiece (uncut r text 0) (Some (Fault 0 slice)) (uncut r text 0)
 piece_given_again r text slice two (is, goes, paid) =

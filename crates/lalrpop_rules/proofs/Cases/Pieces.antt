@@ -11,7 +11,7 @@ use Rattle.lalrpop_rules.specs.declared.item.Item.TheVariants.{Token, Skipped, F
 
 -- ---- one fault
 
--- nothing matches at `b`, and something matches behind it
+-- nothing matches at `b`, and something matches after it
 fault_of_one_character : (ts : List Tree) → ¬ MatchesAt ts (codes "ba") 0 → MatchesAt ts (codes "ba") 1 → IsFault ts (codes "ba") (codes "b")
 unfolding lib.Utf8.encode
 fault_of_one_character ts none m = record {
@@ -96,7 +96,7 @@ faults_round_a_token a c b = tt
 two_faults_behind_a_token : (a b : Bor (List ℕ)) (token : Cut) → ¬ AreApart (Token token ∷ Fault 1 a ∷ Fault 2 b ∷ [])
 two_faults_behind_a_token a b token are = are
 
--- skipped pieces are tokens, and nothing comes behind the first fault
+-- skipped pieces are tokens, and nothing comes after the first fault
 up_to_the_first_fault : (a b d : Cut) (c : Bor (List ℕ)) → up_to_fault (Token a ∷ Skipped b ∷ Fault 2 c ∷ Token d ∷ []) ≡ Ok a ∷ Ok b ∷ Err (record { at = 2 }) ∷ []
 up_to_the_first_fault a b d c = refl
 

@@ -43,7 +43,7 @@ pub record IsCutIn (r : ModeRules) (text : List ℕ) (at m : ℕ) (c : CutToEnd)
   pub same_text : c.text ≡ text
   pub behind : c.at ≤ at
 
--- it has found no match that ends behind the place
+-- it has found no match that ends after the place
 abbrev pub HasSoughtUpTo : ℕ → CutToEnd → Type 0
 HasSoughtUpTo at c = length (chars (drop at c.text)) ≤ c.memo.unsought
 

@@ -73,7 +73,7 @@ pub record IsLengthened (f : ℕ → ℕ) (old : List (Range × ℕ)) (t : Range
   pub touches : t.0.start ≡ last.0.end + 1
   pub same : f t.1 ≡ f last.1
 
--- t is behind the tests, the last of which it doesn't touch, or which leads into another class
+-- t is after the tests, the last of which it doesn't touch, or which leads into another class
 pub record IsBehind (f : ℕ → ℕ) (old : List (Range × ℕ)) (t : Range × ℕ) (new : List (Range × ℕ)) : Type 0 where
   pub now : new ≡ old ++ t ∷ []
   pub apart : (front : List (Range × ℕ)) (last : Range × ℕ) → old ≡ front ++ last ∷ [] → t.0.start ≡ last.0.end + 1 → ¬ (f t.1 ≡ f last.1)
@@ -99,13 +99,13 @@ targets_of [] = []
 targets_of (t ∷ ts) = t.1 ∷ targets_of ts
 
 -- the numbers were looked up one after another: the old states were met before the first of them, and the new ones are met
--- behind the last. A state that wasn't met before got the next number
+-- after the last. A state that wasn't met before got the next number
 abbrev pub AreMetInTurn : List ℕ → List ℕ → List ℕ → Type 0
 AreMetInTurn old numbers new = AreNext (length old) numbers (length new)
 
--- the rows so far are in order, and `count` states are met behind the last of them
+-- the rows so far are in order, and `count` states are met after the last of them
 pub record AreRowsInOrder (rows : List Row) (count : ℕ) : Type 0 where
-  -- how many were met before each row was looked at, and behind the last
+  -- how many were met before each row was looked at, and after the last
   pub met : List ℕ
   pub same_length : length met ≡ length rows + 1
   pub first : slice_index met 0 ≡ 1

@@ -68,7 +68,7 @@ pub record AreLeads (d : List Row) (values : List ℕ) (table : List (Vec ℕ Gl
   pub same_length : length table ≡ length d
   pub each : (p : ℕ) (v : Vec ℕ Global) → slice_get table p ≡ Some v → v.items ≡ leads_of d values p
 
--- the range begins at one of the values, and so do the values behind it, if 32 bits hold them
+-- the range begins at one of the values, and so do the values after it, if 32 bits hold them
 pub record IsBounded (values : List ℕ) (r : Range) : Type 0 where
   pub start : Contains values r.start
   pub end : Contains (4294967296 ∷ values) (r.end + 1)
@@ -96,7 +96,7 @@ pub record AreTried (d : List Row) (values : List ℕ) : Type 0 where
   pub beyond : (p : ℕ) → p < length d → step d p 4294967296 ≡ other_at d p
   pub all : (c : ℕ) → (b : ℕ) × (Contains (4294967296 ∷ values) b × ((p : ℕ) → p < length d → step d p c ≡ step d p b))
 
--- each place has a first one: none behind it, and one that is its own first
+-- each place has a first one: none after it, and one that is its own first
 pub record AreFirstPlaces (firsts : List ℕ) : Type 0 where
   pub least : (p : ℕ) → p < length firsts → slice_index firsts p ≤ p
   pub own : (p : ℕ) → p < length firsts → slice_index firsts (slice_index firsts p) ≡ slice_index firsts p

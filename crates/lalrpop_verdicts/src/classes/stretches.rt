@@ -87,7 +87,7 @@ impl Distinct {
         self.add_unmarked(value)
     }
 
-    // Adds the first value of the range, and the one behind it, if 32 bits hold that.
+    // Adds the first value of the range, and the one after it, if 32 bits hold that.
     fn add_ends(&mut self, range: &Test) -> Result<(), AllocError>
         requires { AreListed self.old.known self.old.marks.items self.old.values.items }
         ensures listed { OnOk result
@@ -185,7 +185,7 @@ fn first_values(alloc: Global, values: &[u32], firsts: &[usize]) -> Result<Vec<u
     Ok(kept)
 }
 
-// How many words of 64 marks there are: up to the mark of the value behind the last test edge, or behind the last character.
+// How many words of 64 marks there are: up to the mark of the value after the last test edge, or after the last character.
 fn mark_words(dfa: &Dfa) -> usize
     ensures { result ≤ 17409 }
 {

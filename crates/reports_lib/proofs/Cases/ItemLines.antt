@@ -39,7 +39,7 @@ object_of_a_fault : json_line (Some (codes "f")) second 1 None None (codes "a")
 unfolding digits print_from escape_byte
 object_of_a_fault = refl
 
--- the mode stands behind the rule
+-- the mode stands after the rule
 object_with_a_mode : json_line None second 1 (Some (codes "N")) (Some (codes "M")) (codes "a")
     ≡ codes "{\"line\":1,\"column\":2,\"start\":1,\"end\":2,\"rule\":\"N\",\"mode\":\"M\",\"text\":\"a\"}\n"
 unfolding digits print_from escape_byte

@@ -198,7 +198,7 @@ module _ (alloc : Global) where
   no_findings : has_findings (record { empty = vector [] (omega arith); modes = vector (smallest ∷ []) (omega arith) }) ≡ false
   no_findings = refl
 
--- the second mode's text stands behind the first one's, each with its name
+-- the second mode's text stands after the first one's, each with its name
 two_modes : by_mode (λ mode (text : List ℕ). mode_before mode ++ text) (codes "A" ∷ codes "B" ∷ []) 0 (codes "x" ∷ codes "y" ∷ []) ≡ codes "mode A: xmode B: y"
 two_modes = refl
 

@@ -16,11 +16,11 @@ between_quotes s copy behind run same quote long plain =
     ap (λ (xs : List ℕ). 34 ∷ (xs ++ behind)) same ∙ ap (λ (xs : List ℕ). 34 ∷ (s ++ xs)) quote.1 ∙ ap (λ (xs : List ℕ). 34 ∷ xs) (sym (append_assoc s (34 ∷ []) quote.0)) in
     ap (take (length s + 2)) split ∙ take_at (34 ∷ (s ++ 34 ∷ [])) quote.0 (length s + 2) (omega (arith, length-append s (34 ∷ []))) ∙ sym (quoted_as_is s each)
 
--- the buffer behind its first quote
+-- the buffer after its first quote
 abbrev quotes : List ℕ
 quotes = replicate 33 34
 
--- it is full of quotes behind the slice too
+-- it is full of quotes after the slice too
 quote_behind : (n m : ℕ) (full : List ℕ) → full ≡ replicate 34 34 → m ≡ n → n ≤ 32 → (rest : List ℕ) × (drop m (drop 1 full) ≡ 34 ∷ rest)
 quote_behind n m full are same short =
     let some : n < length quotes = omega (arith, length-replicate {A = ℕ} 33 34) in (

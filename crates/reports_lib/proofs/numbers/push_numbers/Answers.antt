@@ -19,7 +19,7 @@ write_digits-start-requires c =
     let first = length-decimal-le 20 c.args.first (search rules) (omega arith) (omega arith) in
     (omega (arith, c.write_digits-later.ensures.start), omega (arith, c.write_digits-later.ensures.start, length-set {A = ℕ}))
 
--- the digits of both numbers and the bytes behind them are the end of the room
+-- the digits of both numbers and the bytes after them are the end of the room
 text_of : (text numbers : List ℕ) (later start between : ℕ) (first second behind : List ℕ) → 1 ≤ later → later ≤ length numbers
     → drop start text ≡ first ++ drop (later - 1) (slice_set numbers (later - 1) between) → drop later numbers ≡ second ++ behind
     → drop start text ≡ first ++ (between ∷ (second ++ behind))

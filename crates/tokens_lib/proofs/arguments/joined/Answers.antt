@@ -43,7 +43,7 @@ passed f xs i d word l is e t =
     ∙ of_other word (f (get_or xs (i + 1) d)) (from f xs (i + 2)) e t
     ∙ ap (λ ws. word ∷ joined ws) (sym (at_drop_more (map f) xs (i + 1) d (omega (arith, l)) ∙ ap (λ k. f (get_or xs (i + 1) d) ∷ from f xs k) (twice i)))
 
--- the rest stays behind two dashes, and where there is one word at most
+-- the rest stays after two dashes, and where there is one word at most
 left_behind_end : {X : Type 0} (f : X → List ℕ) (xs : List X) (i : ℕ) (d : X) → i + 1 < length xs → is_end (f (get_or xs i d)) ≡ true → joined (from f xs i) ≡ from f xs i
 left_behind_end f xs i d l e = ap joined (two f xs i d d l) ∙ of_end _ _ (from f xs (i + 2)) e ∙ sym (two f xs i d d l)
 
