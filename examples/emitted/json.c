@@ -79,7 +79,7 @@ static const json_table json_tables[json_modes] = {
 typedef uint16_t json_ahead_cell;
 
 /* The table of a mode that runs ahead: it reads each byte, on past the ends of tokens. Its cells lead from a row by a column to
-   a row; behind those of a row stands the rule of the token that ends there. */
+   a row; after those of a row stands the rule of the token that ends there. */
 typedef struct {
     const json_ahead_cell *cells;
     size_t start;
@@ -571,9 +571,9 @@ typedef struct {
     size_t length;               /* how many bytes it has; 0 if there is none */
     uint16_t mode;               /* by whose table */
     size_t since;                /* where in the text the mode on top came there */
-    size_t word;                 /* the word of ends that is looked at; behind the last one if none is */
-    uint64_t bits;               /* what is left of it: the ends behind the place where the next token begins */
-    json_ahead_cell rows[json_most];   /* the row behind each byte */
+    size_t word;                 /* the word of ends that is looked at; after the last one if none is */
+    uint64_t bits;               /* what is left of it: the ends after the place where the next token begins */
+    json_ahead_cell rows[json_most];   /* the row after each byte */
     uint64_t ends[json_most / 64];  /* a bit for each byte: whether a token ends before it */
 } json_run;
 
@@ -713,7 +713,7 @@ json_inline int json_is_open(const json_ahead *ahead, size_t row) {
     return row > 0 && row < ahead->ends;
 }
 
-/* The walk behind one more character, and 1; 0 if there is none, or it leads to a row in which the token isn't open. */
+/* The walk after one more character, and 1; 0 if there is none, or it leads to a row in which the token isn't open. */
 json_inline int json_walked(const json_ahead *ahead, const json_table *table, const unsigned char *text, size_t length, json_walker walk,
     json_walker *next) {
     size_t column = 0;
@@ -743,7 +743,7 @@ json_inline size_t json_memo_words(size_t rows, size_t size) {
     return json_product(rows, size / 4096 + 1);
 }
 
-/* The word of the memo in which the walk's bit is; `words`, which is behind the last one, if the memo has none. */
+/* The word of the memo in which the walk's bit is; `words`, which is after the last one, if the memo has none. */
 json_inline size_t json_word_of(const json_ahead *ahead, size_t size, json_walker walk, size_t words) {
     size_t row_words = size / 4096 + 1;
     size_t number = walk.row / (ahead->width + 1);
@@ -888,7 +888,7 @@ static void json_act(size_t place, json_lexer *lexer) {
     }
 }
 
-/* The column of the byte at the place, which may lie behind the text. Of the character before it, `left` bytes are still to
+/* The column of the byte at the place, which may lie after the text. Of the character before it, `left` bytes are still to
    come, and then those of its own. */
 json_inline uint16_t json_next_column(const json_ahead *ahead, const json_table *table, const unsigned char *text, size_t length, size_t at,
     size_t *left) {
@@ -1029,7 +1029,7 @@ static void json_join(const json_ahead *ahead, const uint16_t *columns, size_t c
 }
 
 /* The columns of the bytes of the text from a place on, and the rows that they lead to from the start, one after another: each
-   stands for what is known behind its byte. */
+   stands for what is known after its byte. */
 static void json_fill(const json_ahead *ahead, const json_table *table, const unsigned char *text, size_t length, size_t from,
     uint16_t *columns, size_t count, json_ahead_cell *rows) {
     json_columns_of(ahead, table, text, length, from, columns, count);
@@ -1106,13 +1106,13 @@ json_inline size_t json_next_end(json_run *run) {
     return run->word * 64 + json_trailing_zeros(run->bits);
 }
 
-/* Goes on behind the token that ends next. */
+/* Goes on after the token that ends next. */
 json_inline void json_take(json_run *run) {
     run->bits &= run->bits - 1;
 }
 
 /* Whether the block tells the token that begins where the text goes on, and then its rule, and where it ends. It doesn't where
-   that token is a fault, ends behind the block, or ends before a longer one that then doesn't match. */
+   that token is a fault, ends after the block, or ends before a longer one that then doesn't match. */
 json_inline int json_known(const json_ahead *ahead, json_run *run, uint32_t *rule, size_t *token_end) {
     size_t end = json_next_end(run);
     if (end == 0) {
@@ -1208,7 +1208,7 @@ json_inline void json_token_piece(size_t start, size_t end, uint32_t rule, json_
     piece->length = end - start;
 }
 
-/* The fault that begins where the text goes on, behind which it then goes on. */
+/* The fault that begins where the text goes on, after which it then goes on. */
 static void json_fault_piece(json_lexer *lexer, json_piece *piece) {
     const json_table *table = &json_tables[lexer->mode];
     const json_ahead *ahead = &json_aheads[lexer->mode];

@@ -130,7 +130,7 @@ rule_at r i within =
     slice_get-get_or (actions_of_rules r) i [] (omega (arith, all))
     ∙ ap Some (get_or-map-range_with_len (actions_of r.actions) 0 (length r.names) i i [] within (omega arith))
 
--- behind other numbers stand those of the rules: from its place on those of a rule, and a 0
+-- after other numbers stand those of the rules: from its place on those of a rule, and a 0
 numbers_at : (before : List ℕ) (rules : List (List Action)) (i place : ℕ) (actions : List Action) → slice_get (first_places (length before) rules) i ≡ Some place → slice_get rules i ≡ Some actions
     → (rest : List ℕ) × (drop place (before ++ action_numbers rules) ≡ map action_number actions ++ (0 ∷ rest))
 numbers_at before [] i place actions at is = absurd (omega (arith, slice_get_within [] i actions is))

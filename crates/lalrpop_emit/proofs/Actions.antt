@@ -96,7 +96,7 @@ number_read list numbers modes place tested number acts same there first some se
       some = λ none. some (get_or_read list place tested within first 0 ∙ sym (get_or_read list place number within second 0) ∙ none);
     }
 
--- an action whose number isn't 0, and those behind it
+-- an action whose number isn't 0, and those after it
 record FirstOf (numbers : List ℕ) (modes place number : ℕ) (acts : List Action) : Type 0 where
   pub first : Action
   pub others : List Action
@@ -120,7 +120,7 @@ first_of_them numbers modes place number (a ∷ acts) there is =
       behind = record { rest = there.rest; numbers_are = at.left; within = λ m leads. there.within m (inr leads) };
     }
 
--- behind the last action stands a 0
+-- after the last action stands a 0
 pub none_of_them : (list numbers : List ℕ) (modes place number : ℕ) (acts : List Action) → list ≡ numbers → AreActionsAt numbers modes place acts → number ≡ get_or list place number → number ≡ 0 → acts ≡ []
 none_of_them list numbers modes place number [] same there is none = refl
 none_of_them list numbers modes place number (a ∷ acts) same there is none =

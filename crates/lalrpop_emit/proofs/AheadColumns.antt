@@ -40,7 +40,7 @@ first_column t width (suc left) (b ∷ bytes) column columns h = within left ref
 first_column t width zero (b ∷ bytes) column columns h =
     ⊎_elim (λ one. character one.0 refl one.1.0 one.1.1 one.1.2) (λ none. bad (λ fits. refl) none.0 none.1 none.2) h
 
--- how many of the bytes behind the first are within a character
+-- how many of the bytes after the first are within a character
 left_after : (t : TableNumbers) (width : ℕ) (bytes : List ℕ) (left column : ℕ) (columns : List ℕ) → FirstColumn t width bytes left column columns → (k : ℕ) × AreColumns t width k (drop 1 bytes) columns
 left_after t width bytes left column columns (within k e is rest) = (k, rest)
 left_after t width bytes left column columns (character c e here is rest) = (length (encode_utf8 c) - 1, rest)

@@ -23,7 +23,7 @@ IsOpen t text at Ended = Unit {0}
 IsOpen t text at (In row) = IsWalked t text at row × (t.live ≤ row)
 IsOpen t text at (Again row) = IsWalked t text at row × (t.live ≤ row)
 
--- what is known at a place of a text that begins where the token does: the next `left` bytes are the rest of a character, and the row is that behind it
+-- what is known at a place of a text that begins where the token does: the next `left` bytes are the rest of a character, and the row is that after it
 pub record IsPlace (t : TableNumbers) (width : ℕ) (text : List ℕ) (at : ℕ) (s : Standing) (columns : List ℕ) : Type 0 where
   pub left : ℕ
   pub columns_are : AreColumns t width left (drop at text) columns
@@ -128,7 +128,7 @@ module _ (t : TableNumbers) (text : List ℕ) where
   here_of at c h = record { scalar = h.scalar; rest = h.rest; split = h.split }
 
 module _ (t : TableNumbers) (width : ℕ) (text : List ℕ) where
-  -- what is known behind one more byte
+  -- what is known after one more byte
   place : (at left at2 : ℕ) (s s2 : Standing) (columns : List ℕ) → AreColumns t width left (drop 1 (drop at text)) columns → at2 ≡ at + 1 + left → s ≡ s2 → IsOpen t text at2 s2
       → IsPlace t width text (at + 1) s columns
   place at left at2 s s2 columns rest size same w = record {

@@ -12,7 +12,7 @@ use Rattle.lalrpop_emit.specs.Internal.Lists.{IsRightRow}
 abbrev pub AreClassesBelow : TableNumbers → ℕ → ℕ → Type 0
 AreClassesBelow t count end = (c : ℕ) → 128 ≤ c → c < end → character_class t c < count
 
--- pages behind the last one have its block
+-- pages after the last one have its block
 pub pages_below : (t : TableNumbers) (count end : ℕ) → end ≡ min (max (length t.pages) 2) 8704 → AreClassesBelow t count (end * 128) → AreClassesBelow t count 1114112
 pages_below t count end is below c low high =
     ⊎_elim (λ (before : c < end * 128). below c low before)

@@ -128,7 +128,7 @@ walked_rows a columns rows part n last size all are = All-from_get_or (IsRowOf a
     let p = part_of part k (omega (arith, within, size)) in
     (are p.0 p.1).are_rows k p.2 (omega (arith, p.3, all)))
 
--- a place that no later part begins at is the first, or behind the beginning of its part
+-- a place that no later part begins at is the first, or after the beginning of its part
 within_part : (part j k : ℕ) → j * part ≤ k → IsWithinPart part k → (j * part < k) ⊎ (k ≡ 0)
 within_part part j k low within = ⊎_elim (λ (before : j * part < k). inl before) (λ (here : k ≤ j * part). begun part j k (omega arith) within) (cases_lt (j * part) k)
   where

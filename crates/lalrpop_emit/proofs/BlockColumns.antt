@@ -17,7 +17,7 @@ use Rattle.lalrpop_emit.proofs.Walks.{scalar_below}
 -- ---- one column more
 
 module _ (t : TableNumbers) (width : ℕ) (text : List ℕ) (at : ℕ) (rest : List ℕ) where
-  -- behind the text
+  -- after the text
   pub column_behind : (left : ℕ) → length text ≤ at → AreColumns t width 0 (drop (at + 1) text) rest → AreColumns t width left (drop at text) (bad_column width ∷ rest)
   column_behind left past h =
       let none : drop at text ≡ [] = drop_all at text past in

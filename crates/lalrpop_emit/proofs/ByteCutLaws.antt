@@ -10,7 +10,7 @@ use Rattle.lalrpop_emit.proofs.BytePieceLaws.{pieces_all, pieces_join}
 
 -- so far they are the pieces from a place and a stack up to the place of the cut
 module _ (r : ModeRules) (kinds text : List ℕ) (at : ℕ) (s : Stack) (xs : List NumberedPiece) (c d : ByteCut) (are : AreBytePiecesTo r kinds 1024 text at s xs (place_of c) (stack_in c)) where
-  -- then with the next one they are the pieces up to the place behind it
+  -- then with the next one they are the pieces up to the place after it
   pub given_more : (p : NumberedPiece) → GivesBytePiece r kinds text c (Some p) d → AreBytePiecesTo r kinds 1024 text at s (xs ++ p ∷ []) (place_of d) (stack_in d)
   given_more p gives =
       pieces_join r kinds 1024 text at s xs (place_of c) (stack_in c) (p ∷ []) (place_of d) (stack_in d) are (gives.0, gives.1, (sym gives.2, sym gives.3))

@@ -14,7 +14,7 @@ use Rattle.bajofeki_rules.specs.Position.{is_line_feed, position_of}
 use Rattle.lalrpop_emit.specs.BytePositions.{begins_character, line_behind, column_behind}
 use Rattle.lalrpop_emit.proofs.CharacterBytes.{encode_two, encode_three, encode_four}
 
--- ---- one more element behind a list
+-- ---- one more element after a list
 
 count_by-push : (p : ℕ → Bool) (xs : List ℕ) (x : ℕ) → count_by p (xs ++ x ∷ []) ≡ count_by p xs + cond (p x) 1 0
 count_by-push p xs x = sum_by-append (λ y. cond (p y) 1 0) xs (x ∷ []) ∙ omega arith

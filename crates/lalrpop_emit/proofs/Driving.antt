@@ -127,7 +127,7 @@ module _ (r : ModeRules) (kinds : List ℕ) (room : ℕ) (text : List ℕ) (at :
       λ i. record { kind = sym same.0 i; rule = sym same.1 i; start = sym same.2 i; length = p.length } in
       subst (λ (q : NumberedPiece). ComesNext r kinds room text at s (Piece q) t) piece ((refl, (refl, fault)), tt, then)
 
--- the text is cut on behind it
+-- the text is cut on after it
 pub goes_on : (text : List ℕ) (at end at2 : ℕ) (p : NumberedPiece) (rule : ℕ) → (p.rule ≡ rule) × (p.start ≡ at) × (p.length ≡ end - at) → (at < end) × (end ≤ length text) → at2 ≡ end
     → GoesOn text at p.start p.length at2
 goes_on text at end at2 p rule same place is =

@@ -43,7 +43,7 @@ module _ (a : AheadNumbers) (t : TableNumbers) (text : List ℕ) (end : ℕ) whe
 
   module _ (h : IsAheadOf a t) (old new : List ℕ) (place : ℕ)
       (others : (row at : ℕ) → IsRowOf a row → IsPassed text at → IsNoted new a (length text) row at → IsNoted old a (length text) row at ⊎ (at ≡ place)) where
-    -- a bit that is set at the place changes nothing behind it
+    -- a bit that is set at the place changes nothing after it
     vain_kept : (n row at : ℕ) → IsRowOf a row → place ≤ at → LeadToEnd a t text old end n row at → LeadToEnd a t text new end n row at
     vain_kept zero row at is behind same = same
     vain_kept (suc n) row at is behind (row2, at2, (s, clear, rest)) =

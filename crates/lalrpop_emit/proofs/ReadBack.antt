@@ -28,7 +28,7 @@ skips_text p x = array p (codes "uint8_t $_skipped") (flags x.skips) ++ firsts_t
 abbrev kinds_text : List ℕ → NumberedRules → List ℕ
 kinds_text p x = array p (codes "uint16_t $_kinds") x.kinds ++ skips_text p x
 
--- the numbers of the rules are the same, and so is the text behind them
+-- the numbers of the rules are the same, and so is the text after them
 record RulesRead (x y : NumberedRules) (r s : List ℕ) : Type 0 where
   names : x.names ≡ y.names
   kinds : x.kinds ≡ y.kinds
@@ -70,7 +70,7 @@ unfolding cell_type
 type_lacks true = ((λ e. omega (arith, e)), ((λ e. omega (arith, e)), ((λ e. omega (arith, e)), ((λ e. omega (arith, e)), ((λ e. omega (arith, e)), ((λ e. omega (arith, e)), ((λ e. omega (arith, e)), ((λ e. omega (arith, e)), tt))))))))
 type_lacks false = ((λ e. omega (arith, e)), ((λ e. omega (arith, e)), ((λ e. omega (arith, e)), ((λ e. omega (arith, e)), ((λ e. omega (arith, e)), ((λ e. omega (arith, e)), ((λ e. omega (arith, e)), ((λ e. omega (arith, e)), tt))))))))
 
--- the text behind it is the same
+-- the text after it is the same
 read_typedef : (p name : List ℕ) (b c : Bool) (r s : List ℕ) → cell_typedef p b name ++ r ≡ cell_typedef p c name ++ s → r ≡ s
 unfolding cell_typedef
 read_typedef p name b c r s e =
@@ -140,7 +140,7 @@ arrays_text p ts = table_arrays p 0 ts ++ (tables_head p ++ rows_text p ts)
 abbrev counted_text : List ℕ → List TableNumbers → List ℕ
 counted_text p ts = mode_count p (length ts) ++ arrays_text p ts
 
--- the lists of the tables are the same, and so is the text behind them
+-- the lists of the tables are the same, and so is the text after them
 read_tables : (p : List ℕ) (x y : NumberedRules) (r s : List ℕ) → IsStorable x → IsStorable y → tables_text p x.tables ++ r ≡ tables_text p y.tables ++ s → HaveSameLists x.tables y.tables × (r ≡ s)
 unfolding tables_text
 read_tables p x y r s hx hy e =
@@ -229,7 +229,7 @@ ahead_width_text a = decimal a.width ++ (field a.ends ++ codes "},\n")
 abbrev ahead_start_text : AheadNumbers → List ℕ
 ahead_start_text a = decimal a.start ++ (field a.width ++ (field a.ends ++ codes "},\n"))
 
--- a number up to the comma behind it
+-- a number up to the comma after it
 read_field : (m n : ℕ) (r s : List ℕ) → m < 2 ^ 64 → n < 2 ^ 64 → decimal m ++ (44 ∷ 32 ∷ r) ≡ decimal n ++ (44 ∷ 32 ∷ s) → (m ≡ n) × (r ≡ s)
 read_field m n r s small few e = read_decimal 44 m n (32 ∷ []) r s refl small few e
 
@@ -266,7 +266,7 @@ ahead_arrays_text p xs = ahead_arrays p 0 xs ++ (aheads_head p ++ ahead_rows_tex
 abbrev ahead_struct_text : List ℕ → List AheadNumbers → List ℕ
 ahead_struct_text p xs = filled p AHEAD.now ++ ahead_arrays_text p xs
 
--- the parts of the arrays and of the tables behind them
+-- the parts of the arrays and of the tables after them
 three_parts : (p : List ℕ) (xs : List AheadNumbers) (r : List ℕ) → ahead_arrays_text p xs ++ r ≡ ahead_arrays p 0 xs ++ (aheads_head p ++ (ahead_rows_text p xs ++ r))
 three_parts p xs r =
     append_assoc (ahead_arrays p 0 xs) (aheads_head p ++ ahead_rows_text p xs) r

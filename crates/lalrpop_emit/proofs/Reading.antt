@@ -26,7 +26,7 @@ tail_of (x ∷ xs) = xs
 
 -- ---- delimiters
 
--- what stands before the first d, and what behind it
+-- what stands before the first d, and what after it
 pub cut_at : (d : ℕ) (a b r s : List ℕ) → Lacks d a → Lacks d b → a ++ (d ∷ r) ≡ b ++ (d ∷ s) → (a ≡ b) × (r ≡ s)
 cut_at d [] [] r s la lb e = (refl, ap tail_of e)
 cut_at d [] (y ∷ b) r s la lb e = absurd (lb.0 (sym (ap head_of e)))

@@ -23,7 +23,7 @@ no_bracket (d ∷ ds) t r lack e = lack.0 (ap first_of_text e)
 abbrev blank : ℕ → ℕ
 blank k = if k % 16 == 15 then 10 else 32
 
--- one of the numbers, and the text behind it
+-- one of the numbers, and the text after it
 number_first : (k x : ℕ) (xs r : List ℕ) → listed k (x ∷ xs) ++ r ≡ decimal x ++ ((44 ∷ blank k ∷ []) ++ (listed (k + 1) xs ++ r))
 number_first k x xs r = append_assoc (decimal x) (44 ∷ blank k ∷ listed (k + 1) xs) r
 
@@ -41,7 +41,7 @@ read_numbers k (x ∷ xs) (y ∷ ys) r s ax ay e =
     let rest = read_numbers (k + 1) xs ys r s (All-tail (λ n. n < 2 ^ 64) x xs ax) (All-tail (λ n. n < 2 ^ 64) y ys ay) parts.1 in
     (ap (λ (z : ℕ). z ∷ xs) parts.0 ∙ ap (λ (zs : List ℕ). y ∷ zs) rest.0, rest.1)
 
--- a text of four parts, and what stands behind it
+-- a text of four parts, and what stands after it
 four_parts : (a b c d r : List ℕ) → (a ++ (b ++ (c ++ d))) ++ r ≡ a ++ (b ++ (c ++ (d ++ r)))
 four_parts a b c d r = append_assoc a (b ++ (c ++ d)) r ∙ ap (λ (x : List ℕ). a ++ x) (append_assoc b (c ++ d) r ∙ ap (λ (x : List ℕ). b ++ x) (append_assoc c d r))
 
@@ -61,7 +61,7 @@ read_number_field name m n r s small few e =
 
 -- ---- names
 
--- one of the names, and the text behind it
+-- one of the names, and the text after it
 name_first : (before behind name : List ℕ) (names : List (List ℕ)) (r : List ℕ) → name_lines before behind (name ∷ names) ++ r ≡ before ++ (name ++ (behind ++ (name_lines before behind names ++ r)))
 name_first before behind name names r = four_parts before name behind (name_lines before behind names) r
 

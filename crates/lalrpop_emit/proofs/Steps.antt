@@ -127,7 +127,7 @@ module _ (a : AheadNumbers) (t : TableNumbers) (text : List ℕ) where
         subst (λ (r : ℕ). NothingWithin a t text n r at3) same.0 (subst (NothingWithin a t text n row2) same.1 (after n)),
       )
 
-  -- behind a step
+  -- after a step
   pub nothing_behind : (row at row2 at2 : ℕ) → IsStep a t text row at row2 at2 → NothingFrom a t text row at → NothingFrom a t text row2 at2
   nothing_behind row at row2 at2 s before n = (before (suc n) row2 at2 s).1
 

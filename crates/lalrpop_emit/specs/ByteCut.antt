@@ -24,7 +24,7 @@ stack_in c = record { mode = c.state.mode; below = reverse (take c.state.depth c
 abbrev pub Stays : ByteCut → ByteCut → Type 0
 Stays c d = (place_of d ≡ place_of c) × (stack_in d ≡ stack_in c)
 
--- the piece at the place of c, by the rules of the mode on top; behind it the cut goes on as d. None comes at the end of the text
+-- the piece at the place of c, by the rules of the mode on top; after it the cut goes on as d. None comes at the end of the text
 abbrev pub GivesBytePiece : ModeRules → List ℕ → List ℕ → ByteCut → Option NumberedPiece → ByteCut → Type 0
 GivesBytePiece r kinds text c None d = StopsAt r kinds 1024 text true (place_of c) (stack_in c) × Stays c d
 GivesBytePiece r kinds text c (Some p) d =

@@ -11,7 +11,7 @@ use Rattle.lalrpop_emit.specs.declared.c_text.TheConstants.{HEAD, TABLE, AHEAD, 
 unfoldable pub filled : List ℕ → List ℕ → List ℕ
 filled prefix text = flat_map (λ c. if c == 36 then prefix else encode_utf8 c) (chars text)
 
--- numbers from the place k of a list on, each with a comma behind it, sixteen on a line
+-- numbers from the place k of a list on, each with a comma after it, sixteen on a line
 abbrev pub listed : ℕ → List ℕ → List ℕ
 listed k [] = []
 listed k (n ∷ ns) = decimal n ++ (44 ∷ ((if k % 16 == 15 then 10 else 32) ∷ listed (k + 1) ns))
@@ -87,7 +87,7 @@ abbrev pub table_arrays : List ℕ → ℕ → List TableNumbers → List ℕ
 table_arrays prefix k [] = []
 table_arrays prefix k (t ∷ ts) = mode_arrays prefix k t ++ table_arrays prefix (k + 1) ts
 
--- a number behind a comma
+-- a number after a comma
 unfoldable pub field : ℕ → List ℕ
 field n = codes ", " ++ decimal n
 
@@ -107,7 +107,7 @@ abbrev pub table_rows : List ℕ → ℕ → List TableNumbers → List ℕ
 table_rows prefix k [] = []
 table_rows prefix k (t ∷ ts) = table_row prefix k t ++ table_rows prefix (k + 1) ts
 
--- the tables, behind the type and arrays that they need
+-- the tables, after the type and arrays that they need
 unfoldable pub tables_text : List ℕ → List TableNumbers → List ℕ
 tables_text prefix ts =
     filled prefix TABLE.now
@@ -134,7 +134,7 @@ abbrev pub ahead_rows : List ℕ → ℕ → List AheadNumbers → List ℕ
 ahead_rows prefix k [] = []
 ahead_rows prefix k (a ∷ aheads) = ahead_row prefix k a ++ ahead_rows prefix (k + 1) aheads
 
--- the tables that run ahead, behind the types and arrays that they need
+-- the tables that run ahead, after the types and arrays that they need
 unfoldable pub ahead_text : List ℕ → List AheadNumbers → List ℕ
 ahead_text prefix aheads =
     cell_typedef prefix (list_all is_narrow_ahead aheads) (codes "$_ahead_cell;\n")

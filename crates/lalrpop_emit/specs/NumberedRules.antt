@@ -29,7 +29,7 @@ action_number Pop = 1
 action_number (Mode m) = 2 * m + 2
 action_number (Push m) = 2 * m + 3
 
--- the actions of each rule, and a 0 behind them
+-- the actions of each rule, and a 0 after them
 abbrev pub action_numbers : List (List Action) → List ℕ
 action_numbers [] = []
 action_numbers (actions ∷ rules) = map action_number actions ++ (0 ∷ action_numbers rules)

@@ -14,11 +14,11 @@ use Rattle.lalrpop_emit.specs.declared.rust_text.TheConstants.{HEAD, INTERFACE, 
 
 -- ---- names
 
--- the words that name nothing even behind `r#`
+-- the words that name nothing even after `r#`
 abbrev pub reserved : List (List ℕ)
 reserved = codes "_" ∷ codes "self" ∷ codes "super" ∷ codes "crate" ∷ codes "Self" ∷ []
 
--- behind `r#` the name can be that of a variant
+-- after `r#` the name can be that of a variant
 pub record IsVariant (name : List ℕ) : Type 0 where
   pub identifier : IsIdentifier name
   pub free : IsFalse (list_any (bytes_eq name) reserved)
@@ -38,7 +38,7 @@ IsRustError names _ = ⊥
 
 -- ---- the file
 
--- a line for each name, with a text before and behind it
+-- a line for each name, with a text before and after it
 abbrev pub name_lines : List ℕ → List ℕ → List (List ℕ) → List ℕ
 name_lines before behind [] = []
 name_lines before behind (name ∷ names) = before ++ (name ++ (behind ++ name_lines before behind names))

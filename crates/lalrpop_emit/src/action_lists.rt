@@ -13,7 +13,7 @@ use std::alloc::{AllocError, Global};
 // How many numbers there are at most, so that each place fits 32 bits.
 const MOST: usize = 4_294_967_295;
 
-/// The actions of all rules in numbers, a 0 behind those of each rule, and for each rule where its actions begin.
+/// The actions of all rules in numbers, a 0 after those of each rule, and for each rule where its actions begin.
 #[derive(Debug, Drop)]
 pub(crate) struct ActionLists {
     pub(crate) first_places: Vec<u32>,

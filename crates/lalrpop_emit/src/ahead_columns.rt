@@ -32,7 +32,7 @@ pub(crate) fn column_of(table: &Table, code: u32) -> usize
     128 + class(table, code)
 }
 
-// The column of the byte at the place, which may lie behind the text. Of the character before it, `left` bytes are still to
+// The column of the byte at the place, which may lie after the text. Of the character before it, `left` bytes are still to
 // come.
 fn next_column(ahead: &Ahead, table: &Table, text: &[u8], at: usize, left: usize) -> Column
     requires ahead { IsAheadOf (ahead_numbers ahead.now) (list_numbers table.now) }

@@ -81,7 +81,7 @@ impl Rows {
     }
 }
 
-// First comes the row of `Lost`, which so begins at 0; those of ends come last. A token begins right behind another only in a
+// First comes the row of `Lost`, which so begins at 0; those of ends come last. A token begins right after another only in a
 // row to which the first row leads.
 fn rows_of(alloc: Global, table: &TableLists, stride: usize) -> Result<Rows, AllocError> {
     let slots = table.cells.len().saturating_mul(2).saturating_add(5);
@@ -179,7 +179,7 @@ fn is_right_row(
         && is_lost(standing) == (row == 0)
 }
 
-// Where the pages end that are looked at: those behind the last one have its block, and one at least lies beyond ASCII.
+// Where the pages end that are looked at: those after the last one have its block, and one at least lies beyond ASCII.
 fn page_end(table: &TableLists) -> usize
     ensures { result ≡ min (max (length table.now.pages.items) 2) 8704 }
 {

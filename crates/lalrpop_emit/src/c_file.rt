@@ -47,7 +47,7 @@ fn push_filled(source: &mut String, prefix: &str, text: &str) -> Result<(), Allo
     Ok(())
 }
 
-/// Writes the numbers, each with a comma behind it, sixteen on a line.
+/// Writes the numbers, each with a comma after it, sixteen on a line.
 ///
 /// # Errors
 ///

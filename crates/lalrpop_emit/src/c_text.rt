@@ -27,7 +27,7 @@ typedef struct {
 /// The type of a table that runs ahead, which stands between that of its cells and the tables.
 pub(crate) const AHEAD: &str = "
 /* The table of a mode that runs ahead: it reads each byte, on past the ends of tokens. Its cells lead from a row by a column to
-   a row; behind those of a row stands the rule of the token that ends there. */
+   a row; after those of a row stands the rule of the token that ends there. */
 typedef struct {
     const $_ahead_cell *cells;
     size_t start;
@@ -65,9 +65,9 @@ typedef struct {
     size_t length;               /* how many bytes it has; 0 if there is none */
     uint16_t mode;               /* by whose table */
     size_t since;                /* where in the text the mode on top came there */
-    size_t word;                 /* the word of ends that is looked at; behind the last one if none is */
-    uint64_t bits;               /* what is left of it: the ends behind the place where the next token begins */
-    $_ahead_cell rows[$_most];   /* the row behind each byte */
+    size_t word;                 /* the word of ends that is looked at; after the last one if none is */
+    uint64_t bits;               /* what is left of it: the ends after the place where the next token begins */
+    $_ahead_cell rows[$_most];   /* the row after each byte */
     uint64_t ends[$_most / 64];  /* a bit for each byte: whether a token ends before it */
 } $_run;
 
@@ -207,7 +207,7 @@ $_inline int $_is_open(const $_ahead *ahead, size_t row) {
     return row > 0 && row < ahead->ends;
 }
 
-/* The walk behind one more character, and 1; 0 if there is none, or it leads to a row in which the token isn't open. */
+/* The walk after one more character, and 1; 0 if there is none, or it leads to a row in which the token isn't open. */
 $_inline int $_walked(const $_ahead *ahead, const $_table *table, const unsigned char *text, size_t length, $_walker walk,
     $_walker *next) {
     size_t column = 0;
@@ -237,7 +237,7 @@ $_inline size_t $_memo_words(size_t rows, size_t size) {
     return $_product(rows, size / 4096 + 1);
 }
 
-/* The word of the memo in which the walk's bit is; `words`, which is behind the last one, if the memo has none. */
+/* The word of the memo in which the walk's bit is; `words`, which is after the last one, if the memo has none. */
 $_inline size_t $_word_of(const $_ahead *ahead, size_t size, $_walker walk, size_t words) {
     size_t row_words = size / 4096 + 1;
     size_t number = walk.row / (ahead->width + 1);
@@ -382,7 +382,7 @@ static void $_act(size_t place, $_lexer *lexer) {
     }
 }
 
-/* The column of the byte at the place, which may lie behind the text. Of the character before it, `left` bytes are still to
+/* The column of the byte at the place, which may lie after the text. Of the character before it, `left` bytes are still to
    come, and then those of its own. */
 $_inline uint16_t $_next_column(const $_ahead *ahead, const $_table *table, const unsigned char *text, size_t length, size_t at,
     size_t *left) {
@@ -523,7 +523,7 @@ static void $_join(const $_ahead *ahead, const uint16_t *columns, size_t count, 
 }
 
 /* The columns of the bytes of the text from a place on, and the rows that they lead to from the start, one after another: each
-   stands for what is known behind its byte. */
+   stands for what is known after its byte. */
 static void $_fill(const $_ahead *ahead, const $_table *table, const unsigned char *text, size_t length, size_t from,
     uint16_t *columns, size_t count, $_ahead_cell *rows) {
     $_columns_of(ahead, table, text, length, from, columns, count);
@@ -600,13 +600,13 @@ $_inline size_t $_next_end($_run *run) {
     return run->word * 64 + $_trailing_zeros(run->bits);
 }
 
-/* Goes on behind the token that ends next. */
+/* Goes on after the token that ends next. */
 $_inline void $_take($_run *run) {
     run->bits &= run->bits - 1;
 }
 
 /* Whether the block tells the token that begins where the text goes on, and then its rule, and where it ends. It doesn't where
-   that token is a fault, ends behind the block, or ends before a longer one that then doesn't match. */
+   that token is a fault, ends after the block, or ends before a longer one that then doesn't match. */
 $_inline int $_known(const $_ahead *ahead, $_run *run, uint32_t *rule, size_t *token_end) {
     size_t end = $_next_end(run);
     if (end == 0) {
@@ -702,7 +702,7 @@ $_inline void $_token_piece(size_t start, size_t end, uint32_t rule, $_piece *pi
     piece->length = end - start;
 }
 
-/* The fault that begins where the text goes on, behind which it then goes on. */
+/* The fault that begins where the text goes on, after which it then goes on. */
 static void $_fault_piece($_lexer *lexer, $_piece *piece) {
     const $_table *table = &$_tables[lexer->mode];
     const $_ahead *ahead = &$_aheads[lexer->mode];

@@ -29,7 +29,7 @@ fn mark_block(blocks: &[u32], block: u32, marks: &mut [bool]) {
     }
 }
 
-// For each class whether it occurs beyond ASCII. Pages behind the last one have its block, also if it is that of ASCII.
+// For each class whether it occurs beyond ASCII. Pages after the last one have its block, also if it is that of ASCII.
 fn beyond_ascii(alloc: Global, table: &TableLists) -> Result<Vec<bool>, AllocError> {
     let mut marks = vec![in alloc; false; table.width]?;
     let first = if table.pages.len() > 1 { 1 } else { 0 };
@@ -77,7 +77,7 @@ fn moved_blocks(alloc: Global, blocks: &[u32], numbers: &[u32]) -> Result<Vec<u3
     Ok(moved)
 }
 
-// The cells of each row in the new order, and behind them that of the rule, which stays.
+// The cells of each row in the new order, and after them that of the rule, which stays.
 fn moved_cells(alloc: Global, table: &TableLists, classes: &[u32]) -> Result<Vec<u32>, AllocError> {
     let mut moved = Vec::new(alloc);
     for row in (0..table.cells.len()).step_by(table.width.saturating_add(1)) {

@@ -76,7 +76,7 @@ fn is_open(ahead: &Ahead, row: usize) -> bool
     row > 0 && row < ahead.ends
 }
 
-// The walk behind one more character. `None` if there is none, or it leads to a row in which the token isn't open.
+// The walk after one more character. `None` if there is none, or it leads to a row in which the token isn't open.
 fn walked(ahead: &Ahead, table: &Table, text: &[u8], walk: Walk) -> Option<Walk>
     requires ahead { IsAheadOf (ahead_numbers ahead.now) (list_numbers table.now) }
     requires classes { AreClasses (list_numbers table.now) }

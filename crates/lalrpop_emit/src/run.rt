@@ -21,13 +21,13 @@ pub(crate) struct Run {
     pub(crate) mode: u16,
     /// Where in the text the mode on top came there.
     pub(crate) since: usize,
-    /// The word of `ends` that is looked at; behind the last one if none is.
+    /// The word of `ends` that is looked at; after the last one if none is.
     pub(crate) word: usize,
-    /// What is left of it: the ends behind the place where the next token begins.
+    /// What is left of it: the ends after the place where the next token begins.
     pub(crate) bits: u64,
     /// The column of each byte.
     pub(crate) columns: Vec<u16>,
-    /// The row behind each byte.
+    /// The row after each byte.
     pub(crate) rows: Vec<AheadCell>,
     /// A bit for each byte: whether a token ends before it.
     pub(crate) ends: Vec<u64>,

@@ -15,14 +15,14 @@ use crate::rust_text::{DRIVER, HEAD, INTERFACE};
 use crate::table_lists::TableLists;
 use std::alloc::{AllocError, Global};
 
-// Whether the word names nothing even behind `r#`.
+// Whether the word names nothing even after `r#`.
 fn is_reserved(name: &str) -> bool
     ensures { result ≡ list_any (bytes_eq name.now) reserved }
 {
     name == "_" || name == "self" || name == "super" || name == "crate" || name == "Self"
 }
 
-// Whether the name can be that of a variant behind `r#`.
+// Whether the name can be that of a variant after `r#`.
 fn is_variant(name: &str) -> bool
     ensures { IsTrue result ↔ IsVariant name.now }
 {

@@ -179,7 +179,7 @@ struct Numbers {
 }
 
 // The table of a mode that runs ahead: it reads each byte, on past the ends of tokens. Its cells lead from a row by a column to a
-// row; behind those of a row stands the rule of the token that ends there.
+// row; after those of a row stands the rule of the token that ends there.
 struct Ahead {
     start: usize,
     width: usize,
@@ -210,13 +210,13 @@ struct Run {
     mode: u16,
     // Where in the text the mode on top came there.
     since: usize,
-    // The word of `ends` that is looked at; behind the last one if none is.
+    // The word of `ends` that is looked at; after the last one if none is.
     word: usize,
-    // What is left of it: the ends behind the place where the next token begins.
+    // What is left of it: the ends after the place where the next token begins.
     bits: u64,
     // The column of each byte.
     columns: [u16; MOST],
-    // The row behind each byte.
+    // The row after each byte.
     rows: [AheadCell; MOST],
     // A bit for each byte: whether a token ends before it.
     ends: [u64; MOST / 64],
@@ -554,7 +554,7 @@ fn is_open(ahead: &Ahead, row: usize) -> bool {
     row > 0 && row < ahead.ends
 }
 
-// The walk behind one more character. `None` if there is none, or it leads to a row in which the token isn't open.
+// The walk after one more character. `None` if there is none, or it leads to a row in which the token isn't open.
 fn walked(ahead: &Ahead, table: &Table, text: &[u8], walk: Walk) -> Option<Walk> {
     if walk.at >= text.len() {
         return None;
@@ -738,7 +738,7 @@ fn column_of(table: &Table, code: u32) -> usize {
     128 + class(table, code)
 }
 
-// The column of the byte at the place, which may lie behind the text. Of the character before it, `left` bytes are still to
+// The column of the byte at the place, which may lie after the text. Of the character before it, `left` bytes are still to
 // come.
 fn next_column(ahead: &Ahead, table: &Table, text: &[u8], at: usize, left: usize) -> Column {
     let within = ahead.width - 2;

@@ -56,7 +56,7 @@ next_opens = refl
 ended_before_b : is_end (standing_after a_or_b 133 (97 ∷ 98 ∷ [])) ≡ true
 ended_before_b = refl
 
--- the text ends behind `a`
+-- the text ends after `a`
 ended_before_the_end : standing_after a_or_b 133 (97 ∷ 132 ∷ []) ≡ Ended
 ended_before_the_end = refl
 

@@ -76,7 +76,7 @@ module _ (a b : Tree) (first : IsBytePiece (trees_in (brackets a b) 0) (0 ∷ 0 
   no_room_for_a_push : AreBytePieces (brackets a b) (0 ∷ 1 ∷ []) 0 (40 ∷ 41 ∷ []) [] false
   no_room_for_a_push = (token 0 0, (first, λ fits. omega (arith, fits.0)))
 
-  -- up to the place behind the first bracket, where the second mode is on top
+  -- up to the place after the first bracket, where the second mode is on top
   up_to_a_place : AreBytePiecesTo (brackets a b) (0 ∷ 1 ∷ []) 1 (40 ∷ 41 ∷ []) 0 start (token 0 0 ∷ []) 1 (record { mode = 1; below = 0 ∷ [] })
   up_to_a_place = (first, (omega arith, tt), (refl, refl))
 
@@ -105,7 +105,7 @@ no_stop_with_room a b h = h.1.1 (each h.0.kind h.0.rule)
 fault_keeps_the_stack : (s : Stack) → after_piece ((Push 1 ∷ []) ∷ []) (fault 0 1) s ≡ s
 fault_keeps_the_stack s = refl
 
--- a pop makes room for the push behind it
+-- a pop makes room for the push after it
 pop_before_push : Fits 1 (Pop ∷ Push 2 ∷ []) (record { mode = 1; below = 0 ∷ [] })
 pop_before_push = (omega arith, (omega arith, tt))
 

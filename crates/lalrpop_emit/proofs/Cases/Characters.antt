@@ -2,7 +2,7 @@
 use Rattle.std.proofs.Common.{◌≡◌, [], ◌∷◌, length, get_or, refl, ap, arith}
 use Rattle.lalrpop_emit.specs.Internal.Characters.{IsCharacterAt, IsFollowing}
 
--- `é` behind an `a`
+-- `é` after an `a`
 two_bytes : IsCharacterAt (0x61 ∷ 0xC3 ∷ 0xA9 ∷ []) 1 0xE9
 unfolding lib.Utf8.encode
 two_bytes = record { scalar = refl; rest = []; split = refl }

@@ -9,7 +9,7 @@ pub record IsCharacterAt (text : List ℕ) (at c : ℕ) : Type 0 where
   pub rest : List ℕ
   pub split : drop at text ≡ encode_utf8 c ++ rest
 
--- the byte at this place is one that stands in a character behind its first one
+-- the byte at this place is one that stands in a character after its first one
 pub record IsFollowing (text : List ℕ) (at : ℕ) : Type 0 where
   pub within : at < length text
   pub least : 128 ≤ slice_index text at

@@ -22,7 +22,7 @@ ComesNext r kinds room text at s (Piece p) t = IsModePiece r kinds text at s p �
 ComesNext r kinds room text at s End t = StopsAt r kinds room text true at s × (t ≡ s)
 ComesNext r kinds room text at s TooDeep t = StopsAt r kinds room text false at s × (t ≡ s)
 
--- a piece begins at the place and isn't empty, and the text is cut on behind it
+-- a piece begins at the place and isn't empty, and the text is cut on after it
 pub record GoesOn (text : List ℕ) (at start size at2 : ℕ) : Type 0 where
   pub begins : start ≡ at
   pub some : 0 < size

@@ -44,7 +44,7 @@ pub record IsLastMatch (a : AheadNumbers) (t : TableNumbers) (text : List ℕ) (
   pub lead : LeadTo a t text start characters row at
   pub matched : 0 < characters → slice_index a.cells (row + a.width) ≢ no_rule
 
--- a character that begins before a multiple of 64 ends at the place, which is that or lies behind it
+-- a character that begins before a multiple of 64 ends at the place, which is that or lies after it
 pub record IsPassed (text : List ℕ) (at : ℕ) : Type 0 where
   pub before : ℕ
   pub character : ℕ

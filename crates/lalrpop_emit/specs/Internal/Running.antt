@@ -29,7 +29,7 @@ pub record AreEnds (least : ℕ) (run : Run) : Type 0 where
   pub whole : run.length ≡ run.length / 64 * 64
   pub are : (w : ℕ) → w < run.length / 64 → IsWordOf least run.rows.items w (slice_index run.ends.items w)
 
--- the block was run through: each row stands for what is known behind its byte, and the bits are those of its ends
+-- the block was run through: each row stands for what is known after its byte, and the bits are those of its ends
 pub record IsRunThrough (a : AheadNumbers) (t : TableNumbers) (text : List ℕ) (run : Run) : Type 0 where
   pub ahead : IsAheadOf a t
   pub classes : AreClasses t
@@ -39,7 +39,7 @@ pub record IsRunThrough (a : AheadNumbers) (t : TableNumbers) (text : List ℕ) 
   pub rows : (k : ℕ) → k < run.length → StandsFor a ahead.standings (slice_index run.rows.items k) (standing_after t a.width (take (k + 1) (take run.length run.columns.items)))
   pub ends : AreEnds a.ends run
 
--- a token begins at the place, in the word or before it, which is an end or the beginning; no end lies between them; the bits are the ends behind the place
+-- a token begins at the place, in the word or before it, which is an end or the beginning; no end lies between them; the bits are the ends after the place
 pub record IsAtPlace (least : ℕ) (run : Run) (place : ℕ) : Type 0 where
   pub marked : AreEnds least run
   pub before : place < run.word * 64 + 64
@@ -54,7 +54,7 @@ pub record HasNoEnd (run : Run) : Type 0 where
   pub bits : run.bits ≡ 0
   pub word : run.length / 64 ≤ run.word + 1
 
--- the next end behind the place, in the word
+-- the next end after the place, in the word
 pub record IsNextEnd (least : ℕ) (run : Run) (place end : ℕ) : Type 0 where
   pub behind : place < end
   pub from : run.word * 64 ≤ end
@@ -62,7 +62,7 @@ pub record IsNextEnd (least : ℕ) (run : Run) (place end : ℕ) : Type 0 where
   pub ends : least ≤ slice_index run.rows.items end
   pub none : (z : ℕ) → place < z → z < end → slice_index run.rows.items z < least
 
--- no end lies behind the place
+-- no end lies after the place
 abbrev pub IsLastIn : ℕ → Run → ℕ → Type 0
 IsLastIn least run place = (z : ℕ) → place < z → z < run.length → slice_index run.rows.items z < least
 
