@@ -17,7 +17,7 @@ use Rattle.lalrpop_lexer.proofs.Cuttings.{cut_behind}
 use Rattle.lalrpop_lexer.proofs.Costs.{token_given, fault_given}
 use Rattle.lalrpop_lexer.proofs.Founds.{IsFoundUpTo, found_with, found_without}
 use Rattle.lalrpop_lexer.proofs.lexer_tokens.LexerTokens.next_token.Goals as goal
-use Rattle.lalrpop_lexer.proofs.lexer_tokens.LexerTokens.next_token.Goals.{in-Plain, in-Remembering}
+use Rattle.lalrpop_lexer.proofs.lexer_tokens.LexerTokens.next_token.Goals.{In-Some, In-None, in-Plain, in-Remembering}
 
 abbrev view : Inside → LexerCutting
 view i = record {
@@ -83,9 +83,9 @@ gives_fault old new found fault u on some is at here =
     fault_given (view old) (view (record new { is_over = true })) fault u on some at h.is.is_found
     (ap (λ (i : Inside). (view (record i { is_over = true })).cutting) h.kept)
 
-pub invariant_of-self : goal.invariant_of-self
-invariant_of-self c =
-    let here : IsSearched c.self.inside c.match-self.self-inside c.match-self.found =
+-- so the longest match was sought, with a memo or without, where one is found and where none is
+some_searched : (c : In-Some) → IsSearched c.self.inside c.match-self.self-inside c.match-self.found
+some_searched c =
     elim c.match-self.branch [
       | in-Plain w ↦ (
           let e = w.next_match-found.ensures in
@@ -98,85 +98,53 @@ invariant_of-self c =
           c.self.invariant.1 w.in-Remembering.is w.found-is w.self-inside-is (record { answer = e.answer; prefix = e.prefix; goes_on = e.goes_on; stays = e.stays })
           (record { paid = e.paid; read = e.read })
           )
-    ] in
+    ]
+
+none_searched : (c : In-None) → IsSearched c.self.inside c.match-self.self-inside c.match-self.found
+none_searched c =
+    elim c.match-self.branch [
+      | in-Plain w ↦ (
+          let e = w.next_match-found.ensures in
+          searched_without c.self.inside c.match-self.self-inside w.in-Plain.matches w.next_match-found.new.self c.match-self.found w.next_match-found.result w.next_match-found.new.steps
+          c.self.invariant.1 w.in-Plain.is w.found-is w.self-inside-is e.next e.paid
+          )
+      | in-Remembering w ↦ (
+          let e = w.next_match-found-in-Remembering.ensures in
+          searched_with c.self.inside c.match-self.self-inside w.in-Remembering.matches w.next_match-found-in-Remembering.new.self c.match-self.found w.next_match-found-in-Remembering.result w.next_match-found-in-Remembering.new.steps
+          c.self.invariant.1 w.in-Remembering.is w.found-is w.self-inside-is (record { answer = e.answer; prefix = e.prefix; goes_on = e.goes_on; stays = e.stays })
+          (record { paid = e.paid; read = e.read })
+          )
+    ]
+
+pub invariant_of-self : goal.invariant_of-self
+invariant_of-self c =
+    let here = some_searched (goal.at.invariant_of-self c).In-Some in
     stands_behind c.self.inside c.match-self.self-inside c.match-self.found c.in-Some.matched (subst IsUtf8 c.range_from-rest.ensures.value c.range_from-rest.utf8) c.self.invariant.0 c.in-Some.is here
 
 pub returns-in-Some-clause-gives : goal.returns-in-Some-clause-gives
 returns-in-Some-clause-gives c =
-    let here : IsSearched c.self.inside c.match-self.self-inside c.match-self.found =
-    elim c.match-self.branch [
-      | in-Plain w ↦ (
-          let e = w.next_match-found.ensures in
-          searched_without c.self.inside c.match-self.self-inside w.in-Plain.matches w.next_match-found.new.self c.match-self.found w.next_match-found.result w.next_match-found.new.steps
-          c.self.invariant.1 w.in-Plain.is w.found-is w.self-inside-is e.next e.paid
-          )
-      | in-Remembering w ↦ (
-          let e = w.next_match-found-in-Remembering.ensures in
-          searched_with c.self.inside c.match-self.self-inside w.in-Remembering.matches w.next_match-found-in-Remembering.new.self c.match-self.found w.next_match-found-in-Remembering.result w.next_match-found-in-Remembering.new.steps
-          c.self.invariant.1 w.in-Remembering.is w.found-is w.self-inside-is (record { answer = e.answer; prefix = e.prefix; goes_on = e.goes_on; stays = e.stays })
-          (record { paid = e.paid; read = e.read })
-          )
-    ] in
+    let here = some_searched (goal.at.returns-in-Some-clause-gives c).In-Some in
     rw (← c.self.view_is)
     (gives_token c.self.inside c.match-self.self-inside c.match-self.found (record { index = c.in-Some.matched.0; slice = c.in-Some.matched.1; start = c.self.inside.at }) (subst IsUtf8 c.range_from-rest.ensures.value c.range_from-rest.utf8) c.if-self.false
     c.in-Some.is refl here).0
 
 pub returns-in-Some-clause-goes : goal.returns-in-Some-clause-goes
 returns-in-Some-clause-goes c =
-    let here : IsSearched c.self.inside c.match-self.self-inside c.match-self.found =
-    elim c.match-self.branch [
-      | in-Plain w ↦ (
-          let e = w.next_match-found.ensures in
-          searched_without c.self.inside c.match-self.self-inside w.in-Plain.matches w.next_match-found.new.self c.match-self.found w.next_match-found.result w.next_match-found.new.steps
-          c.self.invariant.1 w.in-Plain.is w.found-is w.self-inside-is e.next e.paid
-          )
-      | in-Remembering w ↦ (
-          let e = w.next_match-found-in-Remembering.ensures in
-          searched_with c.self.inside c.match-self.self-inside w.in-Remembering.matches w.next_match-found-in-Remembering.new.self c.match-self.found w.next_match-found-in-Remembering.result w.next_match-found-in-Remembering.new.steps
-          c.self.invariant.1 w.in-Remembering.is w.found-is w.self-inside-is (record { answer = e.answer; prefix = e.prefix; goes_on = e.goes_on; stays = e.stays })
-          (record { paid = e.paid; read = e.read })
-          )
-    ] in
+    let here = some_searched (goal.at.returns-in-Some-clause-goes c).In-Some in
     rw (← c.self.view_is)
     (gives_token c.self.inside c.match-self.self-inside c.match-self.found (record { index = c.in-Some.matched.0; slice = c.in-Some.matched.1; start = c.self.inside.at }) (subst IsUtf8 c.range_from-rest.ensures.value c.range_from-rest.utf8) c.if-self.false
     c.in-Some.is refl here).1
 
 pub returns-in-None-clause-gives : goal.returns-in-None-clause-gives
 returns-in-None-clause-gives c =
-    let here : IsSearched c.self.inside c.match-self.self-inside c.match-self.found =
-    elim c.match-self.branch [
-      | in-Plain w ↦ (
-          let e = w.next_match-found.ensures in
-          searched_without c.self.inside c.match-self.self-inside w.in-Plain.matches w.next_match-found.new.self c.match-self.found w.next_match-found.result w.next_match-found.new.steps
-          c.self.invariant.1 w.in-Plain.is w.found-is w.self-inside-is e.next e.paid
-          )
-      | in-Remembering w ↦ (
-          let e = w.next_match-found-in-Remembering.ensures in
-          searched_with c.self.inside c.match-self.self-inside w.in-Remembering.matches w.next_match-found-in-Remembering.new.self c.match-self.found w.next_match-found-in-Remembering.result w.next_match-found-in-Remembering.new.steps
-          c.self.invariant.1 w.in-Remembering.is w.found-is w.self-inside-is (record { answer = e.answer; prefix = e.prefix; goes_on = e.goes_on; stays = e.stays })
-          (record { paid = e.paid; read = e.read })
-          )
-    ] in
+    let here = none_searched (goal.at.returns-in-None-clause-gives c).In-None in
     rw (← c.self.view_is)
     (gives_fault c.self.inside c.match-self.self-inside c.match-self.found (record { at = c.self.inside.at }) (subst IsUtf8 c.range_from-rest.ensures.value c.range_from-rest.utf8) c.if-self.false
     (some_left c.range_from-rest.result.now _ c.is_empty.result c.range_from-rest.ensures.value c.is_empty.ensures c.if-is_empty.false) c.in-None.is refl here).0
 
 pub returns-in-None-clause-goes : goal.returns-in-None-clause-goes
 returns-in-None-clause-goes c =
-    let here : IsSearched c.self.inside c.match-self.self-inside c.match-self.found =
-    elim c.match-self.branch [
-      | in-Plain w ↦ (
-          let e = w.next_match-found.ensures in
-          searched_without c.self.inside c.match-self.self-inside w.in-Plain.matches w.next_match-found.new.self c.match-self.found w.next_match-found.result w.next_match-found.new.steps
-          c.self.invariant.1 w.in-Plain.is w.found-is w.self-inside-is e.next e.paid
-          )
-      | in-Remembering w ↦ (
-          let e = w.next_match-found-in-Remembering.ensures in
-          searched_with c.self.inside c.match-self.self-inside w.in-Remembering.matches w.next_match-found-in-Remembering.new.self c.match-self.found w.next_match-found-in-Remembering.result w.next_match-found-in-Remembering.new.steps
-          c.self.invariant.1 w.in-Remembering.is w.found-is w.self-inside-is (record { answer = e.answer; prefix = e.prefix; goes_on = e.goes_on; stays = e.stays })
-          (record { paid = e.paid; read = e.read })
-          )
-    ] in
+    let here = none_searched (goal.at.returns-in-None-clause-goes c).In-None in
     rw (← c.self.view_is)
     (gives_fault c.self.inside c.match-self.self-inside c.match-self.found (record { at = c.self.inside.at }) (subst IsUtf8 c.range_from-rest.ensures.value c.range_from-rest.utf8) c.if-self.false
     (some_left c.range_from-rest.result.now _ c.is_empty.result c.range_from-rest.ensures.value c.is_empty.ensures c.if-is_empty.false) c.in-None.is refl here).1
