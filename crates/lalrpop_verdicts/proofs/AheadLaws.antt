@@ -1,12 +1,11 @@
 -- The automaton that begins in a state and stays where it accepts: it accepts a word if a nonempty prefix leads from the state to one that accepts.
-use Rattle.std.proofs.Common.{◌≡◌, ◌≢◌, ℕ, zero, suc, ◌+◌, ◌<◌, ◌≤◌, ◌⊎◌, inl, inr, ⊎_elim, List, [], ◌∷◌, ◌++◌, length, map, refl, sym, ap, ◌∙◌, subst, arith, Bool, true, false}
+use Rattle.std.proofs.Common.{◌≡◌, ◌≢◌, ℕ, zero, suc, ◌+◌, ◌<◌, ◌≤◌, ◌⊎◌, inl, inr, ⊎_elim, List, [], ◌∷◌, ◌++◌, length, refl, sym, ap, ◌∙◌, subst, arith, Bool, true, false}
 use Rattle.std.specs.Prelude.{slice_get, Option, Some, None, IsSomeAnd, nat_le, ◌&&◌, if◌then◌else◌}
 use Rattle.std.proofs.lemmas.Bool.{cases_lt}
 use Rattle.std.proofs.lemmas.List.{length_push}
 use Rattle.std.proofs.lemmas.Option.{slice_get_within}
 use Rattle.lalrpop_hir.proofs.Pushed.{pushed_keeps, pushed_last}
 use Rattle.lalrpop_hir.specs.Range.{Range}
-use Rattle.lalrpop_dfa.specs.declared.Kind.TheVariants.{Accepts, Neither}
 use Rattle.lalrpop_dfa.specs.Dfa.{Row, edge_target, step, run, after, AreAscendingTests, IsWellFormed}
 use Rattle.lalrpop_dfa.specs.Lookahead.{IsAccepting}
 use Rattle.lalrpop_dfa.proofs.EdgeTargets.{place_of, step_of, step_within, the_some}

@@ -1,13 +1,12 @@
 -- The least tokens side by side, from the first pairs of states at which they end.
-use Rattle.std.proofs.Common.{◌≡◌, ◌≢◌, ℕ, ◌++◌, List, [], slice_get, Some, sym, ap, ◌∙◌, subst}
+use Rattle.std.proofs.Common.{◌≡◌, ◌≢◌, ℕ, ◌++◌, List, [], slice_get, sym, ap, ◌∙◌, subst}
 use Rattle.std.specs.Prelude.{◌↔◌}
-use Rattle.lalrpop_hir.specs.Word.{Shortlex}
 use Rattle.lalrpop_dfa.specs.Dfa.{Row, run, after}
 use Rattle.lalrpop_dfa.specs.Lookahead.{IsAccepting}
 use Rattle.lalrpop_dfa.specs.Witness.{IsLeast}
 use Rattle.lalrpop_dfa.proofs.AfterLaws.{run_append}
 use Rattle.lalrpop_verdicts.specs.Answers.{IsTextWord, accepted_at, answer}
-use Rattle.lalrpop_verdicts.specs.Beside.{IsToken, RunsOn, TwoWords, IsLeastPair}
+use Rattle.lalrpop_verdicts.specs.Beside.{IsToken, RunsOn, IsLeastPair}
 use Rattle.lalrpop_verdicts.specs.Internal.Beside.{AreBeside, EndsHead, EndsTail, Fits, IsAhead, IsTail, Passes}
 use Rattle.lalrpop_verdicts.specs.Internal.Pairs.{LeadTo}
 use Rattle.lalrpop_verdicts.specs.declared.pairs.Pair.{Pair}

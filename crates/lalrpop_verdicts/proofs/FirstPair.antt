@@ -8,8 +8,7 @@ use Rattle.lalrpop_hir.proofs.Words.{Shortlex-transitive}
 use Rattle.lalrpop_dfa.specs.Dfa.{Row, after}
 use Rattle.lalrpop_dfa.specs.Witness.{IsLeast}
 use Rattle.lalrpop_verdicts.specs.Answers.{IsTextWord}
-use Rattle.lalrpop_verdicts.specs.Internal.Beside.{NoneBefore}
-use Rattle.lalrpop_verdicts.specs.Internal.Pairs.{LeadTo, ArePairs}
+use Rattle.lalrpop_verdicts.specs.Internal.Pairs.{LeadTo, ArePairs, NoneBefore}
 use Rattle.lalrpop_verdicts.specs.declared.pairs.Pair.{Pair}
 use Rattle.lalrpop_verdicts.specs.declared.pairs.Follow.TheVariants.{All}
 

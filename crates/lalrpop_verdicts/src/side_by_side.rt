@@ -15,7 +15,14 @@ use lalrpop_dfa::{Dfa, DfaStateIndex, Kind, NfaIndex, RowWriter};
 use std::alloc::{AllocError, Global};
 use std::marker::Model;
 
-/// A token of one pattern, and one of another pattern after it.
+/// A token of one pattern, and a token of a second pattern right after it.
+///
+/// ```
+/// if let Some(pair) = &joins.lost {
+///     let length = pair.first.len(); // in characters
+///     let second = pair.second.as_slice(); // the code values of its characters
+/// }
+/// ```
 #[derive(Debug, Drop)]
 pub struct TokenPair {
     /// The first token's text, by the code values of its characters; it is never empty.
@@ -32,9 +39,15 @@ impl Model for TokenPair {
     ghost view = { λ p. record { first = p.first.items; second = p.second.items } };
 }
 
-/// What becomes of the texts in which a token of one pattern is followed by one of another, with nothing between them.
+/// What becomes of the texts of two tokens, one of each of two patterns, with nothing between them.
 ///
 /// Such tokens may always stand side by side if `lost` is `None`, and sometimes if `kept` is not.
+///
+/// ```
+/// let joins = beside(alloc, &dfa, first, second)?;
+/// let need_no_space = joins.lost.is_none();
+/// let always_need_space = joins.kept.is_none();
+/// ```
 #[derive(Debug, Drop)]
 pub struct Joins {
     /// The least pair whose join is cut as the two; `None` if there is none.
@@ -70,7 +83,7 @@ impl Cut {
 /// The join is all of the text: what comes after the second token isn't looked at. If a pattern has no token, or isn't one of the
 /// automaton's, there are no pairs at all.
 ///
-/// Cost: for each state that accepts `first`, at most, a walk over pairs of states, and the memory of one such walk.
+/// Cost: at most two walks over the pairs of states for each state that accepts `first`; the memory of one such walk.
 ///
 /// ```
 /// // 0: `[0-9]+`, 1: `[0-9]+\.[0-9]+`

@@ -63,7 +63,3 @@ EndsTail cut e d j x = Fits cut (IsAccepting e x.left) × (accepted_at (slice_ge
 -- the pair's left state accepts i, and some token of j is cut so after it
 abbrev pub EndsHead : Cut → List Row → ℕ → ℕ → Pair → Type 0
 EndsHead cut d i j x = (accepted_at (slice_get d x.left) ≡ Some i) × ((b : List ℕ) × IsTail cut d x.left j b)
-
--- of the pairs before the place n none has the property
-abbrev pub NoneBefore : (Pair → Type 0) → List Pair → ℕ → Type 0
-NoneBefore Q pairs n = (k : ℕ) (x : Pair) → k < n → slice_get pairs k ≡ Some x → ¬ Q x

@@ -1,7 +1,6 @@
-use Rattle.std.proofs.Common.{◌≡◌, ◌<◌, ◌++◌, ◌∷◌, [], ℕ, List, length, ap, ◌∙◌, subst, sym, arith}
+use Rattle.std.proofs.Common.{◌≡◌, ◌++◌, ◌∷◌, [], ℕ, length, ◌∙◌, subst, sym, arith}
 use Rattle.std.specs.Prelude.{slice_get, IsSomeAnd}
 use Rattle.std.proofs.lemmas.Result.{IfOk-weaker}
-use Rattle.lalrpop_dfa.specs.Dfa.{Row}
 use Rattle.lalrpop_verdicts.specs.Answers.{accepted_by}
 use Rattle.lalrpop_verdicts.specs.Internal.Beside.{AreAhead, IsAhead, row_ahead}
 use Rattle.lalrpop_verdicts.proofs.AheadLaws.{ahead_none, ahead_more, ahead_well}

@@ -5,9 +5,7 @@ use Rattle.std.proofs.lemmas.Option.{slice_get_read}
 use Rattle.lalrpop_dfa.specs.Witness.{IsLeast}
 use Rattle.lalrpop_dfa.proofs.Marking.{accepting_within}
 use Rattle.lalrpop_verdicts.specs.Answers.{accepted_at}
-use Rattle.lalrpop_verdicts.specs.Beside.{IsLeastPair}
 use Rattle.lalrpop_verdicts.specs.Internal.Beside.{EndsHead, IsAhead, IsTail}
-use Rattle.lalrpop_verdicts.specs.declared.pairs.Pair.{Pair}
 use Rattle.lalrpop_verdicts.specs.declared.pairs.Follow.TheVariants.{All}
 use Rattle.lalrpop_verdicts.proofs.FirstPair.{no_word, least_word, none_more, none_to_end}
 use Rattle.lalrpop_verdicts.proofs.BesideLaws.{IsHead, head_text, head_pair, least_of_both}

@@ -1,7 +1,8 @@
-use Rattle.std.proofs.Common.{◌≡◌, ℕ, ◌<◌, List, Some, length, slice_get, refl, sym, ap, ◌∙◌, subst, arith, true}
+use Rattle.std.proofs.Common.{◌≡◌, List, Some, length, slice_get, refl, sym, ◌∙◌, subst}
 use Rattle.std.proofs.lemmas.Bool.{false≢true}
 use Rattle.std.proofs.lemmas.Option.{slice_get_read}
-use Rattle.lalrpop_verdicts.specs.Internal.Beside.{EndsTail, IsTail, NoneBefore}
+use Rattle.lalrpop_verdicts.specs.Internal.Beside.{EndsTail, IsTail}
+use Rattle.lalrpop_verdicts.specs.Internal.Pairs.{NoneBefore}
 use Rattle.lalrpop_verdicts.specs.declared.pairs.Pair.{Pair}
 use Rattle.lalrpop_verdicts.specs.declared.pairs.Follow.TheVariants.{All}
 use Rattle.lalrpop_verdicts.proofs.Differing.{HasPlace}

@@ -1,4 +1,5 @@
-use Rattle.lalrpop_verdicts.specs.Internal.Beside.{EndsTail, NoneBefore}
+use Rattle.lalrpop_verdicts.specs.Internal.Beside.{EndsTail}
+use Rattle.lalrpop_verdicts.specs.Internal.Pairs.{NoneBefore}
 use Rattle.lalrpop_verdicts.proofs.side_by_side.least_tail.Given as goal
 
 abbrev pub invariant-loop-number : goal.invariant-loop-number
