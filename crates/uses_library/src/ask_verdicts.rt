@@ -16,7 +16,7 @@ ghost use Rattle.lalrpop_verdicts.specs.Verdicts.{IsWonBy, words_of};
 use lalrpop_dfa::Dfa;
 use lalrpop_hir::{DfaConstructionError, Hir, NfaIndex, Regex};
 use lalrpop_verdicts::{
-    Difference, TokenPair, Verdict, beside, dot, least_difference, matches_empty, minimized,
+    Difference, Joins, Verdict, beside, dot, least_difference, matches_empty, minimized,
     same_language, verdicts, winners,
 };
 use std::alloc::{AllocError, Global};
@@ -211,25 +211,23 @@ pub fn always_need_space(
 }
 
 // Needs lalrpop_verdicts::beside: kept, lost.
-/// The least two tokens that need a space, or else the least two tokens of these patterns.
+/// Two tokens that need no space between them, and two that do.
 ///
 /// # Errors
 ///
 /// `AllocError` if a request for memory was refused.
-pub fn two_tokens(
+pub fn examples(
     alloc: Global,
     dfa: &Dfa,
     first: NfaIndex,
     second: NfaIndex,
-) -> Result<Option<TokenPair>, AllocError>
-    ensures first { IfOk result (λ found. IfSome found (λ p. (ts : List Tree) (ps : List ℕ)
-        → RecognizesAll dfa.now ts ps → IsOnlyStrongest ts ps p.first first)) }
-    ensures second { IfOk result (λ found. IfSome found (λ p. (ts : List Tree) (ps : List ℕ)
-        → RecognizesAll dfa.now ts ps → IsOnlyStrongest ts ps p.second second)) }
+) -> Result<Joins, AllocError>
+    ensures without_space { IfOk result (λ joins. IfSome joins.kept (λ p. (ts : List Tree)
+        (ps : List ℕ) → RecognizesAll dfa.now ts ps
+        → IsOnlyStrongest ts ps p.first first × IsOnlyStrongest ts ps p.second second)) }
+    ensures with_space { IfOk result (λ joins. IfSome joins.lost (λ p. (ts : List Tree)
+        (ps : List ℕ) → RecognizesAll dfa.now ts ps
+        → IsOnlyStrongest ts ps p.first first × IsOnlyStrongest ts ps p.second second)) }
 {
-    let joins = beside(alloc, dfa, first, second)?;
-    match joins.lost {
-        Some(pair) => Ok(Some(pair)),
-        None => Ok(joins.kept),
-    }
+    beside(alloc, dfa, first, second)
 }
