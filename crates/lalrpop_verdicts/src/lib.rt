@@ -1,5 +1,5 @@
-//! What a list of patterns says: which of them can win, which are hidden by others, whether two lists say the same, the smallest
-//! automaton, and a picture of it.
+//! What a list of patterns says: which of them can win, which are hidden by others, whether two lists say the same, whether tokens
+//! stay apart side by side, the smallest automaton, and a picture of it.
 #![tactic(auto)]
 
 mod answer;
