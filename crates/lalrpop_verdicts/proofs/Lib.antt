@@ -7,6 +7,7 @@ pub mod Stretches
 pub mod MetPairs
 pub mod PairWords
 -- the first pair that is apart tells two automata apart
+pub mod FirstPair
 pub mod Differing
 -- trees that match the empty word
 pub mod EmptyMatches
@@ -35,3 +36,6 @@ pub mod FirstNumbers
 pub mod WonWordLaws
 pub mod VerdictLaws
 pub mod LeastWordLaws
+-- tokens side by side
+pub mod AheadLaws
+pub mod BesideLaws

@@ -27,7 +27,7 @@ use Rattle.lalrpop_verdicts.specs.declared.pairs.Follow.TheVariants.{LeftAlive}
 use Rattle.lalrpop_verdicts.proofs.TextWordLaws.{text_is_word, accepted_alive}
 
 -- ---- what a state accepts
-some_tree : (o : Option Row) → IsSomeAnd o (λ r. (i : ℕ) × (r.kind ≡ Accepts i)) → (i : ℕ) × (accepted_at o ≡ Some i)
+pub some_tree : (o : Option Row) → IsSomeAnd o (λ r. (i : ℕ) × (r.kind ≡ Accepts i)) → (i : ℕ) × (accepted_at o ≡ Some i)
 some_tree None a = absurd a
 some_tree (Some r) (i, e) = (i, ap accepted_by e)
 

@@ -6,3 +6,4 @@ pub mod Classes
 pub mod ClassRows
 pub mod StateWalks
 pub mod Targets
+pub mod Beside

@@ -15,6 +15,8 @@ pub mod WonWord
 pub mod Verdicts
 -- where two automata differ
 pub mod Differences
+-- tokens of two patterns side by side
+pub mod Beside
 pub mod Smallest
 -- the picture of an automaton
 pub mod Picture

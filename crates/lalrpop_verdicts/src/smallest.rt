@@ -162,8 +162,8 @@ fn touches(last: &Test, test: &Test) -> bool
     last.end() < test.start() && test.start() - last.end() == 1
 }
 
-// What the smallest automaton says of the items that a state holds: nothing.
-fn no_items(alloc: Global) -> ItemSet
+/// What an automaton that stands for another one says of the items that a state holds: nothing.
+pub(crate) fn no_items(alloc: Global) -> ItemSet
     ensures { result ≡ [] }
 {
     ItemSet::new(0, Vec::new(alloc), Vec::new(alloc))

@@ -1,10 +1,12 @@
-//! What becomes of each pattern, where two lists of patterns differ, and their smallest automata.
+//! What becomes of each pattern, where two lists of patterns differ, their smallest automata, and tokens side by side.
 
 use crate::automata::{dfa_for, trees_of};
 use crate::calls::{Call, add, expect, halves};
 use lalrpop_hir::Hir;
 use lalrpop_lexer::lexer::dfa::{Dfa, DfaConstructionError, NfaIndex};
-use lalrpop_verdicts::{Difference, Verdict, least_difference, matches_empty, minimized, verdicts};
+use lalrpop_verdicts::{
+    Difference, TokenPair, Verdict, beside, least_difference, matches_empty, minimized, verdicts,
+};
 use std::alloc::{AllocError, Global};
 
 fn add_word(line: &mut String, word: &[u32]) -> Result<(), AllocError> {
@@ -102,6 +104,32 @@ pub(crate) fn states(alloc: Global, rows: &str) -> Result<String, AllocError> {
     format!(in alloc; "{least}")
 }
 
+fn add_pair(line: &mut String, pair: &Option<TokenPair>) -> Result<(), AllocError> {
+    let Some(pair) = pair else {
+        return line.push_str(" none");
+    };
+    add_word(line, &pair.first)?;
+    line.push_str(" +")?;
+    add_word(line, &pair.second)
+}
+
+fn pattern(digits: &str) -> NfaIndex {
+    NfaIndex::new(digits.parse().unwrap_or(0))
+}
+
+// The least tokens of the two patterns after ` <> ` whose join is kept, and those whose join is lost.
+pub(crate) fn side_by_side(alloc: Global, row: &str) -> Result<String, AllocError> {
+    let (rows, numbers) = halves(row, " <> ");
+    let (first, second) = halves(numbers, " ");
+    let dfa = dfa_for(alloc, rows)?;
+    let joins = beside(alloc, &dfa, pattern(first), pattern(second))?;
+    let mut line = String::from_str(alloc, "kept")?;
+    add_pair(&mut line, &joins.kept)?;
+    line.push_str(", lost")?;
+    add_pair(&mut line, &joins.lost)?;
+    Ok(line)
+}
+
 #[test]
 fn each_pattern_has_its_verdict(rt: HostRuntime) {
     let table = "\
@@ -132,4 +160,16 @@ fn smallest_automata_have_as_few_states(rt: HostRuntime) {
 0 a* => 2
 0 [a&&b] => 1";
     expect(&rt, rt.alloc(), Call::States, table, 4);
+}
+
+#[test]
+fn tokens_side_by_side_are_kept_or_lost(rt: HostRuntime) {
+    let table = "\
+0 [0-9]+ / 0 [0-9]+\\.[0-9]+ / 0 \\.[a-z]+ <> 0 2 => kept 30 + 2e 61, lost none
+0 [0-9]+ / 0 [0-9]+\\.[0-9]+ / 0 \\.[a-z]+ <> 0 0 => kept none, lost 30 + 30
+0 [0-9]+ / 0 [0-9]+\\.[0-9]+ / 0 \\.[a-z]+ <> 0 1 => kept none, lost 30 + 30 2e 30
+0 a|ab / 0 b|c <> 0 1 => kept 61 + 63, lost 61 + 62
+0 a|bc / 0 d / 0 ad <> 0 1 => kept 62 63 + 64, lost 61 + 64
+0 a / 0 b <> 0 7 => kept none, lost none";
+    expect(&rt, rt.alloc(), Call::Beside, table, 6);
 }

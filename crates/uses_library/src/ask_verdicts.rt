@@ -4,18 +4,20 @@ ghost use Rattle.std.specs.Prelude.{◌≡◌, ◌≢◌, ◌≤◌, ℕ, [], Li
 ghost use Rattle.lalrpop_hir.specs.Language.{Matches};
 ghost use Rattle.lalrpop_hir.specs.Report.{IsFaultOf};
 ghost use Rattle.lalrpop_hir.specs.Tree.{Tree};
+ghost use Rattle.lalrpop_hir.specs.Winners.{IsOnlyStrongest};
 ghost use Rattle.lalrpop_dfa.specs.Dfa.{IsWellFormed, Recognizes, RecognizesAll};
 ghost use Rattle.lalrpop_verdicts.specs.Answers.{IsTextWord, answer};
+ghost use Rattle.lalrpop_verdicts.specs.Beside.{IsToken, RunsOn};
 ghost use Rattle.lalrpop_verdicts.specs.Differences.{label_of};
 ghost use Rattle.lalrpop_verdicts.specs.Picture.{dot};
 ghost use Rattle.lalrpop_verdicts.specs.Smallest.{IsCanonical};
 ghost use Rattle.lalrpop_verdicts.specs.Verdicts.{IsWonBy, words_of};
 
 use lalrpop_dfa::Dfa;
-use lalrpop_hir::{DfaConstructionError, Hir, Regex};
+use lalrpop_hir::{DfaConstructionError, Hir, NfaIndex, Regex};
 use lalrpop_verdicts::{
-    Difference, Verdict, dot, least_difference, matches_empty, minimized, same_language, verdicts,
-    winners,
+    Difference, Joins, Verdict, beside, dot, least_difference, matches_empty, minimized,
+    same_language, verdicts, winners,
 };
 use std::alloc::{AllocError, Global};
 
@@ -170,4 +172,62 @@ pub fn unnamed_picture(alloc: Global, dfa: &Dfa) -> Result<String, AllocError>
     ensures text { IfOk result (λ text. string_bytes text ≡ dot [] dfa.now) }
 {
     dot(alloc, dfa, &[])
+}
+
+// Needs lalrpop_verdicts::beside: never_lost.
+/// Whether tokens of the two patterns can be written with nothing between them.
+///
+/// # Errors
+///
+/// `AllocError` if a request for memory was refused.
+pub fn need_no_space(
+    alloc: Global,
+    dfa: &Dfa,
+    first: NfaIndex,
+    second: NfaIndex,
+) -> Result<bool, AllocError>
+    ensures apart { result ≡ Ok true → (a b : List ℕ) → IsToken dfa.now first a
+        → IsToken dfa.now second b → ¬ RunsOn dfa.now a b }
+{
+    Ok(beside(alloc, dfa, first, second)?.lost.is_none())
+}
+
+// Needs lalrpop_verdicts::beside: never_kept.
+/// Whether such tokens must have a space between them.
+///
+/// # Errors
+///
+/// `AllocError` if a request for memory was refused.
+pub fn always_need_space(
+    alloc: Global,
+    dfa: &Dfa,
+    first: NfaIndex,
+    second: NfaIndex,
+) -> Result<bool, AllocError>
+    ensures together { result ≡ Ok true → (a b : List ℕ) → IsToken dfa.now first a
+        → IsToken dfa.now second b → ¬ ¬ RunsOn dfa.now a b }
+{
+    Ok(beside(alloc, dfa, first, second)?.kept.is_none())
+}
+
+// Needs lalrpop_verdicts::beside: kept, lost.
+/// Two tokens that need no space between them, and two that do.
+///
+/// # Errors
+///
+/// `AllocError` if a request for memory was refused.
+pub fn examples(
+    alloc: Global,
+    dfa: &Dfa,
+    first: NfaIndex,
+    second: NfaIndex,
+) -> Result<Joins, AllocError>
+    ensures without_space { IfOk result (λ joins. IfSome joins.kept (λ p. (ts : List Tree)
+        (ps : List ℕ) → RecognizesAll dfa.now ts ps
+        → IsOnlyStrongest ts ps p.first first × IsOnlyStrongest ts ps p.second second)) }
+    ensures with_space { IfOk result (λ joins. IfSome joins.lost (λ p. (ts : List Tree)
+        (ps : List ℕ) → RecognizesAll dfa.now ts ps
+        → IsOnlyStrongest ts ps p.first first × IsOnlyStrongest ts ps p.second second)) }
+{
+    beside(alloc, dfa, first, second)
 }

@@ -49,6 +49,10 @@ pub record ArePairs (follow : Follow) (l r : List Row) (pairs : List Pair) : Typ
   pub ordered : (j k : ℕ) (v w : List ℕ) → j < k → slice_get words j ≡ Some v → slice_get words k ≡ Some w → Shortlex v w
   pub origins : (k : ℕ) (p : Pair) (w : List ℕ) → slice_get pairs k ≡ Some p → slice_get words k ≡ Some w → IsOneMore words k p.from p.value w
 
+-- of the pairs before the place n none has the property
+abbrev pub NoneBefore : (Pair → Type 0) → List Pair → ℕ → Type 0
+NoneBefore Q pairs n = (k : ℕ) (x : Pair) → k < n → slice_get pairs k ≡ Some x → ¬ Q x
+
 -- ---- how a walk finds them
 
 -- where a walk stands: nothing is read yet; or at a pair of states; or nowhere, after a word that isn't followed

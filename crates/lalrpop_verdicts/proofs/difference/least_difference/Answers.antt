@@ -2,10 +2,12 @@ use Rattle.std.proofs.Common.{◌≡◌, List, Some, refl, ap, ◌∙◌, subst,
 use Rattle.std.specs.Prelude.{slice_get}
 use Rattle.std.proofs.lemmas.Option.{slice_get_read}
 use Rattle.lalrpop_verdicts.specs.Differences.{label_of}
-use Rattle.lalrpop_verdicts.specs.Internal.Apart.{NoneApart}
+use Rattle.lalrpop_verdicts.specs.Internal.Apart.{AreApart}
+use Rattle.lalrpop_verdicts.specs.Internal.Pairs.{NoneBefore}
 use Rattle.lalrpop_verdicts.specs.declared.pairs.Pair.{Pair}
 use Rattle.lalrpop_verdicts.specs.declared.pairs.Follow.TheVariants.{All}
-use Rattle.lalrpop_verdicts.proofs.Differing.{none_apart, least_apart, answers_of, labels_differ, labels_agree, apart_by_labels, alike_by_labels, none_more, none_to_end, HasPlace}
+use Rattle.lalrpop_verdicts.proofs.Differing.{none_apart, least_apart, answers_of, labels_differ, labels_agree, apart_by_labels, alike_by_labels, HasPlace}
+use Rattle.lalrpop_verdicts.proofs.FirstPair.{none_more, none_to_end}
 use Rattle.lalrpop_verdicts.proofs.difference.least_difference.Goals as goal
 
 pub returns-then-ne-clause-least : goal.returns-then-ne-clause-least
@@ -28,7 +30,7 @@ returns-then-ne-clause-least c =
     let apart = apart_by_labels l ls r rs p c.label.result c.label-in-loop-number.result by_left by_right differ in
     least_apart l ls r rs pairs c.in_ok-pairs.ensures.pairs n p word
     (subst (λ (ps : List Pair). slice_get ps n ≡ Some p) c.deref-pair-items.ensures.value at) place apart
-    (subst (λ (ps : List Pair). NoneApart l ls r rs ps n) c.deref-pair-items.ensures.value c.loop-number.invariant)
+    (subst (λ (ps : List Pair). NoneBefore (AreApart l ls r rs) ps n) c.deref-pair-items.ensures.value c.loop-number.invariant)
 
 pub returns-then-ne-clause-answers : goal.returns-then-ne-clause-answers
 returns-then-ne-clause-answers c =
@@ -61,7 +63,7 @@ loop-number-preserved c =
     let same = labels_agree c.label.result c.label-in-loop-number.result c.ne.result c.ne.ensures c.if-ne.false in
     let by_left = c.label.ensures.label ∙ ap (label_of ls) c.accepted-by_left.ensures.accepted in
     let by_right = c.label-in-loop-number.ensures.label ∙ ap (label_of rs) c.accepted-by_right.ensures.accepted in
-    none_more l ls r rs seen n p c.loop-number.invariant at (alike_by_labels l ls r rs p c.label.result c.label-in-loop-number.result by_left by_right same)
+    none_more (AreApart l ls r rs) seen n p c.loop-number.invariant at (alike_by_labels l ls r rs p c.label.result c.label-in-loop-number.result by_left by_right same)
 
 pub returns-clause-none : goal.returns-clause-none
 returns-clause-none c =
@@ -73,4 +75,4 @@ returns-clause-none c =
     let seen = c.deref-pair-items.result.now in
     let n = c.loop-number.number in
     none_apart l ls r rs pairs c.in_ok-pairs.ensures.pairs
-    (none_to_end l ls r rs pairs seen n c.loop-number.invariant c.loop-number-test.false c.deref-pair-items.ensures.value)
+    (none_to_end (AreApart l ls r rs) pairs seen n c.loop-number.invariant c.loop-number-test.false c.deref-pair-items.ensures.value)
