@@ -1,5 +1,5 @@
 -- The numbers of a table run the automaton that the table is of.
-use Rattle.std.proofs.Common.{◌≡◌, ℕ, ◌<◌, List, [], ◌∷◌, length, get_or, refl, sym, ap, subst, ◌∙◌, arith, inl, inr}
+use Rattle.std.proofs.Common.{◌≡◌, ℕ, ◌<◌, ◌+◌, List, [], ◌∷◌, length, get_or, refl, sym, ap, subst, ◌∙◌, arith, inl, inr}
 use Rattle.std.specs.Prelude.{slice_get, IsSomeAnd}
 use Rattle.std.specs.List.{All}
 use Rattle.std.proofs.lemmas.List.{get_or_read}
@@ -10,7 +10,7 @@ use Rattle.lalrpop_dfa.proofs.AfterLaws.{run_within}
 use Rattle.lalrpop_dfa.proofs.EdgeTargets.{step_within}
 use Rattle.lalrpop_dfa.specs.declared.Kind.{Kind}
 use Rattle.lalrpop_dfa.specs.declared.Kind.TheVariants.{Accepts, Reject, Neither}
-use Rattle.lalrpop_dense.specs.DenseTable.{TableNumbers, IsRowLike, IsTableFor, row_after}
+use Rattle.lalrpop_dense.specs.DenseTable.{AreAlikeInClasses, TableNumbers, IsRowLike, IsTableFor, row_after}
 use Rattle.lalrpop_dense.specs.Internal.Table.{IsTableOf, IsRowOfKind, row_of}
 use Rattle.lalrpop_dense.specs.declared.table.Layout.{Layout}
 
@@ -68,3 +68,18 @@ table_of_parts t cells d blocks pages same start h wf b p s e =
     (subst (λ (x : ℕ). IsTableFor (record { blocks = t.blocks.items; pages = t.pages.items; start = x; width = t.width; live = t.live; accept = t.accept; cells = same }) d) (sym first)
     (subst (λ (x : List ℕ). IsTableFor (record { blocks = t.blocks.items; pages = t.pages.items; start = row_of t 0; width = t.width; live = t.live; accept = t.accept; cells = x }) d) (sym e)
     (table_runs t cells d h wf))))
+
+-- characters of one class lead from each state to the state whose row is in the cell
+alike : (t : Layout) (cells : List ℕ) (d : List Row) → IsTableOf t cells d → IsWellFormed d → AreAlikeInClasses (numbers_of_layout t cells) d
+alike t cells d h wf c e state character other same l =
+    h.own (step d state c) (step d state e) (omega (arith, step_within d state c wf l, h.rows)) (omega (arith, step_within d state e wf l, h.rows))
+    (sym (h.leads state l c character) ∙ ap (λ (class : ℕ). get_or cells (row_of t state + class) 0) same ∙ h.leads state l e other)
+
+-- the same where the blocks and pages are known by an equation: the rest doesn't matter
+pub alike_of_parts : (t : Layout) (cells : List ℕ) (d : List Row) (blocks pages others : List ℕ) (start : ℕ) → IsTableOf t cells d → IsWellFormed d
+    → blocks ≡ t.blocks.items → pages ≡ t.pages.items
+    → AreAlikeInClasses (record { blocks = blocks; pages = pages; start = start; width = t.width; live = t.live; accept = t.accept; cells = others }) d
+alike_of_parts t cells d blocks pages others start h wf b p =
+    subst (λ (x : List ℕ). AreAlikeInClasses (record { blocks = x; pages = pages; start = start; width = t.width; live = t.live; accept = t.accept; cells = others }) d) (sym b)
+    (subst (λ (x : List ℕ). AreAlikeInClasses (record { blocks = t.blocks.items; pages = x; start = start; width = t.width; live = t.live; accept = t.accept; cells = others }) d) (sym p)
+    (alike t cells d h wf))

@@ -2,7 +2,7 @@
 -- A table of numbers that runs an automaton: classes of characters, and cells that lead from a row by a class to a row.
 use Rattle.std.specs.Prelude.{◌≡◌, ℕ, ◌+◌, ◌-◌, ◌*◌, ◌/◌, ◌%◌, ◌<◌, ◌≤◌, List, [], ◌∷◌, length, min, slice_get, slice_index, IsSomeAnd}
 use Rattle.std.specs.List.{All}
-use Rattle.lalrpop_dfa.specs.Dfa.{Row, after}
+use Rattle.lalrpop_dfa.specs.Dfa.{Row, after, step}
 use Rattle.lalrpop_dfa.specs.declared.Kind.{Kind}
 use Rattle.lalrpop_dfa.specs.declared.Kind.TheVariants.{Accepts, Reject, Neither}
 use Rattle.lalrpop_dense.specs.declared.dense_table.DenseTable.{DenseTable}
@@ -74,3 +74,7 @@ pub record IsTableFor (t : TableNumbers) (d : List Row) : Type 0 where
   pub within : (w : List ℕ) → All (λ c. c < 1114112) w → row_after t t.start w + t.width < length t.cells
   pub alike : (w : List ℕ) → All (λ c. c < 1114112) w → IsSomeAnd (slice_get d (after d w)) (λ r. IsRowLike t (row_after t t.start w) r.kind)
   pub one_row : (u w : List ℕ) → All (λ c. c < 1114112) u → All (λ c. c < 1114112) w → after d u ≡ after d w → row_after t t.start u ≡ row_after t t.start w
+
+-- each state leads characters of one class to one state
+abbrev pub AreAlikeInClasses : TableNumbers → List Row → Type 0
+AreAlikeInClasses t d = (c e state : ℕ) → c < 1114112 → e < 1114112 → character_class t c ≡ character_class t e → state < length d → step d state c ≡ step d state e

@@ -4,7 +4,7 @@ ghost use Rattle.std.specs.Prelude.{◌≡◌, ℕ, ◌+◌, ◌*◌, ◌<◌, �
 ghost use Rattle.std.specs.List.{All};
 ghost use Rattle.lalrpop_dfa.specs.Dfa.{edge_target, AreAscendingTests};
 ghost use Rattle.lalrpop_dfa.specs.Stored.{EndBefore};
-ghost use Rattle.lalrpop_dense.specs.Internal.Table.{HasClasses, IsRowOfKind, IsTableOf, LeadsRight};
+ghost use Rattle.lalrpop_dense.specs.Internal.Table.{HasClasses, HaveOwnRows, IsRowOfKind, IsTableOf, LeadsRight};
 ghost use Rattle.lalrpop_dense.specs.Internal.Runs.{IsRun, AreRuns, IsPageAgain, LeadsRightBelow, LeadsOn, LeadOnAlike};
 ghost use Rattle.lalrpop_dense.specs.Internal.Alikes.{AreAlikes, IsAlike};
 
@@ -43,6 +43,22 @@ fn have_cells(rows: &[u32], width: usize, len: usize) -> bool
     ensures { IsTrue result → EachIndex rows.now (λ k. slice_index rows.now k + width < len) }
 {
     rows.iter().all(|row| *row as usize + width < len)
+}
+
+// Whether no two states have one row. Each row begins among so many cells.
+fn have_own_rows(alloc: Global, rows: &[u32], len: usize) -> Result<bool, AllocError>
+    requires within { EachIndex rows.now (λ k. slice_index rows.now k < len) }
+    ensures { IfOk result (λ own. IsTrue own → HaveOwnRows rows.now) }
+{
+    let mut taken = vec![in alloc; false; len]?;
+    for row in rows {
+        let place = *row as usize;
+        if taken[place] {
+            return Ok(false);
+        }
+        taken[place] = true;
+    }
+    Ok(true)
 }
 
 fn has_classes(layout: &Layout) -> bool
@@ -315,6 +331,9 @@ pub(crate) fn is_table_of(
         || layout.width > 256
         || !have_cells(&layout.rows, layout.width, cells.len())
     {
+        return Ok(false);
+    }
+    if !have_own_rows(alloc, &layout.rows, cells.len())? {
         return Ok(false);
     }
     let runs = runs_of(alloc, layout)?;

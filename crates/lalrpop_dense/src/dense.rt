@@ -9,7 +9,7 @@ ghost use Rattle.lalrpop_dfa.specs.Dfa.{Recognizes};
 ghost use Rattle.lalrpop_dfa.specs.Lookahead.{ReadsAtMost};
 ghost use Rattle.lalrpop_hir.specs.Longest.{IsLongest};
 ghost use Rattle.lalrpop_dense.specs.Leading.{AreAhead, last_end};
-ghost use Rattle.lalrpop_dense.specs.DenseTable.{IsTableFor, table_numbers};
+ghost use Rattle.lalrpop_dense.specs.DenseTable.{AreAlikeInClasses, IsTableFor, table_numbers};
 ghost use Rattle.lalrpop_dense.specs.Internal.Fused.{IsFusedOf, IsTable};
 ghost use Rattle.lalrpop_dense.specs.Internal.Table.{HasClasses};
 
@@ -81,6 +81,8 @@ impl DenseDfa {
     /// The numbers of its table, if it has one: a walk along them finds what the automaton says of each text.
     pub fn table(&self) -> Option<DenseTable<'_>>
         ensures right { IfSome result (λ table. IsTableFor (table_numbers table) self.now) }
+        ensures alike { IfSome result (λ table.
+            AreAlikeInClasses (table_numbers table) self.now) }
     {
         match &self.table {
             Some(table) => Some(table.numbers(&self.dfa)),

@@ -57,12 +57,13 @@ pub struct DenseTable<'table> {
 }
 
 impl Table {
-    ghost use Rattle.lalrpop_dense.specs.DenseTable.{IsTableFor, table_numbers};
+    ghost use Rattle.lalrpop_dense.specs.DenseTable.{AreAlikeInClasses, IsTableFor, table_numbers};
 
     /// The numbers of the table.
     pub(crate) fn numbers(&self, dfa: &Dfa) -> DenseTable<'_>
         requires { IsTable self.now dfa.now }
-        ensures { IsTableFor (table_numbers result) dfa.now }
+        ensures right { IsTableFor (table_numbers result) dfa.now }
+        ensures alike { AreAlikeInClasses (table_numbers result) dfa.now }
     {
         // There is a state, so START is one.
         let _states = dfa.states();

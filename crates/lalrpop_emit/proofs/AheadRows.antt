@@ -1,5 +1,5 @@
 -- Runs along columns: walks of parts at once, which are then joined, and what their rows stand for.
-use Rattle.std.proofs.Common.{◌≡◌, ◌≢◌, ℕ, zero, suc, ◌+◌, ◌-◌, ◌*◌, ◌<◌, ◌≤◌, ◌⊎◌, List, [], ◌∷◌, length, take, set, get_or, slice_index, refl, sym, ap, subst, ◌∙◌, arith, add-one, inl, inr, ⊎_elim}
+use Rattle.std.proofs.Common.{◌≡◌, ◌≢◌, ℕ, zero, suc, ◌+◌, ◌*◌, ◌<◌, ◌≤◌, ◌⊎◌, List, [], ◌∷◌, length, take, set, get_or, slice_index, refl, sym, ap, subst, ◌∙◌, arith, add-one, inl, inr, ⊎_elim}
 use Rattle.std.proofs.Math.Nat.{lt_of_mul-lt-mul_right, mul-le-mul_right}
 use Rattle.std.proofs.Math.Seq.{take-suc}
 use Rattle.std.specs.List.{All}

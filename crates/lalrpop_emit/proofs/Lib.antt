@@ -49,3 +49,4 @@ pub mod MadeTables
 pub mod Standings
 pub mod RegularSteps
 pub mod RegularAhead
+pub mod ExactErrors

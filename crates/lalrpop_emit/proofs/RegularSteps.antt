@@ -84,8 +84,8 @@ module _ (t : TableNumbers) (s : Shape) (r : IsRegular t s.dead (s.dead + s.live
         (λ f. among_if s (column == within_column width) (by_within x) (by_bad t x) (λ g. within_among x h) (λ g. bad_among x h)))
 
     -- the row that stands there is one of those that there are
-    pub place_small : (x : Standing) (column : ℕ) → IsAmong s x → column < width → (2 * s.live + 3) * (width + 1) ≤ 2 ^ 26
-        → place_in s (by_column t width x column) * (width + 1) + width < 2 ^ 26
+    pub place_small : (x : Standing) (column : ℕ) → IsAmong s x → column < width → (2 * s.live + 3) * (width + 1) ≤ 2 ^ 30
+        → place_in s (by_column t width x column) * (width + 1) + width < 2 ^ 30
     place_small x column h l few =
         let there = (at_place s (by_column t width x column) (omega (arith, stride)) (column_among x column h l)).0 in
         omega (arith, row_before (place_in s (by_column t width x column)) (2 * s.live + 3) width width there (omega arith), few)

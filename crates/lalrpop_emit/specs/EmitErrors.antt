@@ -28,6 +28,7 @@ pub record IsAccepted (d : List Row) (pattern : ℕ) : Type 0 where
 pub record IsUnnamed (r : ModeRules) (pattern : ℕ) : Type 0 where
   pub past : length r.names ≤ pattern
   pub mode : ℕ
+  pub there : mode < r.modes
   pub automaton : List Row
   pub at : slice_get r.automata mode ≡ Some automaton
   pub accepted : IsAccepted automaton pattern
@@ -43,16 +44,17 @@ pub record AreToldApart (d : List Row) (cs : List ℕ) : Type 0 where
   pub characters : All (λ c. c < 1114112) cs
   pub apart : (i j : ℕ) → i < j → j < length cs → TellsApart d (slice_index cs i) (slice_index cs j)
 
--- the automaton tells more than 255 characters apart; or so many that a table that runs ahead, with four rows for each state and three more,
--- each of a cell for each such character and 131 more, has more than 2 ^ 26 cells
+-- the automaton tells more than 255 characters apart; or so many that a table with a row for each state, of a cell for each such character
+-- and 131 more, has more than 2 ^ 27 cells
 pub record IsTooLarge (d : List Row) : Type 0 where
   pub told_apart : List ℕ
   pub are : AreToldApart d told_apart
-  pub many : (255 < length told_apart) ⊎ (2 ^ 26 < (4 * length d + 3) * (length told_apart + 131))
+  pub many : (255 < length told_apart) ⊎ (2 ^ 27 < length d * (length told_apart + 131))
 
 -- the automaton of some mode is too large
 pub record HasTooLarge (r : ModeRules) : Type 0 where
   pub mode : ℕ
+  pub there : mode < r.modes
   pub automaton : List Row
   pub at : slice_get r.automata mode ≡ Some automaton
   pub large : IsTooLarge automaton
@@ -70,6 +72,10 @@ IsNumbersError r (BadVariant kind) = ⊥
 IsNumbersError r BadPrefix = ⊥
 IsNumbersError r NoTable = HasTooLarge r
 IsNumbersError r OutOfMemory = Unit {0}
+
+-- no error is right but that memory was refused
+abbrev pub CanBeNumbered : ModeRules → Type 0
+CanBeNumbered r = (e : EmitError) → IsNumbersError r e → e ≡ OutOfMemory
 
 -- the error of a source file in C is right
 abbrev pub IsSourceError : List ℕ → EmitError → Type 0

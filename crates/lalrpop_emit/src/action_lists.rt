@@ -1,5 +1,5 @@
 //! The actions of rules in numbers.
-ghost use Rattle.std.specs.Prelude.{◌≡◌, ◌++◌, ◌∷◌, [], ◌<◌, ◌≤◌, ◌^◌, map, IfOk, IfErr, OnOk};
+ghost use Rattle.std.specs.Prelude.{◌≡◌, ◌++◌, ◌∷◌, [], ◌<◌, ◌≤◌, ◌^◌, length, map, IfOk, IfErr, OnOk};
 ghost use Rattle.std.specs.List.{All};
 ghost use Rattle.lalrpop_emit.specs.EmitErrors.{IsNumbersError};
 ghost use Rattle.lalrpop_emit.specs.NumberedRules.{action_number as number_of, action_numbers, first_places, actions_of_rules};
@@ -61,6 +61,7 @@ pub(crate) fn action_lists(alloc: Global, rules: &RuleLexer) -> Result<ActionLis
         lists.numbers.items ≡ action_numbers (actions_of_rules rules.now)) }
     ensures small { IfOk result (λ lists.
         AreSmall lists.first_places.items × AreSmall lists.numbers.items) }
+    ensures few { OnOk result (length (action_numbers (actions_of_rules rules.now)) < 2 ^ 32) }
     ensures below { OnOk result (All (LeadBelow rules.now.modes) (actions_of_rules rules.now)) }
     ensures error { IfErr result (IsNumbersError rules.now) }
 {

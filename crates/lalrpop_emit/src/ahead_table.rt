@@ -27,7 +27,7 @@ pub(crate) struct AheadLists {
 }
 
 // The most cells.
-const MOST: usize = 1 << 26;
+const MOST: usize = 1 << 29;
 
 // And no more columns than this.
 const MOST_COLUMNS: usize = 1 << 16;
@@ -248,7 +248,7 @@ fn is_ahead(ahead: &AheadLists, table: &TableLists, standings: &[Standing]) -> b
     true
 }
 
-/// The numbers of the table that runs ahead by this one. `None` if there would be more than 67,108,864 cells or 65,536 columns,
+/// The numbers of the table that runs ahead by this one. `None` if there would be more than 536,870,912 cells or 65,536 columns,
 /// or if the check finds the numbers wrong.
 ///
 /// # Errors

@@ -1,11 +1,12 @@
 //! The classes of characters that an automaton doesn't tell apart, found by comparing where they lead from each state.
-ghost use Rattle.std.specs.Prelude.{◌≡◌, ◌+◌, ◌-◌, ◌++◌, ◌<◌, ◌≤◌, ℕ, length, replicate, slice_index, MatchBool, MatchOption, IfOk, IfErr, OnOk};
+ghost use Rattle.std.specs.Prelude.{◌≡◌, ◌+◌, ◌-◌, ◌*◌, ◌^◌, ◌++◌, ◌<◌, ◌≤◌, ℕ, length, replicate, slice_index, MatchBool, MatchOption, IfOk, IfErr, OnOk};
 ghost use Rattle.lalrpop_dfa.specs.Dfa.{step};
-ghost use Rattle.lalrpop_emit.specs.EmitErrors.{AreToldApart, TellsApart};
-ghost use Rattle.lalrpop_emit.specs.Internal.Classes.{AreAlike, AreClassesOf, IsTableError, holds};
+ghost use Rattle.lalrpop_emit.specs.EmitErrors.{AreToldApart, IsTooLarge, TellsApart};
+ghost use Rattle.lalrpop_emit.specs.Internal.Classes.{AreAlike, AreBetweenMarks, AreClassesOf, AreMarks, IsBetweenMarks, IsMarked, IsTableError};
 
 use crate::error::EmitError;
 use lalrpop_dfa::{Dfa, DfaStateIndex};
+use lalrpop_lexer::lexer::nfa::Test;
 use std::alloc::{AllocError, Global};
 
 // All characters are below this.
@@ -13,6 +14,9 @@ const END: u32 = 0x11_0000;
 
 // No more classes than these fit.
 const MOST: usize = 255;
+
+// The most cells of a table that has a row for each state.
+const MOST_CELLS: usize = 1 << 27;
 
 /// The classes of characters.
 #[derive(Drop)]
@@ -23,49 +27,70 @@ pub(crate) struct CharacterClasses {
     pub(crate) classes: Vec<u32>,
 }
 
-// Up to where, from the value on, a range goes on to hold the values or not to hold them.
-fn steady_to(first: u32, last: u32, value: u32, most: u32) -> u32
-    requires some { value < most }
-    ensures some { value < result }
-    ensures most { result ≤ most }
-    ensures steady { (c : ℕ) → value ≤ c → c < result → holds first last c ≡ holds first last value }
+// Marks the value, if it is a character.
+fn mark(marks: &mut [bool], value: u32)
+    ensures marked { value < length marks.old → IsMarked marks.new value }
+    ensures kept { (c : ℕ) → IsMarked marks.old c → IsMarked marks.new c }
 {
-    if value < first {
-        most.min(first)
-    } else if value <= last && last < most {
-        last + 1
-    } else {
-        most
+    let place = value as usize;
+    if place < marks.len() {
+        marks[place] = true;
     }
 }
 
-// Up to where, from the value on, the state leads where it leads by the value.
-fn steady_end(dfa: &Dfa, state: DfaStateIndex, value: u32, most: u32) -> u32
-    requires within { state < length dfa.now }
-    requires some { value < most }
-    ensures some { value < result }
-    ensures most { result ≤ most }
-    ensures steady { (c : ℕ) → value ≤ c → c < result
-        → step dfa.now state c ≡ step dfa.now state value }
+// Marks the first value of the range and the one after its last, if they are characters.
+fn mark_range(marks: &mut [bool], range: &Test)
+    requires all { length marks.old ≡ 1114112 }
+    ensures between { IsBetweenMarks marks.new range.now }
+    ensures kept { (c : ℕ) → IsMarked marks.old c → IsMarked marks.new c }
 {
-    let edges = dfa.test_edges(state);
-    let mut end = most;
+    mark(marks, range.start());
+    if range.end() < END {
+        mark(marks, range.end() + 1);
+    }
+}
+
+// Marks the same of the range of each edge.
+fn mark_edges(marks: &mut [bool], edges: &[(Test, DfaStateIndex)])
+    requires all { length marks.old ≡ 1114112 }
+    ensures between { AreBetweenMarks marks.new edges.now }
+    ensures kept { (c : ℕ) → IsMarked marks.old c → IsMarked marks.new c }
+{
     for (test, _) in edges {
-        end = steady_to(test.start(), test.end(), value, end);
+        mark_range(marks, test);
     }
-    end
 }
 
-// Up to where, from the value on, all characters lead from each state where the value does.
-fn alike_end(dfa: &Dfa, value: u32) -> u32
+// Marks the same of each state.
+fn mark_states(marks: &mut [bool], dfa: &Dfa)
+    requires all { length marks.old ≡ 1114112 }
+    ensures marks { AreMarks dfa.now marks.new }
+{
+    for number in 0..dfa.states().len() {
+        mark_edges(marks, dfa.test_edges(DfaStateIndex::new(number)));
+    }
+}
+
+// Each character is marked from which on some state may lead elsewhere.
+fn marks_of(alloc: Global, dfa: &Dfa) -> Result<Vec<bool>, AllocError>
+    ensures { IfOk result (λ marks. AreMarks dfa.now marks.items) }
+{
+    let mut marks = vec![in alloc; false; 0x11_0000]?;
+    mark_states(&mut marks, dfa);
+    Ok(marks)
+}
+
+// Up to where, after the value, no character is marked: all of them lead from each state where the value does.
+fn alike_end(dfa: &Dfa, marks: &[bool], value: u32) -> u32
+    requires marks { AreMarks dfa.now marks.now }
     requires within { value < 1114112 }
     ensures some { value < result }
     ensures most { result ≤ 1114112 }
     ensures alike { (c : ℕ) → value ≤ c → c < result → AreAlike dfa.now c value }
 {
-    let mut end = END;
-    for number in 0..dfa.states().len() {
-        end = steady_end(dfa, DfaStateIndex::new(number), value, end);
+    let mut end = value + 1;
+    'unmarked: while end < END && !marks[end as usize] {
+        end += 1;
     }
     end
 }
@@ -132,23 +157,52 @@ fn class_for(dfa: &Dfa, firsts: &mut Vec<u32>, value: u32) -> Result<u32, EmitEr
     Ok(class as u32)
 }
 
-/// The classes of characters, of which there are 255 at most.
-///
-/// # Errors
-///
-/// `NoTable` if there are more; `OutOfMemory` if a request for memory was refused.
-pub(crate) fn character_classes(alloc: Global, dfa: &Dfa) -> Result<CharacterClasses, EmitError>
+// The classes of characters, of which there are 255 at most.
+fn character_classes(alloc: Global, dfa: &Dfa) -> Result<CharacterClasses, EmitError>
     ensures classes { IfOk result (AreClassesOf dfa.now) }
     ensures error { IfErr result (IsTableError dfa.now) }
 {
     let mut firsts = Vec::new(alloc);
     let mut classes = Vec::new(alloc);
+    let marks = marks_of(alloc, dfa)?;
     let mut value = 0;
     'runs: while value < END {
-        let end = alike_end(dfa, value);
+        let end = alike_end(dfa, &marks, value);
         let class = class_for(dfa, &mut firsts, value)?;
         push_class(&mut classes, class, value, end)?;
         value = end;
     }
     Ok(CharacterClasses { firsts, classes })
+}
+
+/// Whether a table with a row for each state isn't too large, where the characters have `width` classes.
+pub(crate) fn has_room(dfa: &Dfa, width: usize) -> bool
+    requires narrow { width ≤ 255 }
+    ensures room { MatchBool result (length dfa.now * (width + 131) ≤ 2 ^ 27)
+        (2 ^ 27 < length dfa.now * (width + 131)) }
+{
+    let count = dfa.states().len();
+    count <= MOST_CELLS && count * (width + 131) <= MOST_CELLS
+}
+
+/// The classes of characters of an automaton that isn't too large for a table.
+///
+/// # Errors
+///
+/// `NoTable` if it is; `OutOfMemory` if a request for memory was refused.
+pub(crate) fn few_classes(alloc: Global, dfa: &Dfa) -> Result<CharacterClasses, EmitError>
+    ensures classes { IfOk result (AreClassesOf dfa.now) }
+    ensures room { IfOk result (λ all. length dfa.now * (length all.firsts.items + 131) ≤ 2 ^ 27) }
+    ensures small { OnOk result (¬ IsTooLarge dfa.now) }
+    ensures error { IfErr result (IsTableError dfa.now) }
+{
+    if !has_room(dfa, 0) {
+        return Err(EmitError::NoTable);
+    }
+    let classes = character_classes(alloc, dfa)?;
+    let width = classes.firsts.len();
+    if !has_room(dfa, width) {
+        return Err(EmitError::NoTable);
+    }
+    Ok(classes)
 }

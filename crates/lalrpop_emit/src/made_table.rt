@@ -1,8 +1,9 @@
 //! Tables made from the classes of characters, for automata whose dense table isn't there. It takes longer to make them, and they
 //! are larger, but it is proved that they are right, whatever the automaton is: nothing is checked, so nothing can fail.
-ghost use Rattle.std.specs.Prelude.{◌≡◌, ◌+◌, ◌*◌, ◌%◌, ◌++◌, ◌<◌, ◌≤◌, ◌^◌, ℕ, length, slice_index, IfOk, IfErr, OnOk, MatchBool};
+ghost use Rattle.std.specs.Prelude.{◌≡◌, ◌+◌, ◌*◌, ◌%◌, ◌++◌, ◌<◌, ◌^◌, ℕ, length, slice_index, IfOk, IfErr, OnOk};
 ghost use Rattle.lalrpop_dfa.specs.Dfa.{step};
 ghost use Rattle.lalrpop_dense.specs.DenseTable.{IsTableFor};
+ghost use Rattle.lalrpop_emit.specs.EmitErrors.{IsTooLarge};
 ghost use Rattle.lalrpop_emit.specs.Internal.Classes.{AreClassesOf, IsTableError};
 ghost use Rattle.lalrpop_emit.specs.Internal.Lists.{AreBelow, ahead_numbers, list_numbers};
 ghost use Rattle.lalrpop_emit.specs.Internal.MadeRows.{AreRows, kind_at, pattern_of, row_cells, row_number};
@@ -10,15 +11,12 @@ ghost use Rattle.lalrpop_emit.specs.Internal.Regular.{IsRegular};
 ghost use Rattle.lalrpop_emit.specs.Internal.Walking.{CanRunAhead};
 ghost use Rattle.lalrpop_emit.specs.NumberedRules.{IsStorableAhead, IsStorableTable};
 
-use crate::classes::{CharacterClasses, character_classes};
+use crate::classes::{CharacterClasses, few_classes};
 use crate::error::EmitError;
 use crate::regular_ahead::{Shape, regular_ahead};
 use crate::table_lists::{ModeTable, TableLists};
 use lalrpop_dfa::{Dfa, DfaStateIndex, Kind, START};
 use std::alloc::{AllocError, Global};
-
-// The most cells of a table that runs ahead.
-const MOST: usize = 1 << 26;
 
 // The number of the state's row. There are three rows for each state; of a reject state the one in the first third is taken, of an
 // accepting one that in the last.
@@ -103,19 +101,6 @@ fn all_pages(alloc: Global) -> Result<Vec<u32>, AllocError>
     Ok(pages)
 }
 
-// Whether the table that runs ahead isn't too large, where the characters have `width` classes.
-fn has_room(dfa: &Dfa, width: usize) -> bool
-    requires narrow { width ≤ 255 }
-    ensures room { MatchBool result ((4 * length dfa.now + 3) * (width + 131) ≤ 2 ^ 26)
-        (2 ^ 26 < (4 * length dfa.now + 3) * (width + 131)) }
-{
-    let count = dfa.states().len();
-    if count > MOST {
-        return false;
-    }
-    (4 * count + 3) * (width + 131) <= MOST
-}
-
 // The table of an automaton, by the classes of characters.
 fn made_table(alloc: Global, dfa: &Dfa, classes: CharacterClasses) -> Result<TableLists, AllocError>
     requires classes { AreClassesOf dfa.now classes }
@@ -154,16 +139,11 @@ pub(crate) fn made_tables(alloc: Global, dfa: &Dfa) -> Result<ModeTable, EmitErr
     ensures ahead { IfOk result (λ made.
         CanRunAhead (ahead_numbers made.ahead) (list_numbers made.table)) }
     ensures storable_ahead { IfOk result (λ made. IsStorableAhead (ahead_numbers made.ahead)) }
+    ensures small { OnOk result (¬ IsTooLarge dfa.now) }
     ensures error { IfErr result (IsTableError dfa.now) }
 {
-    if !has_room(dfa, 0) {
-        return Err(EmitError::NoTable);
-    }
-    let classes = character_classes(alloc, dfa)?;
+    let classes = few_classes(alloc, dfa)?;
     let width = classes.firsts.len();
-    if !has_room(dfa, width) {
-        return Err(EmitError::NoTable);
-    }
     let count = dfa.states().len();
     let table = made_table(alloc, dfa, classes)?;
     let shape = Shape {

@@ -5,7 +5,7 @@ ghost use Rattle.lalrpop_rules.specs.declared.item.Item.{Item};
 ghost use Rattle.lalrpop_rules.specs.Modes.{ModeRules, ArePiecesFrom};
 ghost use Rattle.bajofeki_rules.specs.Stack.{Stack, start};
 ghost use Rattle.lalrpop_emit.specs.BytePieces.{AreBytePieces, numbered};
-ghost use Rattle.lalrpop_emit.specs.EmitErrors.{IsNumbersError};
+ghost use Rattle.lalrpop_emit.specs.EmitErrors.{CanBeNumbered, IsNumbersError};
 ghost use Rattle.lalrpop_emit.specs.Names.{IsName};
 ghost use Rattle.lalrpop_emit.specs.NumberedRules.{AreNumbersOf, IsStorable};
 ghost use Rattle.lalrpop_emit.specs.Internal.Lists.{ahead_numbers, list_numbers};
@@ -91,6 +91,7 @@ impl LexerNumbers {
         ensures numbers { IfOk result (AreNumbersOf rules.now) }
         ensures storable { IfOk result IsStorable }
         ensures as_many { OnOk result (length rules.now.skips ≡ length rules.now.names) }
+        ensures exact { OnOk result (CanBeNumbered rules.now) }
         ensures error { IfErr result (IsNumbersError rules.now) }
     {
         check_rules(rules)?;
@@ -191,6 +192,7 @@ impl LexerNumbers {
 
 // There are rules, not too many, each with a skip and a name that can be part of an identifier, and modes, not too many.
 fn check_rules(rules: &RuleLexer) -> Result<(), EmitError>
+    ensures some { OnOk result (0 < length rules.now.names) }
     ensures few { OnOk result (length rules.now.names < 2 ^ 16) }
     ensures modes { OnOk result ((0 < rules.now.modes) × (rules.now.modes < 2 ^ 16)) }
     ensures names { OnOk result (All IsName rules.now.names) }

@@ -95,12 +95,12 @@ fn target(table: &TableLists, shape: Shape, width: usize, standing: Standing, co
     requires regular { IsRegular (list_numbers table.now) shape.dead (shape.dead + shape.live) }
     requires stride { shape.stride ≡ table.now.width + 1 }
     requires width { width ≡ table.now.width + 130 }
-    requires few { (2 * shape.live + 3) * (width + 1) ≤ 2 ^ 26 }
+    requires few { (2 * shape.live + 3) * (width + 1) ≤ 2 ^ 30 }
     requires among { IsAmong shape standing }
     requires column { column < width }
     ensures target { result
         ≡ place_in shape (by_column (list_numbers table.now) width standing column) * (width + 1) }
-    ensures small { result < 2 ^ 26 }
+    ensures small { result < 2 ^ 30 }
 {
     (place_in(shape, by_column(table, width, standing, column)) * (width + 1)) as u32
 }
@@ -116,7 +116,7 @@ fn push_cells(
     requires regular { IsRegular (list_numbers table.now) shape.dead (shape.dead + shape.live) }
     requires stride { shape.stride ≡ table.now.width + 1 }
     requires width { width ≡ table.now.width + 130 }
-    requires few { (2 * shape.live + 3) * (width + 1) ≤ 2 ^ 26 }
+    requires few { (2 * shape.live + 3) * (width + 1) ≤ 2 ^ 30 }
     requires among { IsAmong shape standing }
     requires small { All (λ n. n < 2 ^ 32) cells.old.items }
     ensures small { OnOk result (All (λ n. n < 2 ^ 32) cells.new.items) }
@@ -141,7 +141,7 @@ fn all_cells(
     requires regular { IsRegular (list_numbers table.now) shape.dead (shape.dead + shape.live) }
     requires stride { shape.stride ≡ table.now.width + 1 }
     requires width { width ≡ table.now.width + 130 }
-    requires few { (2 * shape.live + 3) * (width + 1) ≤ 2 ^ 26 }
+    requires few { (2 * shape.live + 3) * (width + 1) ≤ 2 ^ 30 }
     requires standings { standings.now ≡ standings_of shape }
     ensures small { IfOk result (λ cells. All (λ n. n < 2 ^ 32) cells.items) }
     ensures cells { IfOk result (λ cells. AreRowsOf
@@ -167,7 +167,7 @@ pub(crate) fn regular_ahead(
 ) -> Result<AheadLists, AllocError>
     requires regular { IsRegular (list_numbers table.now) shape.dead (shape.dead + shape.live) }
     requires stride { shape.stride ≡ table.now.width + 1 }
-    requires few { (2 * shape.live + 3) * (table.now.width + 131) ≤ 2 ^ 26 }
+    requires few { (2 * shape.live + 3) * (table.now.width + 131) ≤ 2 ^ 30 }
     requires small { (shape.dead + shape.live) * shape.stride < 2 ^ 32 }
     requires narrow { table.now.width ≤ 255 }
     ensures right { IfOk result (λ ahead. CanRunAhead (ahead_numbers ahead) (list_numbers table.now)) }

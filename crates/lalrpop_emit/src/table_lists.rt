@@ -1,15 +1,16 @@
 //! The numbers of tables, in lists of their own.
-ghost use Rattle.std.specs.Prelude.{◌≡◌, ◌<◌, ◌^◌, length, map, IfOk, IfErr, IfSome};
+ghost use Rattle.std.specs.Prelude.{◌≡◌, ◌<◌, ◌^◌, ℕ, length, map, IfOk, IfErr, IfSome, OnOk};
 ghost use Rattle.std.specs.List.{All};
 ghost use Rattle.lalrpop_dense.specs.DenseTable.{IsTableFor, cell_numbers, table_numbers};
-ghost use Rattle.lalrpop_emit.specs.EmitErrors.{IsNumbersError};
+ghost use Rattle.lalrpop_emit.specs.EmitErrors.{IsNumbersError, IsTooLarge};
 ghost use Rattle.lalrpop_emit.specs.NumberedRules.{IsStorableAhead, IsStorableTable};
 ghost use Rattle.lalrpop_emit.specs.Internal.Classes.{IsTableError};
-ghost use Rattle.lalrpop_emit.specs.Internal.Lists.{AreAheadTables, AreBelow, AreModeTables, IsModeTable, ahead_numbers, list_numbers};
+ghost use Rattle.lalrpop_emit.specs.Internal.Lists.{AreAheadTables, AreBelow, AreModeTables, FitsTable, IsModeTable, ahead_numbers, list_numbers};
 ghost use Rattle.lalrpop_emit.specs.Internal.Walking.{CanRunAhead};
 
 use crate::ahead_table::{AheadLists, ahead_of};
 use crate::class_order::in_class_order;
+use crate::classes::has_room;
 use crate::error::EmitError;
 use crate::made_table::made_tables;
 use crate::patterns::unnamed_pattern;
@@ -77,16 +78,21 @@ fn table_lists(alloc: Global, table: &DenseTable<'_>) -> Result<TableLists, Allo
     })
 }
 
-// The table of an automaton that has one, in the order of its classes.
+// The table of an automaton that has one, in the order of its classes, if it isn't too large.
 fn ordered_table(alloc: Global, dense: &DenseDfa) -> Result<Option<TableLists>, AllocError>
     ensures right { IfOk result (λ found. IfSome found (λ table.
         IsTableFor (list_numbers table) dense.now)) }
     ensures storable { IfOk result (λ found. IfSome found (λ table.
         IsStorableTable (list_numbers table))) }
+    ensures small { IfOk result (λ found. IfSome found (λ table. ¬ IsTooLarge dense.now)) }
 {
     let Some(table) = dense.table() else {
         return Ok(None);
     };
+    let width = table.width;
+    if width > 255 || !has_room(dense.dfa(), width) {
+        return Ok(None);
+    }
     let lists = table_lists(alloc, &table)?;
     let ordered = in_class_order(alloc, lists)?;
     Ok(Some(ordered))
@@ -102,6 +108,7 @@ fn found_tables(alloc: Global, dense: &DenseDfa) -> Result<Option<ModeTable>, Al
         CanRunAhead (ahead_numbers made.ahead) (list_numbers made.table))) }
     ensures storable_ahead { IfOk result (λ found. IfSome found (λ made.
         IsStorableAhead (ahead_numbers made.ahead))) }
+    ensures small { IfOk result (λ found. IfSome found (λ made. ¬ IsTooLarge dense.now)) }
 {
     let Some(table) = ordered_table(alloc, dense)? else {
         return Ok(None);
@@ -127,6 +134,7 @@ fn tables_of(alloc: Global, dense: &DenseDfa) -> Result<ModeTable, EmitError>
     ensures ahead { IfOk result (λ made.
         CanRunAhead (ahead_numbers made.ahead) (list_numbers made.table)) }
     ensures storable_ahead { IfOk result (λ made. IsStorableAhead (ahead_numbers made.ahead)) }
+    ensures small { OnOk result (¬ IsTooLarge dense.now) }
     ensures error { IfErr result (IsTableError dense.now) }
 {
     match found_tables(alloc, dense)? {
@@ -143,6 +151,7 @@ fn mode_table(alloc: Global, rules: &RuleLexer, mode: usize) -> Result<ModeTable
     ensures ahead { IfOk result (λ made.
         CanRunAhead (ahead_numbers made.ahead) (list_numbers made.table)) }
     ensures storable { IfOk result (λ made. IsStorableAhead (ahead_numbers made.ahead)) }
+    ensures fits { OnOk result (FitsTable rules.now mode) }
     ensures error { IfErr result (IsNumbersError rules.now) }
 {
     let dense = rules.lexer(mode).dense();
@@ -175,6 +184,7 @@ pub(crate) fn mode_tables(alloc: Global, rules: &RuleLexer) -> Result<ModeTables
         AreAheadTables (map ahead_numbers made.aheads.items) (map list_numbers made.tables.items)) }
     ensures storable { IfOk result (λ made.
         All IsStorableAhead (map ahead_numbers made.aheads.items)) }
+    ensures fit { OnOk result ((m : ℕ) → m < rules.now.modes → FitsTable rules.now m) }
     ensures error { IfErr result (IsNumbersError rules.now) }
 {
     let mut tables = Vec::new(alloc);

@@ -1,11 +1,12 @@
 //! Cuts bytes by a lexer in numbers, as its source files in C and in Rust do.
-ghost use Rattle.std.specs.Prelude.{◌≡◌, ℕ, List, length, drop, map, string_bytes, true, IfOk};
+ghost use Rattle.std.specs.Prelude.{◌≡◌, ℕ, List, length, drop, map, string_bytes, true, IfOk, OnOk};
 ghost use Rattle.std.specs.Str.{IsCharBoundary};
 ghost use Rattle.bajofeki_rules.specs.Position.{position_of};
 ghost use Rattle.lalrpop_emit.specs.ByteCut.{IsCutOf, place_of};
 ghost use Rattle.lalrpop_emit.specs.BytePieces.{AreBytePieces, numbered};
 ghost use Rattle.lalrpop_emit.specs.BytePositions.{byte_position_of};
 ghost use Rattle.lalrpop_emit.specs.CSource.{c_file};
+ghost use Rattle.lalrpop_emit.specs.EmitErrors.{HasTooLarge};
 ghost use Rattle.lalrpop_emit.specs.RustSource.{rust_file};
 ghost use Rattle.lalrpop_emit.specs.Names.{IsIdentifier, kinds_of};
 ghost use Rattle.lalrpop_emit.specs.NumberedRules.{AreNumbersOf, AreSameInFile, IsStorable, NumberedRules};
@@ -35,6 +36,14 @@ pub fn pieces_by_numbers(
     let numbers = LexerNumbers::new(alloc, rules)?;
     let all = numbers.pieces(alloc, text.as_bytes())?;
     Ok(all)
+}
+
+// Needs lalrpop_emit::LexerNumbers::new: exact.
+/// The numbers of a lexer. There are none if the automaton of some mode is too large for a table.
+pub fn numbers_of_small(alloc: Global, rules: &RuleLexer) -> Result<LexerNumbers, EmitError>
+    ensures small { OnOk result (¬ HasTooLarge rules.now) }
+{
+    LexerNumbers::new(alloc, rules)
 }
 
 // Needs lalrpop_emit::ByteCutter::new: place, stack, cut.

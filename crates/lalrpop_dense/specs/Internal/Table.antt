@@ -36,12 +36,17 @@ IsRowOfKind t cells row (Accepts i) = (t.live ≤ row) × (t.accept ≤ row) × 
 abbrev pub LeadsRight : Layout → List ℕ → List Row → ℕ → Type 0
 LeadsRight t cells d p = (c : ℕ) → c < 1114112 → slice_index cells (row_of t p + class_of t c) ≡ row_of t (step d p c)
 
--- each state has a row of its kind, which leads each character where the state does
+-- no two states have one row
+abbrev pub HaveOwnRows : List ℕ → Type 0
+HaveOwnRows rows = (p q : ℕ) → p < length rows → q < length rows → slice_index rows p ≡ slice_index rows q → p ≡ q
+
+-- each state has a row of its own and of its kind, which leads each character where the state does
 pub record IsTableOf (t : Layout) (cells : List ℕ) (d : List Row) : Type 0 where
   pub short : length cells < 2 ^ 64
   pub classes : HasClasses t
   pub rows : length t.rows.items ≡ length d
   pub within : (p : ℕ) → p < length t.rows.items → row_of t p + t.width < length cells
+  pub own : HaveOwnRows t.rows.items
   pub kinds : (p : ℕ) (r : Row) → slice_get d p ≡ Some r → IsRowOfKind t cells (row_of t p) r.kind
   pub leads : (p : ℕ) → p < length d → LeadsRight t cells d p
 

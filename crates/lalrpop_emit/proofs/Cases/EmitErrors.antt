@@ -4,8 +4,8 @@ use Rattle.std.specs.Prelude.{slice_index}
 use Rattle.lalrpop_lexer.specs.Dfa.{Row, step}
 use Rattle.lalrpop_dfa.specs.declared.Kind.TheVariants.{Reject}
 use Rattle.lalrpop_rules.specs.Modes.{ModeRules}
-use Rattle.lalrpop_emit.specs.EmitErrors.{IsFirstBadName, IsNumbersError, IsSourceError, IsTooLarge}
-use Rattle.lalrpop_emit.specs.declared.error.EmitError.TheVariants.{NoRules, BadName, SkipCount, NoName, TooManyRules, TooManyModes, TooManyActions, BadVariant, BadPrefix, NoTable}
+use Rattle.lalrpop_emit.specs.EmitErrors.{CanBeNumbered, IsFirstBadName, IsNumbersError, IsSourceError, IsTooLarge}
+use Rattle.lalrpop_emit.specs.declared.error.EmitError.TheVariants.{NoRules, BadName, SkipCount, NoName, TooManyRules, TooManyModes, TooManyActions, BadVariant, BadPrefix, NoTable, OutOfMemory}
 
 -- rules with these names, none of them skipped, and no actions
 abbrev rules_named : List (List ℕ) → ℕ → ModeRules
@@ -13,6 +13,9 @@ rules_named names modes = record { names = names; trees = []; precedences = []; 
 
 no_rules : IsNumbersError (rules_named [] 1) NoRules
 no_rules = refl
+
+no_rules_have_no_numbers : ¬ CanBeNumbered (rules_named [] 1)
+no_rules_have_no_numbers can = let same : NoRules ≡ OutOfMemory = can NoRules refl in cc
 
 there_are_rules : ¬ IsNumbersError (rules_named (codes "IF" ∷ []) 1) NoRules
 there_are_rules e = omega (arith, ap length e)

@@ -8,6 +8,7 @@ use Rattle.lalrpop_rules.specs.Modes.{ModeRules}
 use Rattle.bajofeki_rules.specs.EnteredModes.{OneLeadsInto}
 use Rattle.bajofeki_rules.specs.declared.action.Action.{Action}
 use Rattle.bajofeki_rules.specs.declared.action.Action.TheVariants.{Mode, Push, Pop}
+use Rattle.lalrpop_emit.specs.EmitErrors.{IsTooLarge}
 use Rattle.lalrpop_emit.specs.NumberedRules.{IsTableOfMode, IsStorableTable}
 use Rattle.lalrpop_emit.specs.Ahead.{AheadNumbers, Standing, StandsFor, by_column, is_end, is_lost, no_rule, rule_at, rule_number}
 use Rattle.lalrpop_emit.specs.Internal.Walking.{AreRulesBelow, CanRunAhead}
@@ -38,6 +39,11 @@ pub record IsModeTable (r : ModeRules) (m : ℕ) (t : TableNumbers) : Type 0 whe
 -- each is the table of its mode
 abbrev pub AreModeTables : ModeRules → List TableNumbers → Type 0
 AreModeTables r ts = (m : ℕ) (t : TableNumbers) → slice_get ts m ≡ Some t → IsModeTable r m t
+
+-- the automaton of the mode accepts only patterns that have a name, and isn't too large
+pub record FitsTable (r : ModeRules) (m : ℕ) : Type 0 where
+  pub named : (d : List Row) → slice_get r.automata m ≡ Some d → AreBelow d (length r.names)
+  pub small : (d : List Row) → slice_get r.automata m ≡ Some d → ¬ IsTooLarge d
 
 -- the mode that the action names fits 16 bits
 abbrev pub HasSmallMode : Action → Type 0

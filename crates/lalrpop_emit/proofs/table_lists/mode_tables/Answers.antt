@@ -1,5 +1,6 @@
 use Rattle.std.proofs.Common.{arith, ap, length, length-append, [], ◌∷◌}
 use Rattle.lalrpop_emit.proofs.AheadLists.{both_more, storable_more}
+use Rattle.lalrpop_emit.proofs.ExactErrors.{fit_more}
 use Rattle.lalrpop_emit.proofs.ModeTables.{lists_more}
 use Rattle.lalrpop_emit.proofs.table_lists.mode_tables.Goals as goal
 
@@ -18,4 +19,5 @@ loop-mode-preserved c =
           both_more tables c.push.new.self.items made.made.table aheads c.push-in-loop-mode.new.self.items made.made.ahead mode c.in_ok-push.ensures.items c.in_ok-push-2.ensures.items so_far.modes so_far.all
           so_far.ahead made.ensures.ahead;
       storable = storable_more aheads c.push-in-loop-mode.new.self.items made.made.ahead c.in_ok-push-2.ensures.items so_far.storable made.ensures.storable;
+      fit = λ m below. fit_more c.args.rules.now mode m so_far.fit made.ensures.fits below;
     }

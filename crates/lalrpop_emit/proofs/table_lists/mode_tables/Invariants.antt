@@ -1,7 +1,7 @@
-use Rattle.std.proofs.Common.{◌≡◌, length, map}
+use Rattle.std.proofs.Common.{◌≡◌, ◌<◌, ℕ, length, map}
 use Rattle.std.specs.List.{All}
 use Rattle.lalrpop_emit.specs.NumberedRules.{IsStorableAhead}
-use Rattle.lalrpop_emit.specs.Internal.Lists.{AreAheadTables, AreModeTables, ahead_numbers, list_numbers}
+use Rattle.lalrpop_emit.specs.Internal.Lists.{AreAheadTables, AreModeTables, FitsTable, ahead_numbers, list_numbers}
 use Rattle.lalrpop_emit.proofs.table_lists.mode_tables.Given as goal
 
 -- the tables of the modes so far
@@ -12,4 +12,5 @@ invariant-loop-mode l = record {
   all : length l.aheads.items ≡ l.mode;
   ahead : AreAheadTables (map ahead_numbers l.aheads.items) (map list_numbers l.tables.items);
   storable : All IsStorableAhead (map ahead_numbers l.aheads.items);
+  fit : (m : ℕ) → m < l.mode → FitsTable l.rules m;
 }

@@ -1,12 +1,12 @@
 use Rattle.std.proofs.Common.{◌≡◌, ap, sym, ◌∙◌}
 use Rattle.lalrpop_dense.specs.DenseTable.{cell_numbers}
 use Rattle.lalrpop_dense.specs.Internal.Table.{numbers_of}
-use Rattle.lalrpop_dense.proofs.DenseTables.{table_of_parts}
+use Rattle.lalrpop_dense.proofs.DenseTables.{alike_of_parts, table_of_parts}
 use Rattle.lalrpop_dense.proofs.table.Table.numbers.Goals as goal
 use Rattle.lalrpop_dense.proofs.table.Table.numbers.Goals.{in-Narrow, in-Wide}
 
-pub returns : goal.returns
-returns c =
+pub returns-clause-right : goal.returns-clause-right
+returns-clause-right c =
     let t = c.args.self.now in
     let same : cell_numbers c.match-self.cells ≡ numbers_of t.cells =
     elim c.match-self.branch [
@@ -15,3 +15,8 @@ returns c =
     ] in
     table_of_parts t.layout (numbers_of t.cells) c.args.dfa.now c.deref-2.result.now c.deref-3.result.now (cell_numbers c.match-self.cells) c.index.result.now
     c.requires.plain c.states-states.ensures.well_formed c.deref-2.ensures.value c.deref-3.ensures.value c.index.ensures same
+
+pub returns-clause-alike : goal.returns-clause-alike
+returns-clause-alike c =
+    let t = c.args.self.now in
+    alike_of_parts t.layout (numbers_of t.cells) c.args.dfa.now c.deref-2.result.now c.deref-3.result.now (cell_numbers c.match-self.cells) c.index.result.now c.requires.plain c.states-states.ensures.well_formed c.deref-2.ensures.value c.deref-3.ensures.value

@@ -2,6 +2,7 @@ use Rattle.std.proofs.Common.{◌≡◌, length, map, string_bytes, arith}
 use Rattle.std.proofs.lemmas.List.{length-map}
 use Rattle.lalrpop_emit.specs.Internal.Lists.{ahead_numbers, list_numbers}
 use Rattle.lalrpop_emit.specs.NumberedRules.{NumberedRules}
+use Rattle.lalrpop_emit.proofs.ExactErrors.{can_be_numbered}
 use Rattle.lalrpop_emit.proofs.Storable.{AreMade, drivable, storable}
 use Rattle.lalrpop_emit.proofs.numbers.LexerNumbers.new.Goals as goal
 
@@ -78,3 +79,16 @@ returns-clause-storable c =
       ahead = c.in_ok-made.ensures.storable;
     } in
     storable c.args.rules.now n made
+
+pub returns-clause-exact : goal.returns-clause-exact
+returns-clause-exact c =
+    let checked = c.in_ok-check_rules.ensures in
+    can_be_numbered c.args.rules.now (record {
+      some = checked.some;
+      names = checked.names;
+      skips = checked.skips;
+      few = checked.few;
+      few_modes = checked.modes.1;
+      few_actions = c.in_ok-lists.ensures.few;
+      fit = c.in_ok-made.ensures.fit;
+    })
