@@ -1,4 +1,7 @@
+mod BadLines
 mod CutInMemory
+mod EndingLaws
 mod Lines
 mod Memory
+mod TextEndingLaws
 mod Words

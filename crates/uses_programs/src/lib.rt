@@ -4,6 +4,7 @@
 
 pub mod cut_by_rules;
 pub mod end_a_program;
+pub mod name_the_ending;
 pub mod quote_a_slice;
 pub mod read_rules;
 pub mod run_over_ends;
