@@ -20,14 +20,16 @@ same_target (t ∷ ts) o value c all =
     ∙ ap (λ (n : ℕ). if holds t.0.start t.0.end value then t.1 else n) (same_target ts o value c (All-tail (IsSteady value c) t ts all))
 
 -- a state whose edges lead both values alike
-same_step : (d : List Row) (p value c : ℕ) → ((r : Row) → slice_get d p ≡ Some r → All (IsSteady value c) r.tests) → step d p c ≡ step d p value
+same_step : (d : List Row) (p value c : ℕ) → ((r : Row) → slice_get d p ≡ Some r → All (IsSteady value c) r.tests)
+    → step d p c ≡ step d p value
 same_step d p value c all = elim (slice_get_cases d p).1 [
   | inl x ↦ rw x.2 (same_target x.0.tests x.0.other value c (all x.0 x.2))
   | inr past ↦ rw past.1 refl
 ]
 
 -- the range neither begins nor ends between both values
-steady : (value c first last : ℕ) → value ≤ c → (value < first → first ≤ c → ⊥) → (value < last + 1 → last + 1 ≤ c → ⊥) → holds first last c ≡ holds first last value
+steady : (value c first last : ℕ) → value ≤ c → (value < first → first ≤ c → ⊥) → (value < last + 1 → last + 1 ≤ c → ⊥)
+    → holds first last c ≡ holds first last value
 steady value c first last le begins ends = elim (cases_lt value first) [
   | inl before ↦ elim (cases_lt c first) [
     | inl less ↦ and_left _ _ (lt-leb first c less) ∙ sym (and_left _ _ (lt-leb first value before))
@@ -43,7 +45,8 @@ steady value c first last le begins ends = elim (cases_lt value first) [
 ]
 
 -- characters after the value, up to which none is marked, lead alike
-pub unmarked_alike : (d : List Row) (marks : List Bool) (value c : ℕ) → AreMarks d marks → value ≤ c → c < 1114112 → ((v : ℕ) → value < v → v ≤ c → ¬ IsMarked marks v) → AreAlike d c value
+pub unmarked_alike : (d : List Row) (marks : List Bool) (value c : ℕ) → AreMarks d marks → value ≤ c → c < 1114112
+    → ((v : ℕ) → value < v → v ≤ c → ¬ IsMarked marks v) → AreAlike d c value
 unmarked_alike d marks value c h le character none = λ p within.
     same_step d p value c (λ r at.
     All-weaker (λ t. IsBetweenMarks marks t.0) (IsSteady value c) (λ t between.

@@ -96,7 +96,8 @@ module _ (d : List Row) (class_of : ℕ → ℕ) (count : ℕ) (below : (c : ℕ
   no_more : length cs ≤ count
   no_more = omega (arith, length-map cs class_of, length-le_from_distinct_below (map class_of cs) count (IsDistinct-from_apart eqb (map class_of cs) apart) within)
 
-small_by : (d : List Row) (count : ℕ) → ((cs : List ℕ) → AreToldApart d cs → length cs ≤ count) → count ≤ 255 → length d * (count + 131) ≤ 2 ^ 27 → ¬ IsTooLarge d
+small_by : (d : List Row) (count : ℕ) → ((cs : List ℕ) → AreToldApart d cs → length cs ≤ count) → count ≤ 255 → length d * (count + 131) ≤ 2 ^ 27
+    → ¬ IsTooLarge d
 small_by d count most few room large =
     let less = most large.told_apart large.are in
     let narrow : length large.told_apart + 131 ≤ count + 131 = omega (arith, less) in
@@ -106,7 +107,8 @@ small_by d count most few room large =
     ]
 
 -- an automaton with few classes isn't too large
-pub small_by_classes : (d : List Row) (c : CharacterClasses) → AreClassesOf d c → length d * (length c.firsts.items + 131) ≤ 2 ^ 27 → ¬ IsTooLarge d
+pub small_by_classes : (d : List Row) (c : CharacterClasses) → AreClassesOf d c → length d * (length c.firsts.items + 131) ≤ 2 ^ 27
+    → ¬ IsTooLarge d
 small_by_classes d c h =
     let class_of : ℕ → ℕ = λ v. get_or c.classes.items v 0 in
     let first : ℕ → ℕ = λ class. get_or c.firsts.items class 0 in
@@ -115,6 +117,7 @@ small_by_classes d c h =
     h.alike v vl state l ∙ ap (λ (class : ℕ). step d state (first class)) same ∙ sym (h.alike u ul state l))) h.few
 
 -- nor is one with a table of few classes
-pub small_by_table : (d : List Row) (t : TableNumbers) → IsTableFor t d → AreAlikeInClasses t d → t.width ≤ 255 → length d * (t.width + 131) ≤ 2 ^ 27 → ¬ IsTooLarge d
+pub small_by_table : (d : List Row) (t : TableNumbers) → IsTableFor t d → AreAlikeInClasses t d → t.width ≤ 255 → length d * (t.width + 131) ≤ 2 ^ 27
+    → ¬ IsTooLarge d
 small_by_table d t right alike =
     small_by d t.width (no_more d (character_class t) t.width (λ c l. class_below t c right.classes) (λ c e cl el same state l. alike c e state cl el same l))
