@@ -77,5 +77,4 @@ pub record IsTableFor (t : TableNumbers) (d : List Row) : Type 0 where
 
 -- each state leads characters of one class to one state
 abbrev pub AreAlikeInClasses : TableNumbers → List Row → Type 0
-AreAlikeInClasses t d = (c e state : ℕ) → c < 1114112 → e < 1114112 → character_class t c ≡ character_class t e → state < length d
-    → step d state c ≡ step d state e
+AreAlikeInClasses t d = (c e state : ℕ) → c < 1114112 → e < 1114112 → character_class t c ≡ character_class t e → state < length d → step d state c ≡ step d state e
