@@ -49,7 +49,8 @@ IsSmallestOf t least = IsSmallestFor (t ∷ []) (0 ∷ []) least
 -- its picture, for the tree of a rule
 abbrev pub IsRulePicture : ModeRules → List (List ℕ) → ℕ → List ℕ → Type 0
 IsRulePicture r modes i text =
-    (t : Tree) × ((slice_get r.trees i ≡ Some t) × ((least : List Row) × (IsSmallestOf t least × (text ≡ dot None (label r modes i ∷ []) least))))
+    (t : Tree) × ((slice_get r.trees i ≡ Some t)
+    × ((least : List Row) × (IsSmallestOf t least × (text ≡ dot None (label r modes i ∷ []) least))))
 
 -- the rules with this name, in their order
 abbrev pub rules_named : ModeRules → List ℕ → List ℕ
