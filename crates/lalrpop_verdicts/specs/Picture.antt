@@ -1,6 +1,6 @@
 -- cases: proofs/Cases/Picture.antt
 -- An automaton as a text for Graphviz.
-use Rattle.std.specs.Prelude.{ℕ, ◌+◌, ◌-◌, ◌==◌, Bool, true, false, not, ◌&&◌, ◌||◌, nat_lt, List, [], ◌∷◌, ◌++◌, length, map, take, filter, flat_map, replicate, codes, chars, decimal, encode_utf8, slice_get, Some, None, if◌then◌else◌}
+use Rattle.std.specs.Prelude.{ℕ, ◌+◌, ◌-◌, ◌==◌, Bool, true, false, not, ◌&&◌, ◌||◌, nat_lt, List, [], ◌∷◌, ◌++◌, length, map, take, filter, flat_map, replicate, codes, chars, decimal, encode_utf8, slice_get, Option, Some, None, if◌then◌else◌}
 use Rattle.std.specs.Char.{is_control}
 use Rattle.std.specs.Fmt.{digits}
 use Rattle.std.specs.List.{join_with_byte}
@@ -120,12 +120,17 @@ states_from names p (r ∷ rs) = state_line names p r.kind ++ states_from names 
 
 -- ---- the picture
 
+-- the line of the title, if there is one
+unfoldable pub title_line : Option (List ℕ) → List ℕ
+title_line None = []
+title_line (Some title) = codes "  label=\"" ++ (flat_map name_character (chars title) ++ codes "\";\n")
+
 -- from left to right, with an arrow from nowhere to state 0
 abbrev pub head : List ℕ
 head =
     codes "digraph {\n  rankdir=LR;\n  node [shape=circle];\n"
     ++ codes "  nowhere [shape=none, label=\"\", width=0, height=0];\n  nowhere -> 0;\n"
 
--- the states, and then the edges
-unfoldable pub dot : List (List ℕ) → List Row → List ℕ
-dot names d = head ++ (states_from names 0 d ++ (edges_from d 0 d ++ codes "}\n"))
+-- the title, the states, and then the edges
+unfoldable pub dot : Option (List ℕ) → List (List ℕ) → List Row → List ℕ
+dot title names d = head ++ (title_line title ++ (states_from names 0 d ++ (edges_from d 0 d ++ codes "}\n")))

@@ -1,8 +1,8 @@
 //! An automaton as a text for Graphviz.
-ghost use Rattle.std.specs.Prelude.{◌≡◌, ◌∷◌, ◌++◌, ◌<◌, flat_map, filter, chars, length, map, slice_get, string_bytes, IfOk, IsSomeAnd, OnOk};
+ghost use Rattle.std.specs.Prelude.{◌≡◌, ◌∷◌, ◌++◌, ◌<◌, flat_map, filter, chars, length, map, option_map, slice_get, string_bytes, IfOk, IsSomeAnd, OnOk};
 ghost use Rattle.std.specs.List.{join_with_byte};
 ghost use Rattle.lalrpop_verdicts.specs.Internal.Targets.{with_new};
-ghost use Rattle.lalrpop_verdicts.specs.Picture.{accepting_line, as_itself, code_text, dot, edge_line, edges_from, is_coded, is_live, is_live_at, label, name_character, name_text, range_text, ranges_to, row_edges, shortened, state_line, states_from, targets, value_text};
+ghost use Rattle.lalrpop_verdicts.specs.Picture.{accepting_line, as_itself, code_text, dot, edge_line, edges_from, is_coded, is_live, is_live_at, label, name_character, name_text, range_text, ranges_to, row_edges, shortened, state_line, states_from, targets, title_line, value_text};
 
 use lalrpop_dfa::{Dfa, DfaStateIndex, Kind};
 use lalrpop_nfa::Test;
@@ -292,6 +292,20 @@ fn push_characters(text: &mut String, name: &str) -> Result<(), AllocError>
     Ok(())
 }
 
+// The line of the title, if there is one.
+#[tactic(auto, unfolding(crate::specs::Picture::title_line))]
+fn push_title(text: &mut String, title: Option<&str>) -> Result<(), AllocError>
+    ensures { OnOk result (string_bytes text.new
+        ≡ string_bytes text.old ++ title_line (option_map (λ t. t.now) title.entry)) }
+{
+    let Some(title) = title else {
+        return Ok(());
+    };
+    text.push_str("  label=\"")?;
+    push_characters(text, title)?;
+    text.push_str("\";\n")
+}
+
 // The name of a pattern, or its number if it has none.
 #[tactic(auto, unfolding(crate::specs::Picture::name_text))]
 fn push_name(text: &mut String, names: &[String], pattern: usize) -> Result<(), AllocError>
@@ -348,10 +362,10 @@ fn push_states(text: &mut String, names: &[String], dfa: &Dfa) -> Result<(), All
     Ok(())
 }
 
-/// The automaton as a text for Graphviz (`dot -Tsvg`). A circle with its number stands for each state that doesn't reject, a
-/// double circle for one that accepts a pattern, with the pattern's name, or its number if it has none. An arrow from nowhere
-/// leads to state 0, which Graphviz draws even if it rejects. Edges to states that reject are left out, and the edges from one
-/// state to another are one arrow.
+/// The automaton as a text for Graphviz (`dot -Tsvg`), with its title, if it has one. A circle with its number stands for each
+/// state that doesn't reject, a double circle for one that accepts a pattern, with the pattern's name, or its number if it has
+/// none. An arrow from nowhere leads to state 0, which Graphviz draws even if it rejects. Edges to states that reject are left
+/// out, and the edges from one state to another are one arrow.
 ///
 /// An arrow says the ranges of values by which it leads on, as in a class, ascending: `a-z`, `a`, or `ab` for two values. `\n`,
 /// `\r` and `\t` stand for line feed, carriage return and tab, and `U+00E9` for what isn't ASCII, or isn't seen: two values of
@@ -362,9 +376,10 @@ fn push_states(text: &mut String, names: &[String], dfa: &Dfa) -> Result<(), All
 /// ```
 /// use lalrpop_verdicts::dot;
 ///
-/// let text = dot(alloc, &dfa, lexer.names())?;
+/// let text = dot(alloc, Some("words"), &dfa, lexer.names())?;
 /// // digraph {
 /// //   ..
+/// //   label="words";
 /// //   0;
 /// //   1 [shape=doublecircle, label="1\nword"];
 /// //   0 -> 1 [label="a-z"];
@@ -376,11 +391,17 @@ fn push_states(text: &mut String, names: &[String], dfa: &Dfa) -> Result<(), All
 ///
 /// `AllocError` if a request for memory was refused.
 #[tactic(auto, unfolding(crate::specs::Picture::dot))]
-pub fn dot(alloc: Global, dfa: &Dfa, names: &[String]) -> Result<String, AllocError>
+pub fn dot(
+    alloc: Global,
+    title: Option<&str>,
+    dfa: &Dfa,
+    names: &[String],
+) -> Result<String, AllocError>
     ensures text { IfOk result (λ text. string_bytes text
-        ≡ dot (map string_bytes names.now) dfa.now) }
+        ≡ dot (option_map (λ t. t.now) title.entry) (map string_bytes names.now) dfa.now) }
 {
     let mut text = String::from_str(alloc, HEAD)?;
+    push_title(&mut text, title)?;
     push_states(&mut text, names, dfa)?;
     push_all_edges(alloc, &mut text, dfa)?;
     text.push_str("}\n")?;

@@ -270,16 +270,19 @@ fn progress_is_said(rt: HostRuntime) {
 
 const ONE: &[u8] =
     b"digraph {\n  rankdir=LR;\n  node [shape=circle];\n  nowhere [shape=none, label=\"\", width=0, height=0];\n  nowhere -> 0;\n  0;\n  1 [shape=doublecircle, label=\"1\\nA\"];\n  0 -> 1 [label=\"a\"];\n}\n";
+
+const PUSHING: &[u8] =
+    b"digraph {\n  rankdir=LR;\n  node [shape=circle];\n  nowhere [shape=none, label=\"\", width=0, height=0];\n  nowhere -> 0;\n  0;\n  1 [shape=doublecircle, label=\"1\\nA push DIGITS\"];\n  0 -> 1 [label=\"a\"];\n}\n";
 // After `a` and after `c` the same is awaited, so one state does for both.
 const TWO: &[u8] =
-    b"digraph {\n  rankdir=LR;\n  node [shape=circle];\n  nowhere [shape=none, label=\"\", width=0, height=0];\n  nowhere -> 0;\n  0;\n  1 [shape=doublecircle, label=\"1\\nA\"];\n  0 -> 1 [label=\"a\"];\n}\ndigraph {\n  rankdir=LR;\n  node [shape=circle];\n  nowhere [shape=none, label=\"\", width=0, height=0];\n  nowhere -> 0;\n  0;\n  1;\n  3 [shape=doublecircle, label=\"3\\nB\"];\n  0 -> 1 [label=\"a c\"];\n  1 -> 3 [label=\"0-9\"];\n}\n";
+    b"digraph {\n  rankdir=LR;\n  node [shape=circle];\n  nowhere [shape=none, label=\"\", width=0, height=0];\n  nowhere -> 0;\n  label=\"INITIAL\";\n  0;\n  1 [shape=doublecircle, label=\"1\\nA push DIGITS\"];\n  0 -> 1 [label=\"a\"];\n}\ndigraph {\n  rankdir=LR;\n  node [shape=circle];\n  nowhere [shape=none, label=\"\", width=0, height=0];\n  nowhere -> 0;\n  label=\"DIGITS\";\n  0;\n  1;\n  3 [shape=doublecircle, label=\"3\\nB pop\"];\n  0 -> 1 [label=\"a c\"];\n  1 -> 3 [label=\"0-9\"];\n}\n";
 
 #[test]
 fn the_automata_of_modes_and_of_a_rule_are_drawn(rt: HostRuntime) {
     let rows: &[(&[&str], &[u8], &[u8], u8)] = &[
         (&["--dot", "one.rules"], ONE, b"", 0),
         (&["two.rules", "--dot"], TWO, b"", 0),
-        (&["two.rules", "--dot", "A"], ONE, b"", 0),
+        (&["two.rules", "--dot", "A"], PUSHING, b"", 0),
         (
             &["--dot", "one.rules", "B"],
             b"",

@@ -59,8 +59,21 @@ fn push_skip(text: &mut String, is_skipped: bool) -> Result<(), AllocError>
     Ok(())
 }
 
-// A token of the rule with this index, as files of rules write it.
-fn push_token(
+/// Appends the token of the rule with this index, and what it does, as files of rules write it: `NAME skip push STRING`. If there
+/// is no rule, it is `no token`.
+///
+/// ```
+/// use lalrpop_lexer::lexer::dfa::NfaIndex;
+/// use reports_lib::push_token;
+///
+/// let mut text = String::new(alloc);
+/// push_token(&mut text, &file.modes, &file.lexer, Some(NfaIndex::new(0)))?; // "QUOTE push STRING"
+/// ```
+///
+/// # Errors
+///
+/// `AllocError` if a request for memory was refused.
+pub fn push_token(
     text: &mut String,
     modes: &[String],
     lexer: &RuleLexer,

@@ -20,7 +20,7 @@ mod shown;
 mod shown_line;
 mod warnings;
 
-pub use compared::difference_reply;
+pub use compared::{difference_reply, push_token};
 pub use file_lexer::{FileLexer, with_names};
 pub use json_line::push_json;
 pub use layout::{Layout, LineForm};

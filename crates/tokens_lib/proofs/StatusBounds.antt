@@ -144,9 +144,9 @@ source_low : (language : Language) (file : List ℕ) (set : ModeRules) (answer :
 source_low language file set answer (inl (n, (are, e))) = low answer _ e (omega arith)
 source_low language file set answer (inr (error, (other, (is, e)))) = low answer _ e (omega arith)
 
-picture_low : (file : List ℕ) (given : Option (List ℕ)) (set : ModeRules) (answer : Answer) → PictureAnswer file given set answer → IsLow answer
-picture_low file given set answer (inl (text, (drawn, e))) = low answer _ e (omega arith)
-picture_low file given set answer (inr (name, (missing, e))) = low answer _ e (omega arith)
+picture_low : (file : List ℕ) (given : Option (List ℕ)) (set : ModeRules) (modes : List (List ℕ)) (answer : Answer) → PictureAnswer file given set modes answer → IsLow answer
+picture_low file given set modes answer (inl (text, (drawn, e))) = low answer _ e (omega arith)
+picture_low file given set modes answer (inr (name, (missing, e))) = low answer _ e (omega arith)
 
 written_low : (text : List ℕ) → text_status text ≤ 6
 written_low [] = omega arith
@@ -179,7 +179,7 @@ action_low Gives Read_of i k (Show markup) verbosity rules files answer is =
 action_low Gives Read_of i k (Emit language) verbosity rules files answer is =
     by_rules_low verbosity Gives (λ r modes. SourceAnswer language rules r) rules answer (λ r modes a written. source_low language rules r a written) is
 action_low Gives Read_of i k Picture verbosity rules files answer is =
-    by_rules_low verbosity Gives (λ r modes. PictureAnswer rules (slice_get files 0) r) rules answer (λ r modes a drawn. picture_low rules (slice_get files 0) r a drawn) is
+    by_rules_low verbosity Gives (PictureAnswer rules (slice_get files 0)) rules answer (picture_low rules (slice_get files 0)) is
 action_low Gives Read_of i k Difference verbosity rules files answer is =
     by_rules_low verbosity Gives (λ r modes. ComparedAnswer Gives verbosity rules r modes (other_of files)) rules answer
     (λ r modes a told. compared_low Gives verbosity rules r modes (other_of files) a told) is

@@ -14,7 +14,7 @@ is_option word = starts_with ◌==◌ word (codes "-") && not (bytes_eq word (co
 
 -- the option has a value
 abbrev pub takes_value : List ℕ → Bool
-takes_value word = bytes_eq word (codes "--emit") || bytes_eq word (codes "--prefix")
+takes_value word = bytes_eq word (codes "--emit") || (bytes_eq word (codes "--prefix") || bytes_eq word (codes "--color"))
 
 -- the arguments with each such option and its value in one word: `--emit c` is `--emit=c`
 abbrev pub joined : List (List ℕ) → List (List ℕ)

@@ -1,6 +1,6 @@
 -- cases: proofs/Cases/Command.antt
 -- What the arguments ask for.
-use Rattle.std.specs.Prelude.{◌≡◌, ◌≢◌, ℕ, ◌≤◌, ◌==◌, Bool, true, false, not, ◌||◌, List, [], ◌∷◌, ◌++◌, Option, Some, None, IfSome, codes, map, filter, find, length, slice_get, if◌then◌else◌}
+use Rattle.std.specs.Prelude.{◌≡◌, ◌≢◌, ℕ, ◌≤◌, ◌==◌, Bool, true, false, not, ◌&&◌, ◌||◌, List, [], ◌∷◌, ◌++◌, Option, Some, None, IfSome, codes, map, filter, find, length, slice_get, if◌then◌else◌}
 use Rattle.std.specs.List.{list_any, starts_with}
 use Rattle.std.specs.Str.{bytes_eq}
 use Rattle.reports_lib.specs.declared.layout.LineForm.TheVariants.{Plain, Json}
@@ -22,7 +22,7 @@ options_of (Cut Plain true) = codes "--recover" ∷ []
 options_of (Cut Json false) = codes "--json" ∷ []
 options_of (Cut Json true) = codes "--recover" ∷ codes "--json" ∷ []
 options_of (Show Html) = codes "--html" ∷ []
-options_of (Show Ansi) = codes "--ansi" ∷ []
+options_of (Show Ansi) = codes "--color=always" ∷ []
 options_of Clashes = codes "--clashes" ∷ []
 options_of (Emit (C None)) = codes "--emit=c" ∷ []
 options_of (Emit (C (Some prefix))) = codes "--emit=c" ∷ (codes "--prefix=" ++ prefix.now) ∷ []
@@ -51,19 +51,32 @@ has words word = list_any (λ other. bytes_eq other word) words
 
 -- the options of actions, in the order of the table
 abbrev pub action_options : List (List ℕ)
-action_options = codes "--recover" ∷ codes "--json" ∷ codes "--html" ∷ codes "--ansi" ∷ codes "--clashes" ∷ codes "--emit=c" ∷ codes "--emit=rust" ∷ codes "--dot" ∷ codes "--check" ∷ codes "--diff" ∷ []
+action_options = codes "--recover" ∷ codes "--json" ∷ codes "--html" ∷ codes "--clashes" ∷ codes "--emit=c" ∷ codes "--emit=rust" ∷ codes "--dot" ∷ codes "--check" ∷ codes "--diff" ∷ []
 
 -- the option says a prefix
 abbrev pub is_prefix_option : List ℕ → Bool
 is_prefix_option option = starts_with ◌==◌ option (codes "--prefix=")
 
 -- those that are given, and then all prefixes
-abbrev pub given : List (List ℕ) → List (List ℕ)
-given options = filter (has options) action_options ++ filter is_prefix_option options
+abbrev pub said : List (List ℕ) → List (List ℕ)
+said options = filter (has options) action_options ++ filter is_prefix_option options
 
 -- the options that go with all others
-abbrev pub verbosity_options : List (List ℕ)
-verbosity_options = codes "--quiet" ∷ codes "--progress" ∷ []
+abbrev pub common_options : List (List ℕ)
+common_options =
+    codes "--quiet" ∷ codes "--progress" ∷ codes "--ansi" ∷ codes "--color=auto" ∷ codes "--color=always" ∷ codes "--color=never" ∷ []
+
+-- colours are asked for; --color=never wins
+abbrev pub asks_colours : List (List ℕ) → Bool
+asks_colours options = (has options (codes "--color=always") || has options (codes "--ansi")) && not (has options (codes "--color=never"))
+
+-- what is asked for: those, or colours if there are none
+abbrev pub or_colours : Bool → List (List ℕ) → List (List ℕ)
+or_colours true [] = codes "--color=always" ∷ []
+or_colours asked options = options
+
+abbrev pub given : List (List ℕ) → List (List ℕ)
+given options = or_colours (asks_colours options) (said options)
 
 -- how much is said; --quiet wins
 abbrev pub verbosity_of : List (List ℕ) → Verbosity
@@ -71,7 +84,7 @@ verbosity_of options = if has options (codes "--quiet") then Quiet else if has o
 
 -- the first option that is none of them
 abbrev pub is_known : List ℕ → Bool
-is_known option = has action_options option || (has verbosity_options option || is_prefix_option option)
+is_known option = has action_options option || (has common_options option || is_prefix_option option)
 
 abbrev pub unknown : List (List ℕ) → Option (List ℕ)
 unknown options = find (λ option. not (is_known option)) options

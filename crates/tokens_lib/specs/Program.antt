@@ -48,7 +48,7 @@ abbrev pub ReplyAnswer : (List ℕ → Given → Type 0) → Verbosity → Actio
 ReplyAnswer Gives verbosity Clashes rules files answer = BytesAnswer Gives (RulesOf verbosity ClashesAnswer) rules answer
 ReplyAnswer Gives verbosity (Check form) rules files answer = BytesAnswer Gives (RulesTold finding verbosity (CheckAnswer form)) rules answer
 ReplyAnswer Gives verbosity (Emit language) rules files answer = ByLexer Gives verbosity (λ r modes. SourceAnswer language rules r) rules answer
-ReplyAnswer Gives verbosity Picture rules files answer = ByLexer Gives verbosity (λ r modes. PictureAnswer rules (slice_get files 0) r) rules answer
+ReplyAnswer Gives verbosity Picture rules files answer = ByLexer Gives verbosity (PictureAnswer rules (slice_get files 0)) rules answer
 ReplyAnswer Gives verbosity Difference rules files answer = ByLexer Gives verbosity (λ r modes. ComparedAnswer Gives verbosity rules r modes (other_of files)) rules answer
 ReplyAnswer Gives verbosity (Cut form recovers) rules files answer = ⊥
 ReplyAnswer Gives verbosity (Show markup) rules files answer = ⊥

@@ -29,7 +29,7 @@ fn is_end(word: &str) -> bool
 fn takes_value(word: &str) -> bool
     ensures { result ≡ takes_value word.now }
 {
-    word == "--emit" || word == "--prefix"
+    word == "--emit" || word == "--prefix" || word == "--color"
 }
 
 // The option with its value.

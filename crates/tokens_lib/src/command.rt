@@ -1,7 +1,7 @@
 //! The program's arguments.
 ghost use Rattle.std.specs.Prelude.{codes, ◌≡◌, ◌≢◌, [], ◌∷◌, ◌++◌, not, map, find, filter, option_map, string_bytes, IfOk, IfErr, IfSome, IfNone};
 ghost use Rattle.tokens_lib.specs.Arguments.{options, names};
-ghost use Rattle.tokens_lib.specs.Command.{action_options, asks_help, asks_version, given, IsCommand, IsFilesRun, IsFilesError, IsRun, IsRunError, IsArgumentsError, has, is_known, is_prefix_option, most_names, options_of, verbosity_of};
+ghost use Rattle.tokens_lib.specs.Command.{action_options, asks_colours, asks_help, asks_version, given, IsCommand, IsFilesRun, IsFilesError, IsRun, IsRunError, IsArgumentsError, has, is_known, is_prefix_option, most_names, options_of, said, verbosity_of};
 ghost use Rattle.tokens_lib.specs.Internal.Prefixes.{HasPrefix};
 ghost use Rattle.tokens_lib.specs.declared.command.Action.{Action as AnAction};
 ghost use Rattle.tokens_lib.specs.declared.command.ArgumentsError.TheVariants.{OutOfMemory};
@@ -166,11 +166,10 @@ impl From<AllocError> for ArgumentsError<'_> {
 pub(crate) const WRONG_ARGUMENTS: u8 = 4;
 
 // The options of actions, in the order in which specs/Command.antt has them.
-const ACTION_OPTIONS: [&str; 10] = [
+const ACTION_OPTIONS: [&str; 9] = [
     "--recover",
     "--json",
     "--html",
-    "--ansi",
     "--clashes",
     "--emit=c",
     "--emit=rust",
@@ -182,8 +181,18 @@ const ACTION_OPTIONS: [&str; 10] = [
 // What an option that says a prefix begins with.
 const PREFIX: &str = "--prefix=";
 
+// The option of text in colours.
+const COLOURS: &str = "--color=always";
+
 // The options that go with all others.
-const VERBOSITY_OPTIONS: [&str; 2] = ["--quiet", "--progress"];
+const COMMON_OPTIONS: [&str; 6] = [
+    "--quiet",
+    "--progress",
+    "--ansi",
+    "--color=auto",
+    COLOURS,
+    "--color=never",
+];
 
 // Whether a word is among others.
 fn has(words: &[&str], word: &str) -> bool
@@ -206,7 +215,7 @@ fn is_prefix_option(option: &str) -> bool
 fn is_known(option: &str) -> bool
     ensures { result ≡ is_known option.now }
 {
-    has(&ACTION_OPTIONS, option) || has(&VERBOSITY_OPTIONS, option) || is_prefix_option(option)
+    has(&ACTION_OPTIONS, option) || has(&COMMON_OPTIONS, option) || is_prefix_option(option)
 }
 
 // The first unknown option.
@@ -249,9 +258,9 @@ fn of_actions(alloc: Global, options: &[&str]) -> Result<Vec<&'static str>, Allo
 }
 
 // The options of actions that are given, and then all prefixes.
-fn given<'words>(alloc: Global, options: &[&'words str]) -> Result<Vec<&'words str>, AllocError>
+fn said<'words>(alloc: Global, options: &[&'words str]) -> Result<Vec<&'words str>, AllocError>
     ensures { IfOk result (λ found.
-        map (λ w. w.now) found.items ≡ given (map (λ w. w.now) options.now)) }
+        map (λ w. w.now) found.items ≡ said (map (λ w. w.now) options.now)) }
 {
     let of_actions = of_actions(alloc, options)?;
     let mut found = Vec::new(alloc);
@@ -262,6 +271,25 @@ fn given<'words>(alloc: Global, options: &[&'words str]) -> Result<Vec<&'words s
         if is_prefix_option(option) {
             found.push(*option)?;
         }
+    }
+    Ok(found)
+}
+
+// Whether colours are asked for.
+fn asks_colours(options: &[&str]) -> bool
+    ensures { result ≡ asks_colours (map (λ w. w.now) options.now) }
+{
+    (has(options, COLOURS) || has(options, "--ansi")) && !has(options, "--color=never")
+}
+
+// What the options ask for: those of actions, or colours if there are none.
+fn given<'words>(alloc: Global, options: &[&'words str]) -> Result<Vec<&'words str>, AllocError>
+    ensures { IfOk result (λ found.
+        map (λ w. w.now) found.items ≡ given (map (λ w. w.now) options.now)) }
+{
+    let mut found = said(alloc, options)?;
+    if found.is_empty() && asks_colours(options) {
+        found.push(COLOURS)?;
     }
     Ok(found)
 }
@@ -295,7 +323,7 @@ fn action_of_one(option: &str) -> Option<Action<'static>>
         "--html" => Some(Action::Show {
             markup: Markup::Html,
         }),
-        "--ansi" => Some(Action::Show {
+        "--color=always" => Some(Action::Show {
             markup: Markup::Ansi,
         }),
         "--clashes" => Some(Action::Clashes),
@@ -494,7 +522,8 @@ fn command_with<'words>(
 
 /// The command that the arguments ask for, in which an option and its value are one word: `--emit=c`. An argument that begins
 /// with a dash, is more than it and stands before the first `--` is an option; the others are RULES and files. The order of
-/// options, and how often each stands, don't matter, but there is at most one prefix.
+/// options, and how often each stands, don't matter, but there is at most one prefix. `--ansi` is `--color=always`, which writes
+/// colours if no option of an action is given, nor `--color=never`; `--color=auto` asks for nothing.
 ///
 /// # Errors
 ///

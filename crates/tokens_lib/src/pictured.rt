@@ -1,23 +1,25 @@
 //! Pictures of the automata of a file of rules.
-ghost use Rattle.std.specs.Prelude.{◌≡◌, ◌<◌, ◌∷◌, [], ℕ, List, Some, false, true, map, option_map, slice_get, string_bytes, IfOk, IfSome, IfNone};
-ghost use Rattle.std.specs.List.{zip};
+ghost use Rattle.std.specs.Prelude.{◌≡◌, ◌<◌, ◌∷◌, [], ℕ, List, None, Some, false, true, map, option_map, slice_get, string_bytes, IfOk, IfSome, IfNone};
+ghost use Rattle.std.specs.List.{range_with_len};
 ghost use Rattle.lalrpop_dfa.specs.Dfa.{RecognizesAll, Row};
 ghost use Rattle.lalrpop_rules.specs.Modes.{trees_in};
 ghost use Rattle.lalrpop_verdicts.specs.Picture.{dot};
 ghost use Rattle.reports_lib.specs.Answer.{about, refusal};
+ghost use Rattle.reports_lib.specs.ItemLines.{mode_named};
 ghost use Rattle.tokens_lib.specs.Command.{has};
 ghost use Rattle.tokens_lib.specs.Program.{ByLexer};
 ghost use Rattle.tokens_lib.specs.Streams.{GivesWhole};
-ghost use Rattle.tokens_lib.specs.Pictured.{ArePictures, AreRulePictures, IsDrawn, IsMissing, IsSmallestIn, IsSmallestOf, PictureAnswer, no_rule};
+ghost use Rattle.tokens_lib.specs.Pictured.{ArePictures, IsDrawn, IsMissing, IsModePicture, IsRulePicture, IsSmallestIn, IsSmallestOf, PictureAnswer, label, labels, no_rule, rules_named};
 
 use crate::by_rules::lexer_by_name;
 use crate::command::{Verbosity, WRONG_ARGUMENTS};
 use crate::files::Files;
-use lalrpop_lexer::lexer::dfa::{Dfa, Precedence, build_dfa};
+use crate::sheet::{mode_named, name_of};
+use lalrpop_lexer::lexer::dfa::{Dfa, NfaIndex, Precedence, build_dfa};
 use lalrpop_lexer::lexer::re::Regex;
 use lalrpop_rules::RuleLexer;
 use lalrpop_verdicts::{dot, minimized};
-use reports_lib::{Reply, about};
+use reports_lib::{FileLexer, Reply, about, push_token};
 use std::alloc::{AllocError, Global};
 use std::slice;
 
@@ -29,38 +31,70 @@ fn automaton(lexer: &RuleLexer, mode: usize) -> &Dfa
     lexer.lexer(mode).dense().dfa()
 }
 
-// The picture of the smallest automaton of a mode.
-fn picture(alloc: Global, lexer: &RuleLexer, mode: usize) -> Result<String, AllocError>
-    requires there { mode < lexer.now.modes }
-    ensures { IfOk result (λ text. (least : List Row) × (IsSmallestIn lexer.now mode least
-        × (string_bytes text ≡ dot lexer.now.names least))) }
+// What stands at a state that accepts a rule: its token, and what it does, as files of rules write it.
+fn label(alloc: Global, rules: &FileLexer, rule: NfaIndex) -> Result<String, AllocError>
+    ensures { IfOk result (λ text. string_bytes text
+        ≡ label rules.now.lexer (map string_bytes rules.now.modes.items) rule) }
 {
-    let least = minimized(alloc, automaton(lexer, mode))?;
-    dot(alloc, &least, lexer.names())
+    let mut text = String::new(alloc);
+    push_token(&mut text, &rules.modes, &rules.lexer, Some(rule))?;
+    Ok(text)
+}
+
+// The label of each rule.
+fn labels(alloc: Global, rules: &FileLexer) -> Result<Vec<String>, AllocError>
+    ensures { IfOk result (λ all. map string_bytes all.items
+        ≡ labels rules.now.lexer (map string_bytes rules.now.modes.items)) }
+{
+    let mut all = Vec::new(alloc);
+    for rule in 0..rules.lexer.names().len() {
+        let text = label(alloc, rules, NfaIndex::new(rule))?;
+        all.push(text)?;
+    }
+    Ok(all)
+}
+
+// The picture of the smallest automaton of a mode, with its name, if there are several.
+fn mode_picture(
+    alloc: Global,
+    rules: &FileLexer,
+    labels: &[String],
+    mode: usize,
+) -> Result<String, AllocError>
+    requires there { mode < rules.now.lexer.modes }
+    ensures { IfOk result (λ text. (least : List Row)
+        × (IsSmallestIn rules.now.lexer mode least
+        × (string_bytes text ≡ dot (mode_named (map string_bytes rules.now.modes.items) mode)
+        (map string_bytes labels.now) least))) }
+{
+    let least = minimized(alloc, automaton(&rules.lexer, mode))?;
+    dot(alloc, mode_named(&rules.modes, mode), &least, labels)
 }
 
 // The pictures of all modes, one after the other.
-fn pictures(alloc: Global, lexer: &RuleLexer) -> Result<String, AllocError>
-    ensures { IfOk result (λ text.
-        ArePictures lexer.now lexer.now.modes (string_bytes text)) }
+fn mode_pictures(alloc: Global, rules: &FileLexer) -> Result<String, AllocError>
+    ensures { IfOk result (λ text. ArePictures
+        (IsModePicture rules.now.lexer (map string_bytes rules.now.modes.items))
+        (range_with_len 0 rules.now.lexer.modes) (string_bytes text)) }
 {
+    let labels = labels(alloc, rules)?;
     let mut text = String::new(alloc);
-    for mode in 0..lexer.modes() {
-        let one = picture(alloc, lexer, mode)?;
+    for mode in 0..rules.lexer.modes() {
+        let one = mode_picture(alloc, rules, &labels, mode)?;
         text.push_str(&one)?;
     }
     Ok(text)
 }
 
 // The picture of the smallest automaton of a rule's tree alone.
-fn rule_picture(alloc: Global, name: &String, tree: &Regex) -> Result<String, AllocError>
+fn rule_picture(alloc: Global, label: &String, tree: &Regex) -> Result<String, AllocError>
     ensures { IfOk result (λ text. (least : List Row) × (IsSmallestOf tree.now least
-        × (string_bytes text ≡ dot (string_bytes name.now ∷ []) least))) }
+        × (string_bytes text ≡ dot None (string_bytes label.now ∷ []) least))) }
 {
     match build_dfa(alloc, slice::from_ref(tree), &[Precedence(0)]) {
         Ok(dfa) => {
             let least = minimized(alloc, &dfa)?;
-            dot(alloc, &least, slice::from_ref(name))
+            dot(alloc, None, &least, slice::from_ref(label))
         }
         // The tree of a rule can be compiled, and alone it clashes with none, so only memory can be refused.
         Err(_) => Err(AllocError),
@@ -68,19 +102,17 @@ fn rule_picture(alloc: Global, name: &String, tree: &Regex) -> Result<String, Al
 }
 
 // The pictures of the rules with this name, one after the other.
-fn rule_pictures(
-    alloc: Global,
-    names: &[String],
-    trees: &[Regex],
-    name: &str,
-) -> Result<String, AllocError>
-    ensures { IfOk result (λ text. AreRulePictures name.now
-        (zip (map string_bytes names.now) trees.now) (string_bytes text)) }
+fn rule_pictures(alloc: Global, rules: &FileLexer, name: &str) -> Result<String, AllocError>
+    ensures { IfOk result (λ text. ArePictures
+        (IsRulePicture rules.now.lexer (map string_bytes rules.now.modes.items))
+        (rules_named rules.now.lexer name.now) (string_bytes text)) }
 {
     let mut text = String::new(alloc);
-    for (own, tree) in names.iter().zip(trees) {
-        if own.as_str() == name {
-            let one = rule_picture(alloc, own, tree)?;
+    for (index, tree) in rules.lexer.regexs().iter().enumerate() {
+        let rule = NfaIndex::new(index);
+        if name_of(&rules.lexer, rule) == name {
+            let label = label(alloc, rules, rule)?;
+            let one = rule_picture(alloc, &label, tree)?;
             text.push_str(&one)?;
         }
     }
@@ -114,14 +146,15 @@ fn missing<'name>(lexer: &RuleLexer, given: Option<&'name str>) -> Option<&'name
 }
 
 // What is drawn: each mode; or, if a name is given, the rules that have it.
-fn drawing(alloc: Global, lexer: &RuleLexer, given: Option<&str>) -> Result<String, AllocError>
-    requires there { IfSome given (λ name. has lexer.now.names name.now ≡ true) }
+fn drawing(alloc: Global, rules: &FileLexer, given: Option<&str>) -> Result<String, AllocError>
+    requires there { IfSome given (λ name. has rules.now.lexer.names name.now ≡ true) }
     ensures drawn { IfOk result (λ text.
-        IsDrawn lexer.now (option_map (λ n. n.now) given.entry) (string_bytes text)) }
+        IsDrawn rules.now.lexer (map string_bytes rules.now.modes.items)
+        (option_map (λ n. n.now) given.entry) (string_bytes text)) }
 {
     match given {
-        Some(name) => rule_pictures(alloc, lexer.names(), lexer.regexs(), name),
-        None => pictures(alloc, lexer),
+        Some(name) => rule_pictures(alloc, rules, name),
+        None => mode_pictures(alloc, rules),
     }
 }
 
@@ -154,17 +187,18 @@ fn first<'name>(names: &[&'name str]) -> Option<&'name str>
 fn picture_reply(
     alloc: Global,
     file: &str,
-    lexer: &RuleLexer,
+    rules: &FileLexer,
     names: &[&str],
 ) -> Result<Reply, AllocError>
     ensures answer { IfOk result
-        (PictureAnswer file.now (slice_get (map (λ n. n.now) names.now) 0) lexer.now) }
+        (PictureAnswer file.now (slice_get (map (λ n. n.now) names.now) 0)
+        rules.now.lexer (map string_bytes rules.now.modes.items)) }
 {
     let given = first(names);
-    if let Some(name) = missing(lexer, given) {
+    if let Some(name) = missing(&rules.lexer, given) {
         return refused(alloc, file, name);
     }
-    let text = drawing(alloc, lexer, given)?;
+    let text = drawing(alloc, rules, given)?;
     Ok(Reply::written(alloc, 0, text.into_bytes()))
 }
 
@@ -181,12 +215,10 @@ pub(crate) fn draw<F: Files>(
     names: &[&str],
 ) -> Result<Reply, AllocError>
     ensures answer { IfOk result (ByLexer (GivesWhole (F.gives files.now)) verbosity
-        (λ r _. PictureAnswer rules.now (slice_get (map (λ n. n.now) names.now) 0) r) rules.now) }
+        (PictureAnswer rules.now (slice_get (map (λ n. n.now) names.now) 0)) rules.now) }
 {
     match lexer_by_name(alloc, verbosity, files, rules)? {
-        Ok(found) => {
-            picture_reply(alloc, rules, &found.lexer.lexer, names)?.after(0, found.said)
-        }
+        Ok(found) => { picture_reply(alloc, rules, &found.lexer, names)?.after(0, found.said) }
         Err(reply) => Ok(reply),
     }
 }

@@ -51,8 +51,8 @@ fn push_line(
     }
 }
 
-// The name of a rule. The rule of a token always has one.
-fn name_of(lexer: &RuleLexer, index: NfaIndex) -> &str
+/// The name of a rule, or the empty string if no rule has the index. The rule of a token always has one.
+pub(crate) fn name_of(lexer: &RuleLexer, index: NfaIndex) -> &str
     ensures { result.now ≡ name_at lexer.now.names index }
 {
     match lexer.name(index) {
@@ -71,8 +71,8 @@ pub(crate) fn mode_name(modes: &[String], mode: usize) -> &str
     }
 }
 
-// The mode that a line names: none, unless there are several.
-fn mode_named(modes: &[String], mode: usize) -> Option<&str>
+/// The name of the mode with this number, if there are several.
+pub(crate) fn mode_named(modes: &[String], mode: usize) -> Option<&str>
     ensures { option_map (λ m. m.now) result ≡ mode_named_of (map string_bytes modes.now) mode }
 {
     if modes.len() > 1 {

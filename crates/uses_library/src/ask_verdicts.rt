@@ -1,6 +1,6 @@
 //! What a list of patterns says.
 
-ghost use Rattle.std.specs.Prelude.{◌≡◌, ◌≢◌, ◌≤◌, ℕ, [], List, length, string_bytes, slice_get, Ok, true, IsTrue, ◌<◌, IfOk, IfErr, IfSome};
+ghost use Rattle.std.specs.Prelude.{◌≡◌, ◌≢◌, ◌≤◌, ℕ, [], List, length, string_bytes, slice_get, None, Ok, true, IsTrue, ◌<◌, IfOk, IfErr, IfSome};
 ghost use Rattle.lalrpop_hir.specs.Language.{Matches};
 ghost use Rattle.lalrpop_hir.specs.Report.{IsFaultOf};
 ghost use Rattle.lalrpop_hir.specs.Tree.{Tree};
@@ -169,9 +169,9 @@ pub fn smaller(alloc: Global, dfa: &Dfa) -> Result<Dfa, AllocError>
 ///
 /// `AllocError` if a request for memory was refused.
 pub fn unnamed_picture(alloc: Global, dfa: &Dfa) -> Result<String, AllocError>
-    ensures text { IfOk result (λ text. string_bytes text ≡ dot [] dfa.now) }
+    ensures text { IfOk result (λ text. string_bytes text ≡ dot None [] dfa.now) }
 {
-    dot(alloc, dfa, &[])
+    dot(alloc, None, dfa, &[])
 }
 
 // Needs lalrpop_verdicts::beside: never_lost.

@@ -1,12 +1,12 @@
 -- Cases of specs/Picture.antt.
 use Rattle.std.proofs.Common.{◌≡◌, ◌≢◌, ℕ, true, false, List, [], ◌∷◌, ◌++◌, length, get_or, replicate, codes, refl, ap, arith}
-use Rattle.std.specs.Prelude.{encode_utf8}
+use Rattle.std.specs.Prelude.{None, Some, encode_utf8}
 use Rattle.std.specs.Fmt.{digits}
 use Rattle.std.specs.Str.{chars}
 use Rattle.lalrpop_hir.specs.Range.{Range}
 use Rattle.lalrpop_dfa.specs.Dfa.{Row}
 use Rattle.lalrpop_dfa.specs.declared.Kind.TheVariants.{Accepts, Reject, Neither}
-use Rattle.lalrpop_verdicts.specs.Picture.{accepting_line, as_itself, code_text, distinct, dot, edge_line, is_coded, label, name_character, name_text, range_text, row_edges, shortened, state_line, value_text}
+use Rattle.lalrpop_verdicts.specs.Picture.{accepting_line, as_itself, code_text, distinct, dot, edge_line, is_coded, label, name_character, name_text, range_text, row_edges, shortened, state_line, title_line, value_text}
 
 -- ---- characters
 
@@ -113,12 +113,17 @@ abbrev rejecting : Row
 rejecting = record { kind = Reject; tests = (range 97 97, 1) ∷ []; other = 0; items = [] }
 
 -- no edge leads to a state that rejects, nor from one
-picture : dot (codes "word" ∷ []) (starting ∷ accepting ∷ rejecting ∷ [])
+picture : dot (Some (codes "a\"")) (codes "word" ∷ []) (starting ∷ accepting ∷ rejecting ∷ [])
     ≡ codes "digraph {\n  rankdir=LR;\n  node [shape=circle];\n  nowhere [shape=none, label=\"\", width=0, height=0];\n  nowhere -> 0;\n"
-    ++ codes "  0;\n  1 [shape=doublecircle, label=\"1\\nword\"];\n"
+    ++ codes "  label=\"a\\\"\";\n  0;\n  1 [shape=doublecircle, label=\"1\\nword\"];\n"
     ++ codes "  0 -> 1 [label=\"a-z\"];\n  1 -> 0 [label=\"\\\"\"];\n  1 -> 1 [label=\"other\"];\n}\n"
-unfolding dot state_line accepting_line name_text name_character row_edges edge_line label shortened range_text value_text as_itself digits chars lib.Utf8.encode
+unfolding dot title_line state_line accepting_line name_text name_character row_edges edge_line label shortened range_text value_text as_itself digits chars lib.Utf8.encode
 picture = refl
+
+-- without a title there is no line for one, not an empty title
+no_title : title_line None ≡ []
+unfolding title_line
+no_title = refl
 
 pattern_without_a_name : name_text (codes "word" ∷ []) 7 ≡ codes "7"
 unfolding name_text digits

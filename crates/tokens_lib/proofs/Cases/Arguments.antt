@@ -21,8 +21,9 @@ after_end = (refl, refl, refl, refl)
 
 -- an option and its value are one word, also where the value looks like an option; after `--` words stay apart
 values : (joined (codes "--emit" ∷ codes "c" ∷ codes "r" ∷ []) ≡ codes "--emit=c" ∷ codes "r" ∷ []) × (joined (codes "r" ∷ codes "--prefix" ∷ codes "--" ∷ []) ≡ codes "r" ∷ codes "--prefix=--" ∷ [])
+    × (joined (codes "--color" ∷ codes "auto" ∷ codes "r" ∷ []) ≡ codes "--color=auto" ∷ codes "r" ∷ [])
     × (joined (codes "--" ∷ codes "--emit" ∷ codes "c" ∷ []) ≡ codes "--" ∷ codes "--emit" ∷ codes "c" ∷ [])
-values = (refl, refl, refl)
+values = (refl, refl, refl, refl)
 
 -- a value that is missing, and options without one
 no_values : (joined (codes "r" ∷ codes "--emit" ∷ []) ≡ codes "r" ∷ codes "--emit" ∷ []) × (joined (codes "--json" ∷ codes "r" ∷ []) ≡ codes "--json" ∷ codes "r" ∷ [])

@@ -25,6 +25,15 @@ quiet : (unknown (codes "--progress" ∷ codes "--quiet" ∷ []) ≡ None) × (g
     × (verbosity_of (codes "--progress" ∷ codes "--quiet" ∷ []) ≡ Quiet) × (verbosity_of (codes "--json" ∷ codes "--progress" ∷ []) ≡ Progress) × (verbosity_of [] ≡ Warnings)
 quiet = (refl, refl, refl, refl, refl)
 
+-- colours, by either word; never wins; at a terminal alone they aren't asked for here, nor beside an action
+colours : (given (codes "--ansi" ∷ codes "--quiet" ∷ []) ≡ options_of (Show Ansi)) × (given (codes "--color=auto" ∷ codes "--color=always" ∷ []) ≡ options_of (Show Ansi))
+    × (given (codes "--ansi" ∷ codes "--color=never" ∷ []) ≡ options_of (Cut Plain false)) × (given (codes "--color=auto" ∷ []) ≡ options_of (Cut Plain false))
+    × (given (codes "--color=always" ∷ codes "--json" ∷ []) ≡ options_of (Cut Json false))
+colours = (refl, refl, refl, refl, refl)
+
+unknown_colours : (unknown (codes "--ansi" ∷ codes "--color=auto" ∷ codes "--color=blue" ∷ []) ≡ Some (codes "--color=blue")) × (unknown (codes "--color" ∷ []) ≡ Some (codes "--color"))
+unknown_colours = (refl, refl)
+
 -- an option that there isn't
 no_such_option : unknown (codes "--json" ∷ codes "--lines" ∷ []) ≡ Some (codes "--lines")
 no_such_option = refl

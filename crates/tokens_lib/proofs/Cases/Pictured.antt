@@ -1,8 +1,9 @@
 -- Cases of specs/Pictured.antt.
-use Rattle.std.proofs.Common.{◌≡◌, ℕ, false, List, [], ◌∷◌, codes, refl, sym, ap, subst, ◌∙◌, inl, inr, arith}
+use Rattle.std.proofs.Common.{◌≡◌, ℕ, true, false, List, [], ◌∷◌, codes, refl, sym, ap, subst, ◌∙◌, inl, inr, arith}
 use Rattle.std.specs.Prelude.{Some, None, slice_get}
-use Rattle.std.specs.List.{AllZip}
+use Rattle.std.specs.List.{AllZip, range_with_len}
 use Rattle.std.proofs.lemmas.Option.{same_Some}
+use Rattle.bajofeki_rules.specs.declared.action.Action.TheVariants.{Mode, Push, Pop}
 use Rattle.lalrpop_hir.specs.Tree.{Tree}
 use Rattle.lalrpop_hir.specs.Winners.{Matched}
 use Rattle.lalrpop_dfa.specs.Dfa.{Row, after, IsRightKind}
@@ -13,11 +14,11 @@ use Rattle.lalrpop_rules.specs.Modes.{ModeRules, trees_in}
 use Rattle.lalrpop_verdicts.specs.Smallest.{IsSmallest}
 use Rattle.reports_lib.specs.Answer.{Answer, refusal}
 use Rattle.tokens_lib.specs.Command.{has}
-use Rattle.tokens_lib.specs.Pictured.{AreRulePictures, AreSmallest, IsDrawn, IsMissing, IsSmallestIn, IsSmallestOf, PictureAnswer, trees_named}
+use Rattle.tokens_lib.specs.Pictured.{ArePictures, IsDrawn, IsMissing, IsSmallestIn, IsSmallestOf, PictureAnswer, labels, rules_named}
 
 -- of two modes both are drawn
-first_alone : (r : ModeRules) (d : List Row) → ¬ AreSmallest r 2 (d ∷ [])
-first_alone r d are = let e : 1 ≡ 2 = are.0 in omega (arith, e)
+first_alone : (Is : ℕ → List ℕ → Type 0) (one : List ℕ) → ¬ AllZip Is (range_with_len 0 2) (one ∷ [])
+first_alone Is one (is, rest) = rest
 
 -- an automaton that isn't the smallest is none of them
 too_large : (r : ModeRules) (m : ℕ) (d : List Row) → (¬ IsSmallest d) → ¬ IsSmallestIn r m d
@@ -39,28 +40,46 @@ of_another_mode r m n d w some none here there =
 too_large_alone : (t : Tree) (d : List Row) → (¬ IsSmallest d) → ¬ IsSmallestOf t d
 too_large_alone t d large (recognizes, (smallest, canonical)) = large smallest
 
+-- three rules, two of which have one name
+abbrev rules : Tree → ModeRules
+rules t = record {
+  names = codes "A" ∷ codes "AB" ∷ codes "A" ∷ [];
+  trees = t ∷ t ∷ t ∷ [];
+  precedences = 0 ∷ 1 ∷ 0 ∷ [];
+  skips = false ∷ true ∷ false ∷ [];
+  actions = (Push 1 ∷ []) ∷ [] ∷ (Pop ∷ Mode 0 ∷ []) ∷ [];
+  members = (0 ∷ []) ∷ (0 ∷ []) ∷ (1 ∷ []) ∷ [];
+  kinds = 0 ∷ 1 ∷ 2 ∷ [];
+  modes = 2;
+  automata = [];
+}
+
 -- all rules of the name, in their order, and no others
-of_one_name : (t u v : Tree) → trees_named (codes "A") ((codes "A", t) ∷ (codes "AB", u) ∷ (codes "A", v) ∷ []) ≡ t ∷ v ∷ []
-of_one_name t u v = refl
+of_one_name : (t : Tree) → rules_named (rules t) (codes "A") ≡ 0 ∷ 2 ∷ []
+of_one_name t = refl
 
-first_rule_alone : (t u : Tree) (d : List Row) → ¬ AllZip IsSmallestOf (t ∷ u ∷ []) (d ∷ [])
-first_rule_alone t u d (one, rest) = rest
+first_rule_alone : (Is : ℕ → List ℕ → Type 0) (t : Tree) (one : List ℕ) → ¬ AllZip Is (rules_named (rules t) (codes "A")) (one ∷ [])
+first_rule_alone Is t one (is, rest) = rest
 
-none_drawn : (t : Tree) → AreRulePictures (codes "A") ((codes "B", t) ∷ []) []
-none_drawn t = ([], (tt, refl))
+none_drawn : (Is : ℕ → List ℕ → Type 0) (t : Tree) → ArePictures Is (rules_named (rules t) (codes "B")) []
+none_drawn Is t = ([], (tt, refl))
+
+-- what is done to the stack of modes, and that a token is skipped
+labelled : (t : Tree) → labels (rules t) (codes "INITIAL" ∷ codes "TEXT" ∷ []) ≡ codes "A push TEXT" ∷ codes "AB skip" ∷ codes "A pop mode INITIAL" ∷ []
+labelled t = refl
 
 -- a name that no rule has isn't drawn; without a name none is missing
-missing_or_drawn : (r : ModeRules) (name text : List ℕ) → IsMissing r (Some name) name → ¬ IsDrawn r (Some name) text
-missing_or_drawn r name text (given, absent) (there, are) = absurd (cc (absent, there))
+missing_or_drawn : (r : ModeRules) (modes : List (List ℕ)) (name text : List ℕ) → IsMissing r (Some name) name → ¬ IsDrawn r modes (Some name) text
+missing_or_drawn r modes name text (given, absent) (there, are) = absurd (cc (absent, there))
 
 none_missing : (r : ModeRules) (name : List ℕ) → ¬ IsMissing r None name
 none_missing r name (given, absent) = absurd (cc (given))
 
-refused : (r : ModeRules) → has r.names (codes "B") ≡ false
-    → PictureAnswer (codes "one") (Some (codes "B")) r (refusal 4 (codes "tokens: one: no rule has the name \"B\"; leave it out to draw each mode\n"))
-refused r absent = inr (codes "B", ((refl, absent), refl))
+refused : (r : ModeRules) (modes : List (List ℕ)) → has r.names (codes "B") ≡ false
+    → PictureAnswer (codes "one") (Some (codes "B")) r modes (refusal 4 (codes "tokens: one: no rule has the name \"B\"; leave it out to draw each mode\n"))
+refused r modes absent = inr (codes "B", ((refl, absent), refl))
 
 -- nothing else is refused
-no_status_2 : (file : List ℕ) (r : ModeRules) (said : List ℕ) → ¬ PictureAnswer file None r (refusal 2 said)
-no_status_2 file r said (inl (text, (are, e))) = let s : 2 ≡ 0 = ap (λ (a : Answer). a.status) e in omega (arith, s)
-no_status_2 file r said (inr (name, (is, e))) = let s : 2 ≡ 4 = ap (λ (a : Answer). a.status) e in omega (arith, s)
+no_status_2 : (file : List ℕ) (r : ModeRules) (modes : List (List ℕ)) (said : List ℕ) → ¬ PictureAnswer file None r modes (refusal 2 said)
+no_status_2 file r modes said (inl (text, (are, e))) = let s : 2 ≡ 0 = ap (λ (a : Answer). a.status) e in omega (arith, s)
+no_status_2 file r modes said (inr (name, (is, e))) = let s : 2 ≡ 4 = ap (λ (a : Answer). a.status) e in omega (arith, s)

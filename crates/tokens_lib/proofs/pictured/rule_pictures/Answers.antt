@@ -1,36 +1,48 @@
-use Rattle.std.proofs.Common.{List, ℕ, [], ◌∷◌, ◌++◌, map, string_bytes, length, take, sym, ap, subst, rules, ◌∙◌}
-use Rattle.std.specs.List.{zip}
-use Rattle.std.proofs.lemmas.Slice.Zip.{zip_turn, zip_end}
-use Rattle.tokens_lib.specs.Pictured.{AreRulePictures}
-use Rattle.tokens_lib.proofs.Pictures.{rule_pictures_more, rule_pictures_same, walked_all, walked_more}
+use Rattle.std.proofs.Common.{◌≡◌, ℕ, ◌+◌, List, [], ◌∷◌, ◌++◌, length, map, string_bytes, refl, sym, ap, subst, ◌∙◌, arith}
+use Rattle.std.specs.Prelude.{None, filter, slice_get}
+use Rattle.std.specs.List.{range_with_len}
+use Rattle.std.specs.Str.{bytes_eq}
+use Rattle.std.proofs.lemmas.Option.{slice_get_read}
+use Rattle.lalrpop_hir.specs.Tree.{Tree}
+use Rattle.lalrpop_verdicts.specs.Picture.{dot}
+use Rattle.reports_lib.specs.ItemLines.{name_at}
+use Rattle.tokens_lib.specs.Pictured.{ArePictures, IsRulePicture, label}
+use Rattle.tokens_lib.proofs.Pictures.{others_more, passing_more}
 use Rattle.tokens_lib.proofs.pictured.rule_pictures.Goals as goal
+use Rattle.tokens_lib.proofs.pictured.rule_pictures.Goals.{then-eq+in_ok-label+in_ok-one+in_ok-push_str, else-eq}
 
-pub loop-own-preserved-then-eq : goal.loop-own-preserved-then-eq
-loop-own-preserved-then-eq c =
-    let walk = c.loop-own in
-    let before = take (length walk.yielded) (zip (map string_bytes c.args.names.now) c.args.trees.now) in
-    let turn = zip_turn c.args.names.now c.args.trees.now walk.yielded c.into_iter-own-iterator.result walk.own-iterator c.next.new.self c.next.result (search rules) (search rules) walk.yielded_by
-    (c.in-Some.own, c.in-Some.tree) c.in-Some.is c.next.ensures.steps in
-    walked_more string_bytes c.args.name.now c.args.names.now c.args.trees.now walk.yielded (c.in-Some.own, c.in-Some.tree) c.in-Some.own.now c.in-Some.tree.now (string_bytes c.push_str.new.self)
-    turn.0 turn.1 (turn.2 c.in-Some.own.now) (turn.3 c.in-Some.tree.now)
-    (subst (AreRulePictures c.args.name.now (before ++ (string_bytes c.in-Some.own.now, c.in-Some.tree.now) ∷ []))
-    (sym (c.in_ok-push_str.ensures.bytes ∙ ap (λ (one : List ℕ). string_bytes walk.text ++ one) c.deref.ensures))
-    (rule_pictures_more c.args.name.now before (string_bytes c.in-Some.own.now, c.in-Some.tree.now) (string_bytes walk.text) (string_bytes c.in_ok-one.one)
-    (rw c.as_str.ensures.value at (sym c.eq.ensures ∙ c.if-eq.true)) walk.invariant c.in_ok-one.ensures))
-
-pub loop-own-preserved : goal.loop-own-preserved
-loop-own-preserved c =
-    let walk = c.loop-own in
-    let before = take (length walk.yielded) (zip (map string_bytes c.args.names.now) c.args.trees.now) in
-    let turn = zip_turn c.args.names.now c.args.trees.now walk.yielded c.into_iter-own-iterator.result walk.own-iterator c.next.new.self c.next.result (search rules) (search rules) walk.yielded_by
-    (c.in-Some.own, c.in-Some.tree) c.in-Some.is c.next.ensures.steps in
-    walked_more string_bytes c.args.name.now c.args.names.now c.args.trees.now walk.yielded (c.in-Some.own, c.in-Some.tree) c.in-Some.own.now c.in-Some.tree.now (string_bytes walk.text)
-    turn.0 turn.1 (turn.2 c.in-Some.own.now) (turn.3 c.in-Some.tree.now)
-    (rule_pictures_same c.args.name.now before (string_bytes c.in-Some.own.now, c.in-Some.tree.now) (string_bytes walk.text)
-    (rw c.as_str.ensures.value at (sym c.eq.ensures ∙ c.if-eq.false)) walk.invariant)
+pub loop-index-preserved : goal.loop-index-preserved
+loop-index-preserved c =
+    let r = c.args.rules.now.lexer in
+    let modes = map string_bytes c.args.rules.now.modes.items in
+    let name = c.args.name.now in
+    let i = c.loop-index.index in
+    let t = c.tree-item.result in
+    let trees = c.regexs-tree-items.result.now in
+    let is_named = λ (i : ℕ). bytes_eq (name_at r.names i) name in
+    let before = string_bytes c.loop-index.text in
+    let own : c.name_of.result.now ≡ name_at r.names i = c.name_of.ensures ∙ ap (name_at r.names) c.new-rule.ensures.value in
+    let at : slice_get r.trees i ≡ slice_get trees i = ap (λ (ts : List Tree). slice_get ts i) (sym c.regexs-tree-items.ensures.trees) in
+    elim c.if-eq.branch [
+      | then-eq+in_ok-label+in_ok-one+in_ok-push_str v ↦ let (least, (smallest, drawn)) = v.in_ok-one.ensures in
+          subst (λ (text : List ℕ). ArePictures (IsRulePicture r modes) (filter is_named (range_with_len 0 (i + 1))) text)
+          (sym (ap string_bytes v.text-is ∙ v.in_ok-push_str.ensures.bytes ∙ ap (λ (one : List ℕ). before ++ one) v.deref.ensures))
+          (passing_more (IsRulePicture r modes) is_named i before (string_bytes v.in_ok-one.one)
+          (ap (λ (w : List ℕ). bytes_eq w name) (sym own) ∙ sym c.eq.ensures ∙ v.if-eq.true) c.loop-index.invariant (
+            t,
+            (
+              at ∙ slice_get_read trees (length trees) i t refl c.loop-index-test.true c.tree-item.is,
+              (least, (smallest, drawn ∙ ap (λ (w : List ℕ). dot None (w ∷ []) least) (v.in_ok-label.ensures ∙ ap (label r modes) c.new-rule.ensures.value))),
+            ),
+          ))
+      | else-eq v ↦ subst (λ (text : List ℕ). ArePictures (IsRulePicture r modes) (filter is_named (range_with_len 0 (i + 1))) text) (sym (ap string_bytes v.text-is))
+          (others_more (IsRulePicture r modes) is_named i before (ap (λ (w : List ℕ). bytes_eq w name) (sym own) ∙ sym c.eq.ensures ∙ v.if-eq.false) c.loop-index.invariant)
+    ]
 
 pub returns : goal.returns
 returns c =
-    let walk = c.loop-own in
-    walked_all string_bytes c.args.name.now c.args.names.now c.args.trees.now (length walk.yielded) (string_bytes walk.text)
-    (zip_end c.args.names.now c.args.trees.now walk.yielded c.into_iter-own-iterator.result walk.own-iterator c.next.new.self c.next.result (search rules) (search rules) walk.yielded_by c.in-None.is c.next.ensures.steps) walk.invariant
+    let r = c.args.rules.now.lexer in
+    let trees = c.regexs-tree-items.result.now in
+    let end : c.loop-index.index ≡ length trees = omega (arith, c.loop-index-test.false, c.loop-index.auto.index-end) in
+    subst (λ (n : ℕ). ArePictures (IsRulePicture r (map string_bytes c.args.rules.now.modes.items)) (filter (λ (i : ℕ). bytes_eq (name_at r.names i) c.args.name.now) (range_with_len 0 n))
+    (string_bytes c.loop-index.text)) (end ∙ ap length c.regexs-tree-items.ensures.trees) c.loop-index.invariant

@@ -1,7 +1,7 @@
 use Rattle.std.proofs.Common.{◌≡◌, ◌++◌, map, take}
 use Rattle.std.specs.Prelude.{filter}
 use Rattle.tokens_lib.specs.Command.{is_prefix_option}
-use Rattle.tokens_lib.proofs.command.given.Given as goal
+use Rattle.tokens_lib.proofs.command.said.Given as goal
 
 abbrev pub invariant-loop-known : goal.invariant-loop-known
 invariant-loop-known l = map (λ w. w.now) l.found.items ≡ map (λ w. w.now) (take l.known-index l.known-items)
