@@ -56,7 +56,7 @@ holds_it l at x are =
 
 -- ---- equal pieces
 
-pub same_list : (xs : List Item) → AreSame xs xs
+same_list : (xs : List Item) → AreSame xs xs
 same_list [] = tt
 same_list (Token a ∷ xs) = ((refl, refl, refl), same_list xs)
 same_list (Skipped a ∷ xs) = ((refl, refl, refl), same_list xs)
@@ -109,7 +109,7 @@ same_are r text at s (x ∷ xs) (y ∷ ys) t same are = (
 pub all_within : (text : List ℕ) (at : ℕ) (ks : List Kept) → ((n : ℕ) → IsCharBoundary text (at + sizes (take n ks))) → at + sizes ks ≤ length text
 all_within text at ks each = omega (arith, (each (length ks)).0, ap sizes (take_all (length ks) ks (omega arith)))
 
-pub items_join : (skips : List Bool) (text : List ℕ) (at : ℕ) (ks ls : List Kept)
+items_join : (skips : List Bool) (text : List ℕ) (at : ℕ) (ks ls : List Kept)
     → items_from skips text at (ks ++ ls) ≡ items_from skips text at ks ++ items_from skips text (at + sizes ks) ls
 items_join skips text at [] ls = ap (λ (n : ℕ). items_from skips text n ls) (let e : at ≡ at + 0 = omega arith in e)
 items_join skips text at (k ∷ ks) ls =
@@ -118,9 +118,6 @@ items_join skips text at (k ∷ ks) ls =
     (let e : (at + k.size) + sizes ks ≡ at + (k.size + sizes ks) = omega arith in e)
 
 module _ (from to : ℕ) where
-  pub adds_nothing : (old xs : List Item) → holding from to xs ≡ [] → AddsHolding from to old old xs
-  adds_nothing old xs none = (xs, (same_list xs, sym (append-nil old) ∙ ap (λ (zs : List Item). old ++ zs) (sym none)))
-
   adds_more : (a b c xs ys : List Item) → AddsHolding from to a b xs → AddsHolding from to b c ys → AddsHolding from to a c (xs ++ ys)
   adds_more a b c xs ys first later = (
     first.0 ++ later.0,
@@ -159,7 +156,9 @@ module _ (from to : ℕ) where
     -- none where no byte of the range is
     pub adds_none : (old : List Item) (at : ℕ) (ks : List Kept) → at + sizes ks ≤ length text → min to (at + sizes ks) ≤ max from at
         → AddsHolding from to old old (items_from skips text at ks)
-    adds_none old at ks fits none = adds_nothing old (items_from skips text at ks) (none_hold at ks fits none)
+    adds_none old at ks fits none =
+        let xs = items_from skips text at ks in
+        (xs, (same_list xs, sym (append-nil old) ∙ ap (λ (zs : List Item). old ++ zs) (sym (none_hold at ks fits none))))
 
     -- those of some pieces, and then those of the pieces behind them
     pub adds_on : (a b c : List Item) (at : ℕ) (ks ls : List Kept) → AddsHolding from to a b (items_from skips text at ks)

@@ -1,4 +1,4 @@
-use Rattle.std.proofs.Common.{◌≤◌, ◌+◌, List, length, arith, ap, subst}
+use Rattle.std.proofs.Common.{◌≤◌, List, length, arith, ap, subst}
 use Rattle.std.specs.Prelude.{Option, Some, None, IfNone}
 use Rattle.lalrpop_edits.specs.declared.kept.Kept.{Kept}
 use Rattle.lalrpop_edits.specs.Internal.Blocks.{IsPieceAt, sizes}
