@@ -8,13 +8,14 @@
 #![tactic(auto)]
 
 use anyhow::{Context, Result, bail};
-use lalrpop_edits::{Change, Chunks, LexedText, Pieces};
+use lalrpop_edits::{Change, Chunks, LexedText};
 use lalrpop_lexer::Position;
 use lalrpop_lexer::lexer::re::unescape;
 use lalrpop_rules::{Item, RuleLexer};
 use std::alloc::Global;
 use std::io::{self, Print};
 use std::ops::Range;
+use std::vec::IntoIter;
 use std::{env, fs};
 
 // What is replaced, and by what.
@@ -59,7 +60,7 @@ fn name_of<'text>(lexer: &'text RuleLexer, piece: &Item<'_>) -> &'text str {
 }
 
 // Writes what changed, and the pieces that came.
-fn show(rt: &impl Print, text: &LexedText<'_>, change: &Change) -> Result<()> {
+fn show(rt: &impl Print, alloc: Global, text: &LexedText<'_>, change: &Change) -> Result<()> {
     let Change {
         removed,
         inserted,
@@ -69,14 +70,11 @@ fn show(rt: &impl Print, text: &LexedText<'_>, change: &Change) -> Result<()> {
         ..
     } = *change;
     println!(rt; "{start}..{old_end} -> {start}..{new_end}: {removed} out, {inserted} in")?;
-    let mut at = start;
-    while at < new_end
-        && let Some(piece) = text.piece_at(at)
-        && let Some(Position { line, column }) = text.position(at)
-    {
-        let name = name_of(text.lexer(), &piece);
-        println!(rt; "{line}:{column} {name} {:?}", piece.slice())?;
-        at = piece.start().saturating_add(piece.slice().len());
+    for piece in text.pieces(alloc, start..new_end)? {
+        if let Some(Position { line, column }) = text.position(piece.start()) {
+            let name = name_of(text.lexer(), &piece);
+            println!(rt; "{line}:{column} {name} {:?}", piece.slice())?;
+        }
     }
     Ok(())
 }
@@ -91,7 +89,7 @@ fn check_place(text: &LexedText<'_>, at: usize) -> Result<()> {
 
 // Cuts the text from nothing, and compares.
 fn check(alloc: Global, text: &LexedText<'_>) -> Result<()> {
-    let mut kept = text.pieces();
+    let mut kept = text.pieces(alloc, 0..text.text().len())?.into_iter();
     for item in text.lexer().items(alloc, text.text())? {
         let item = match item {
             Ok(item) => item,
@@ -109,7 +107,7 @@ fn check(alloc: Global, text: &LexedText<'_>) -> Result<()> {
 }
 
 // Compares the pieces that are given with the next ones of the text. There are `most` at most.
-fn compare(chunks: &mut Chunks<'_>, kept: &mut Pieces<'_>, most: usize) -> Result<()> {
+fn compare(chunks: &mut Chunks<'_>, kept: &mut IntoIter<Item<'_>>, most: usize) -> Result<()> {
     for _ in 0..most {
         let given = match chunks.next_piece() {
             Ok(Some(given)) => given,
@@ -127,7 +125,7 @@ fn compare(chunks: &mut Chunks<'_>, kept: &mut Pieces<'_>, most: usize) -> Resul
 // Cuts the text in chunks of one and two characters, and compares.
 fn check_chunks(alloc: Global, text: &LexedText<'_>) -> Result<()> {
     let mut chunks = Chunks::new(alloc, text.lexer());
-    let mut kept = text.pieces();
+    let mut kept = text.pieces(alloc, 0..text.text().len())?.into_iter();
     let mut chunk = String::new(alloc);
     let most = text.text().len().saturating_add(1);
     for (n, c) in text.text().chars().enumerate() {
@@ -169,7 +167,7 @@ fn main(rt: HostRuntime) -> Result<()> {
             check(alloc, &text)?;
             check_chunks(alloc, &text)?;
         }
-        show(&rt, &text, &change)?;
+        show(&rt, alloc, &text, &change)?;
     }
     Ok(())
 }

@@ -1,6 +1,6 @@
 -- The pieces of a text are those that are kept.
-use Rattle.std.proofs.Common.{◌≡◌, ℕ, zero, suc, ◌+◌, ◌≤◌, Bool, true, false, List, [], ◌∷◌, length, take, drop, refl, sym, ap, subst, ◌∙◌, arith, length-append}
-use Rattle.std.specs.Prelude.{Option, Some, None, slice_get, IsSomeAnd}
+use Rattle.std.proofs.Common.{◌≡◌, ℕ, suc, ◌+◌, ◌≤◌, Bool, true, false, List, [], ◌∷◌, length, take, drop, refl, sym, ap, subst, ◌∙◌, arith, length-append}
+use Rattle.std.specs.Prelude.{Option, Some, None, slice_get}
 use Rattle.std.proofs.lemmas.List.{take_at, drop_all, length-take-le}
 use Rattle.std.proofs.lemmas.Option.{same_Some}
 use Rattle.lalrpop_hir.specs.Tree.{Tree}
@@ -14,9 +14,8 @@ use Rattle.bajofeki_rules.specs.Stack.{Stack, start}
 use Rattle.lalrpop_rules.specs.Modes.{ModeRules, trees_in, after, ArePiecesFrom}
 use Rattle.lalrpop_rules.proofs.ModePieces.{pieces-from-unique}
 use Rattle.lalrpop_edits.specs.Internal.Kept.{rule_of, IsFront, IsKept, KeptUpTo, after_rule, after_kept}
-use Rattle.lalrpop_edits.specs.Lexed.{Lexed, ArePiecesOf, IsPieceNumber, HasPieces}
+use Rattle.lalrpop_edits.specs.Lexed.{Lexed, ArePiecesOf}
 use Rattle.lalrpop_edits.specs.declared.kept.Kept.{Kept}
-use Rattle.lalrpop_edits.specs.Internal.Blocks.{sizes}
 use Rattle.lalrpop_edits.specs.Internal.Items.{slice_with, token_or_skipped, item_with, item_at, items_from}
 
 -- ---- one piece
@@ -134,48 +133,12 @@ same_on (Fault at slice) (Fault at2 slice2) (Token c) e f = absurd f
 same_on (Fault at slice) (Fault at2 slice2) (Skipped c) e f = absurd f
 same_on (Fault at slice) (Fault at2 slice2) (Fault at3 slice3) e f = (e.0 ∙ f.0, e.1 ∙ f.1)
 
-same_number : (xs ys : List Item) (n : ℕ) (x y : Item) → AreSame xs ys → slice_get ys n ≡ Some y → IsSame x y → IsSomeAnd (slice_get xs n) (λ z. IsSame x z)
-same_number [] [] n x y are at e = absurd (cc)
-same_number [] (y2 ∷ ys) n x y are at e = absurd are
-same_number (x2 ∷ xs) [] n x y are at e = absurd are
-same_number (x2 ∷ xs) (y2 ∷ ys) zero x y are at e =
-    let here : IsSame x y2 = subst (λ (z : Item). IsSame x z) (sym (same_Some y2 y at)) e in
-    same_on x y2 x2 here (same_back x2 y2 are.0)
-same_number (x2 ∷ xs) (y2 ∷ ys) (suc n) x y are at e = same_number xs ys n x y are.1 at e
-
 pub same_length : (xs ys : List Item) → AreSame xs ys → length xs ≡ length ys
 same_length [] [] are = refl
 same_length [] (y ∷ ys) are = absurd are
 same_length (x ∷ xs) [] are = absurd are
 same_length (x ∷ xs) (y ∷ ys) are = ap suc (same_length xs ys are.1)
 
--- ---- the piece with a number
-
 pub items_length : (skips : List Bool) (text : List ℕ) (at : ℕ) (ks : List Kept) → length (items_from skips text at ks) ≡ length ks
 items_length skips text at [] = refl
 items_length skips text at (k ∷ ks) = ap suc (items_length skips text (at + k.size) ks)
-
-item_number : (skips : List Bool) (text : List ℕ) (at : ℕ) (ks : List Kept) (n : ℕ) (k : Kept) → slice_get ks n ≡ Some k
-    → slice_get (items_from skips text at ks) n ≡ Some (item_at skips text (at + sizes (take n ks)) k)
-item_number skips text at [] n k e = absurd (cc)
-item_number skips text at (k2 ∷ ks) zero k e =
-    ap (λ (j : Kept). Some (item_at skips text at j)) (same_Some k2 k e)
-    ∙ ap (λ (m : ℕ). Some (item_at skips text m k)) (let none : at ≡ at + 0 = omega arith in none)
-item_number skips text at (k2 ∷ ks) (suc n) k e =
-    item_number skips text (at + k2.size) ks n k e
-    ∙ ap (λ (m : ℕ). Some (item_at skips text m k)) (let sum : (at + k2.size) + sizes (take n ks) ≡ at + (k2.size + sizes (take n ks)) = omega arith in sum)
-
-module _ (l : Lexed) (ks : List Kept) (t : Stack) (are : KeptUpTo l.rules l.text 0 start ks (length l.text) t) where
-  -- a piece that is the one of which this is kept has its number
-  pub is_number : (n at : ℕ) (k : Kept) (x : Item) → slice_get ks n ≡ Some k → at ≡ sizes (take n ks) → IsSame x (item_at l.rules.skips l.text at k)
-      → IsPieceNumber l n x
-  is_number n at k x there place same xs pieces =
-      let number : slice_get (items_from l.rules.skips l.text 0 ks) n ≡ Some (item_at l.rules.skips l.text at k) =
-      item_number l.rules.skips l.text 0 ks n k there
-      ∙ ap (λ (m : ℕ). Some (item_at l.rules.skips l.text m k)) (let zero_more : 0 + sizes (take n ks) ≡ at = omega (arith, place) in zero_more) in
-      same_number xs (items_from l.rules.skips l.text 0 ks) n x (item_at l.rules.skips l.text at k) (same_items l ks t xs are pieces) number same
-
-  -- there are as many pieces as are kept
-  pub has_pieces : (n : ℕ) → n ≡ length ks → HasPieces l n
-  has_pieces n e xs pieces =
-      same_length xs (items_from l.rules.skips l.text 0 ks) (same_items l ks t xs are pieces) ∙ items_length l.rules.skips l.text 0 ks ∙ sym e

@@ -35,8 +35,9 @@ pub mod Items
 pub mod Changes
 pub mod Earliest
 pub mod Reaching
--- pieces that are handed out, block by block
-pub mod Handing
+-- pieces that hold a byte of a range, and how they are found in their blocks
+pub mod Holding
+pub mod Finding
 -- a stretch of a text is replaced, and put back
 pub mod Undoing
 -- a text that comes in chunks

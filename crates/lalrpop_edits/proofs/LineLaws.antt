@@ -18,9 +18,8 @@ use Rattle.lalrpop_edits.specs.declared.block.Block.{Block}
 use Rattle.lalrpop_edits.specs.declared.kept.Kept.{Kept}
 use Rattle.lalrpop_edits.specs.declared.lines.Mark.{Mark}
 use Rattle.lalrpop_edits.specs.Internal.Kept.{KeptUpTo}
-use Rattle.lalrpop_edits.specs.Internal.Blocks.{AreMarked, IsSpot, after_pieces, pieces_at, pieces_in, sizes}
+use Rattle.lalrpop_edits.specs.Internal.Blocks.{AreMarked, IsSpot, after_pieces, pieces_at, pieces_in, size_in, sizes}
 use Rattle.lalrpop_edits.specs.Internal.BlockPlaces.{AreCounted, AreSameAround, IsCounted, IsMark}
-use Rattle.lalrpop_edits.specs.Internal.Handing.{size_in}
 use Rattle.lalrpop_edits.proofs.Alike.{alike_behind, alike_less}
 use Rattle.lalrpop_edits.proofs.BlockLaws.{around, kept_sizes, marked_split, pieces_front, sizes_join, spot_behind, spot_front}
 use Rattle.lalrpop_edits.proofs.Fronts.{no_boundary}

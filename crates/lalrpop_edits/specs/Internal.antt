@@ -7,7 +7,6 @@ pub mod Meeting
 pub mod Starting
 pub mod Changing
 pub mod Items
-pub mod Handing
 pub mod Code
 pub mod Least
 pub mod ChunkCode

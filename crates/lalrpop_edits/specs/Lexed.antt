@@ -1,13 +1,13 @@
 -- cases: proofs/Cases/Lexed.antt
 -- A text with its pieces, and what an edit changes of it.
-use Rattle.std.specs.Prelude.{◌≡◌, ℕ, ◌+◌, ◌-◌, ◌≤◌, ◌⊎◌, List, [], ◌∷◌, ◌++◌, length, take, drop, Option, Some, None, slice_get, IsSomeAnd}
+use Rattle.std.specs.Prelude.{◌≡◌, ℕ, ◌+◌, ◌-◌, ◌≤◌, ◌⊎◌, Bool, nat_lt, max, min, List, [], ◌∷◌, ◌++◌, length, take, drop, filter, Some, slice_get}
 use Rattle.std.specs.Str.{chars, IsCharBoundary}
 use Rattle.lalrpop_hir.specs.Tree.{Tree}
 use Rattle.lalrpop_hir.specs.Winners.{Matched}
 use Rattle.bajofeki_rules.specs.declared.action.Action.{Action}
 use Rattle.bajofeki_rules.specs.Stack.{Stack, start}
 use Rattle.lalrpop_rules.specs.Modes.{ModeRules, ArePiecesFrom, after_all, trees_in}
-use Rattle.lalrpop_rules.specs.Pieces.{AreSame, IsSame, joined, slice_of}
+use Rattle.lalrpop_rules.specs.Pieces.{AreSame, joined, slice_of, start_of}
 use Rattle.lalrpop_rules.specs.declared.item.Item.{Item}
 use Rattle.lalrpop_rules.specs.declared.item.Item.TheVariants.{Token, Skipped, Fault}
 use Rattle.lalrpop_edits.specs.declared.change.Change.{Change}
@@ -98,20 +98,14 @@ abbrev pub FirstReaches : Lexed → ℕ → Change → Type 0
 FirstReaches old from c = (xs : List Item) → ArePiecesOf old xs → (x : Item) → slice_get xs c.first ≡ Some x
     → Reaches (trees_in old.rules (after_all old.rules.actions (take c.first xs) start).mode) old.text from x
 
--- the piece with this number, the first being 0
-abbrev pub IsPieceNumber : Lexed → ℕ → Item → Type 0
-IsPieceNumber l n x = (xs : List Item) → ArePiecesOf l xs → IsSomeAnd (slice_get xs n) (λ y. IsSame x y)
+-- whether the piece holds a byte of the text from `from` up to `to`: what begins later begins before either ends
+abbrev pub holds_byte : ℕ → ℕ → Item → Bool
+holds_byte from to x = nat_lt (max from (start_of x)) (min to (start_of x + length (slice_of x)))
 
--- this is the number of pieces
-abbrev pub HasPieces : Lexed → ℕ → Type 0
-HasPieces l n = (xs : List Item) → ArePiecesOf l xs → length xs ≡ n
+-- those that do
+abbrev pub holding : ℕ → ℕ → List Item → List Item
+holding from to xs = filter (holds_byte from to) xs
 
--- pieces that are handed out one after another: how many so far
-pub record Handed : Type 0 where
-  pub lexed : Lexed
-  pub count : ℕ
-
--- one call hands out the next piece, or nothing, and nothing changes, once all are
-abbrev pub HandsOut : Handed → Option Item → Handed → Type 0
-HandsOut old None new = (new ≡ old) × HasPieces old.lexed old.count
-HandsOut old (Some x) new = (new ≡ record old { count = old.count + 1 }) × IsPieceNumber old.lexed old.count x
+-- these are the pieces of the text that hold such a byte, each whole: what is left of all its pieces without the others
+abbrev pub ArePiecesIn : Lexed → ℕ → ℕ → List Item → Type 0
+ArePiecesIn l from to ys = (xs : List Item) × (ArePiecesOf l xs × (ys ≡ holding from to xs))

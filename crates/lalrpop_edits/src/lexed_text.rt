@@ -1,29 +1,26 @@
 //! A text with its pieces, which is edited.
 
-ghost use Rattle.std.specs.Prelude.{◌≡◌, ◌≢◌, ◌<◌, ◌≤◌, ◌+◌, ◌↔◌, ℕ, List, [], length, string_bytes, string_len, string_capacity, IfOk, OnOk, IfErr, OnErr, IfSome, IfNone, IsSome, IsTrue};
+ghost use Rattle.std.specs.Prelude.{◌≡◌, ◌≢◌, ◌<◌, ◌≤◌, ◌+◌, ◌↔◌, ℕ, List, [], ◌∷◌, length, string_bytes, string_len, string_capacity, IfOk, OnOk, IfErr, OnErr, IfSome, IfNone, IsSome, IsTrue};
 ghost use Rattle.std.specs.List.{replace_range};
 ghost use Rattle.std.specs.Str.{IsCharBoundary};
 ghost use Rattle.bajofeki_rules.specs.Position.{position_of};
-ghost use Rattle.lalrpop_rules.specs.Pieces.{slice_of, start_of};
 ghost use Rattle.lalrpop_rules.specs.declared.item.Item.{Item as ItemValue};
-ghost use Rattle.lalrpop_edits.specs.Lexed.{ArePiecesOf, FirstReaches, IsRange, IsChange, IsEarliest, IsEditError, IsPieceNumber, replaced};
+ghost use Rattle.lalrpop_edits.specs.Lexed.{ArePiecesIn, ArePiecesOf, FirstReaches, IsRange, IsChange, IsEarliest, IsEditError, replaced};
 ghost use Rattle.lalrpop_edits.specs.Costs.{IsPaidFor};
 ghost use Rattle.lalrpop_edits.specs.Internal.BlockPlaces.{AreCounted};
-ghost use Rattle.lalrpop_edits.specs.Internal.Blocks.{sizes};
+ghost use Rattle.lalrpop_edits.specs.Internal.Blocks.{AreBlocksOf};
 ghost use Rattle.lalrpop_edits.specs.Internal.Cutting.{IsCutError};
-ghost use Rattle.lalrpop_edits.specs.Internal.Handing.{AreBlocksOf, IsBlockAt, IsPieceAt, size_in};
 
 use crate::block::Block;
 use crate::change::Change;
 use crate::edit::cut_anew;
 use crate::error::EditError;
-use crate::kept::Kept;
 use crate::lines::{offset_in, position_in};
-use crate::pieces::{Pieces, item_of};
+use crate::pieces::{piece_holding, pieces_holding};
 use lalrpop_lexer::Position;
 use lalrpop_nfa::Steps;
 use lalrpop_rules::{Item, RuleLexer};
-use std::alloc::Global;
+use std::alloc::{AllocError, Global};
 use std::fmt;
 use std::marker::Model;
 use std::ops::Range;
@@ -107,38 +104,6 @@ fn edit_parts(
     }
 }
 
-// The block that holds the byte, and where it begins.
-fn find_block(blocks: &[Block], at: usize) -> Option<(&Block, usize)>
-    ensures found { IfSome result (λ f. IsBlockAt blocks.now f.0.now f.1 at) }
-    ensures none { IfNone result (size_in blocks.now ≤ at) }
-{
-    let mut begins = 0;
-    for block in blocks {
-        if at - begins < block.size {
-            return Some((block, begins));
-        }
-        begins += block.size;
-    }
-    None
-}
-
-// What is kept of the piece that holds the byte, and where it begins. The first one begins at `start`, not behind the byte.
-fn find_piece(pieces: &[Kept], start: usize, at: usize) -> Option<(Kept, usize)>
-    requires order { start ≤ at }
-    ensures found { IfSome result (λ f. IsPieceAt pieces.now start f.0 f.1 at) }
-    ensures none { IfNone result (start + sizes pieces.now ≤ at) }
-{
-    let mut begins = start;
-    for piece in pieces {
-        let size = piece.size as usize;
-        if at - begins < size {
-            return Some((*piece, begins));
-        }
-        begins += size;
-    }
-    None
-}
-
 /// A text with its pieces by rules with modes, which stay those of the text whatever is edited. Beside the text it keeps 12 bytes
 /// for each piece.
 ///
@@ -166,7 +131,7 @@ impl<'rules> Model for LexedText<'rules> {
     ghost use Rattle.lalrpop_edits.specs.Lexed.{Lexed};
     ghost use Rattle.lalrpop_edits.specs.Internal.Code.{lexed_code};
     ghost use Rattle.lalrpop_edits.specs.Internal.BlockPlaces.{AreCounted};
-    ghost use Rattle.lalrpop_edits.specs.Internal.Handing.{AreBlocksOf};
+    ghost use Rattle.lalrpop_edits.specs.Internal.Blocks.{AreBlocksOf};
 
     ghost Value = { Lexed };
 
@@ -282,12 +247,23 @@ impl<'rules> LexedText<'rules> {
         )
     }
 
-    /// The pieces of the text, from its beginning on.
-    pub fn pieces(&self) -> Pieces<'_>
-        ensures start { result ≡ record { lexed = self.now; count = 0 } }
+    /// The pieces that hold a byte of the range, in order; one that the range cuts is given whole. Of an empty range, and behind the
+    /// text, there are none; all of them hold a byte of `0..text.text().len()`. What it takes is a sum over the blocks, as for
+    /// `position`, and a walk along those with a byte of the range.
+    ///
+    /// ```
+    /// let visible = text.pieces(alloc, 0..80)?;
+    /// ```
+    ///
+    /// # Errors
+    ///
+    /// `AllocError` if a request for memory was refused.
+    pub fn pieces(&self, alloc: Global, range: Range<usize>) -> Result<Vec<Item<'_>>, AllocError>
+        ensures pieces { IfOk result
+            (λ pieces. ArePiecesIn self.now range.start range.end pieces.items) }
         ensures exist { (xs : List ItemValue) × ArePiecesOf self.now xs }
     {
-        Pieces::new(self.lexer, &self.text, &self.blocks)
+        pieces_holding(alloc, self.lexer, &self.text, &self.blocks, &range)
     }
 
     /// The line and column of a byte offset. `None` if the offset is past the end or inside a character. What it takes is a sum over
@@ -316,13 +292,10 @@ impl<'rules> LexedText<'rules> {
 
     /// The piece that holds the byte at the place, or `None` at the end of the text and past it.
     pub fn piece_at(&self, at: usize) -> Option<Item<'_>>
-        ensures piece { IfSome result (λ x. ((n : ℕ) × IsPieceNumber self.now n x)
-            × (start_of x ≤ at) × (at < start_of x + length (slice_of x))) }
+        ensures piece { IfSome result (λ x. ArePiecesIn self.now at (at + 1) (x ∷ [])) }
         ensures none { IfNone result (length self.now.text ≤ at) }
     {
-        let (block, start) = find_block(&self.blocks, at)?;
-        let (piece, start) = find_piece(&block.pieces, start, at)?;
-        Some(item_of(self.lexer, &self.text, start, &piece))
+        piece_holding(self.lexer, &self.text, &self.blocks, at)
     }
 }
 

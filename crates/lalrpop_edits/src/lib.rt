@@ -28,5 +28,4 @@ pub use decoder::TextDecoder;
 pub use error::EditError;
 pub use given_piece::GivenPiece;
 pub use lexed_text::LexedText;
-pub use pieces::Pieces;
 pub use settled_token::SettledToken;

@@ -5,7 +5,7 @@ ghost use Rattle.std.specs.Str.{IsCharBoundary};
 ghost use Rattle.bajofeki_rules.specs.Position.{IsBefore, position_of};
 ghost use Rattle.lalrpop_edits.specs.declared.block.Block.{Block as BlockValue};
 ghost use Rattle.lalrpop_edits.specs.Internal.BlockPlaces.{AreCounted, IsCounted, IsMark, ReachesPlace};
-ghost use Rattle.lalrpop_edits.specs.Internal.Handing.{IsBlockAt, size_in};
+ghost use Rattle.lalrpop_edits.specs.Internal.Blocks.{IsBlockAt, size_in};
 
 use crate::block::Block;
 use lalrpop_lexer::Position;

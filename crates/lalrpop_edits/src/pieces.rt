@@ -1,21 +1,19 @@
-//! The pieces of a text, one after another.
+//! The pieces of a text that hold a byte, or a byte of a range.
 
-ghost use Rattle.std.specs.Prelude.{◌≡◌, ◌<◌, ◌+◌, ◌-◌, ◌^◌, length, IfSome, IfNone, OnSome};
+ghost use Rattle.std.specs.Prelude.{◌≡◌, ℕ, ◌+◌, ◌≤◌, [], ◌∷◌, length, take, IfSome, IfNone, IfOk, OnOk};
 ghost use Rattle.std.specs.Str.{IsCharBoundary};
 ghost use Rattle.lalrpop_rules.specs.Pieces.{IsSame};
-ghost use Rattle.lalrpop_edits.specs.Lexed.{HandsOut};
-ghost use Rattle.lalrpop_edits.specs.Internal.Blocks.{pieces_in};
-ghost use Rattle.lalrpop_edits.specs.Internal.Handing.{AreBlocksOf, IsInFront, IsKeptAt, count_before};
-ghost use Rattle.lalrpop_edits.specs.Internal.Items.{item_at};
+ghost use Rattle.lalrpop_edits.specs.Lexed.{ArePiecesIn};
+ghost use Rattle.lalrpop_edits.specs.Internal.Blocks.{AreBlocksOf, IsBlockAt, IsPieceAt, size_in, sizes};
+ghost use Rattle.lalrpop_edits.specs.Internal.Items.{AddsHolding, item_at, items_from};
 
 use crate::block::Block;
 use crate::kept::{FAULT, Kept};
 use lalrpop_lexer::Token;
 use lalrpop_lexer::lexer::dfa::NfaIndex;
 use lalrpop_rules::{Item, RuleLexer};
-use std::fmt;
-use std::iter::FusedIterator;
-use std::marker::Model;
+use std::alloc::{AllocError, Global};
+use std::ops::Range;
 
 // The piece of the text at this place of which this is kept.
 pub(crate) fn item_of<'text>(
@@ -45,135 +43,122 @@ pub(crate) fn item_of<'text>(
     Item::Token(token)
 }
 
-// A piece of a block: the number of the block, its own number there, and what is kept of it.
-#[derive(Clone, Copy)]
-struct Found {
-    block: usize,
-    piece: usize,
-    kept: Kept,
-}
-
-// The piece at this place. At the end of a block it's the first one of a later block.
-fn piece_from(blocks: &[Block], block: usize, piece: usize) -> Option<Found>
-    requires front { IsInFront blocks.now block piece }
-    ensures found { IfSome result (λ f.
-        IsKeptAt blocks.now f.block f.piece (count_before blocks.now block piece) f.kept) }
-    ensures fits { IfSome result (λ f. f.piece + 1 < 2 ^ 64) }
-    ensures none { IfNone result
-        (count_before blocks.now block piece ≡ length (pieces_in blocks.now)) }
+// The block that holds the byte, and where it begins.
+fn find_block(blocks: &[Block], at: usize) -> Option<(&Block, usize)>
+    ensures found { IfSome result (λ f. IsBlockAt blocks.now f.0.now f.1 at) }
+    ensures none { IfNone result (size_in blocks.now ≤ at) }
 {
-    let mut current = block;
-    let mut number = piece;
-    'blocks: while current < blocks.len() {
-        let pieces = blocks[current].pieces.as_slice();
-        if number < pieces.len() {
-            return Some(Found {
-                block: current,
-                piece: number,
-                kept: pieces[number],
-            });
+    let mut begins = 0;
+    for block in blocks {
+        if at - begins < block.size {
+            return Some((block, begins));
         }
-        current += 1;
-        number = 0;
+        begins += block.size;
     }
     None
 }
 
-/// The pieces of a text, one after another, from its beginning on.
-///
-/// ```
-/// for piece in text.pieces() {
-///     println!(rt; "{:?}", piece.slice())?;
-/// }
-/// ```
-#[derive(Drop)]
-pub struct Pieces<'text> {
-    lexer: &'text RuleLexer,
+// What is kept of the piece that holds the byte, and where it begins. The first one begins at `start`, not behind the byte.
+fn find_piece(pieces: &[Kept], start: usize, at: usize) -> Option<(Kept, usize)>
+    requires order { start ≤ at }
+    ensures found { IfSome result (λ f. IsPieceAt pieces.now start f.0 f.1 at) }
+    ensures none { IfNone result (start + sizes pieces.now ≤ at) }
+{
+    let mut begins = start;
+    for piece in pieces {
+        let size = piece.size as usize;
+        if at - begins < size {
+            return Some((*piece, begins));
+        }
+        begins += size;
+    }
+    None
+}
+
+/// The piece of the text that holds the byte, if these are its blocks.
+pub(crate) fn piece_holding<'text>(
+    lexer: &RuleLexer,
     text: &'text str,
-    blocks: &'text [Block],
-    // The next piece is this one of this block, and begins at this byte. At the end of a block it's the first one of a later block.
-    block: usize,
-    piece: usize,
+    blocks: &[Block],
     at: usize,
+) -> Option<Item<'text>>
+    requires blocks { AreBlocksOf lexer.now text.now blocks.now }
+    ensures piece { IfSome result (λ x.
+        ArePiecesIn (record { rules = lexer.now; text = text.now }) at (at + 1) (x ∷ [])) }
+    ensures none { IfNone result (length text.now ≤ at) }
+{
+    let (block, start) = find_block(blocks, at)?;
+    let (piece, start) = find_piece(&block.pieces, start, at)?;
+    Some(item_of(lexer, text, start, &piece))
 }
 
-impl<'text> Model for Pieces<'text> {
-    ghost use Rattle.lalrpop_edits.specs.Lexed.{Handed};
-    ghost use Rattle.lalrpop_edits.specs.Internal.Code.{handed_code};
-    ghost use Rattle.lalrpop_edits.specs.Internal.Handing.{IsHanding, count_before};
-
-    ghost Value = { Handed };
-
-    ghost coded = { handed_code };
-
-    ghost view = { λ p. record {
-      lexed = record { rules = p.lexer.now; text = p.text.now };
-      count = count_before p.blocks.now p.block p.piece;
-    } };
-
-    ghost invariant = { λ p. IsHanding p.lexer.now p.text.now p.blocks.now p.block p.piece p.at };
+// Adds the piece of the text at this place of which this is kept, if it holds a byte of the range.
+fn push_holding<'text>(
+    lexer: &RuleLexer,
+    text: &'text str,
+    at: usize,
+    piece: &Kept,
+    range: &Range<usize>,
+    items: &mut Vec<Item<'text>>,
+) -> Result<(), AllocError>
+    requires begins { IsCharBoundary text.now at }
+    requires ends { IsCharBoundary text.now (at + piece.now.size) }
+    ensures items { OnOk result (AddsHolding range.now.start range.now.end
+        items.old.items items.new.items (item_at lexer.now.skips text.now at piece.now ∷ [])) }
+{
+    if range.start.max(at) >= range.end.min(at + piece.size as usize) {
+        return Ok(());
+    }
+    if items.push(item_of(lexer, text, at, piece)).is_err() {
+        return Err(AllocError);
+    }
+    Ok(())
 }
 
-impl<'text> Pieces<'text> {
-    // All pieces of the text, whose blocks these are.
-    pub(crate) fn new(
-        lexer: &'text RuleLexer,
-        text: &'text str,
-        blocks: &'text [Block],
-    ) -> Pieces<'text>
-        requires blocks { AreBlocksOf lexer.now text.now blocks.now }
-        ensures start { result
-            ≡ record { lexed = record { rules = lexer.now; text = text.now }; count = 0 } }
-    {
-        Pieces {
-            lexer,
-            text,
-            blocks,
-            block: 0,
-            piece: 0,
-            at: 0,
-        }
+// Adds the pieces of the block that hold a byte of the range. The block begins at this place.
+fn push_all_holding<'text>(
+    lexer: &RuleLexer,
+    text: &'text str,
+    at: usize,
+    block: &Block,
+    range: &Range<usize>,
+    items: &mut Vec<Item<'text>>,
+) -> Result<(), AllocError>
+    requires size { block.now.size ≡ sizes block.now.pieces.items }
+    requires boundaries { (n : ℕ)
+        → IsCharBoundary text.now (at + sizes (take n block.now.pieces.items)) }
+    ensures items { OnOk result (AddsHolding range.now.start range.now.end items.old.items
+        items.new.items (items_from lexer.now.skips text.now at block.now.pieces.items)) }
+{
+    // In a block that holds none of those bytes no piece is looked at.
+    if range.start.max(at) >= range.end.min(at + block.size) {
+        return Ok(());
     }
-
-    // What `next` returns.
-    fn next_piece(&mut self) -> Option<Item<'text>>
-        ensures gives { HandsOut self.old result self.new }
-        ensures goes { OnSome result (length self.new.lexed.text - self.new.count
-            < length self.old.lexed.text - self.old.count) }
-    {
-        match piece_from(self.blocks, self.block, self.piece) {
-            None => None,
-            Some(found) => {
-                let item = item_of(self.lexer, self.text, self.at, &found.kept);
-                self.block = found.block;
-                self.piece = found.piece + 1;
-                self.at += found.kept.size as usize;
-                Some(item)
-            }
-        }
+    let mut begins = at;
+    for piece in &block.pieces {
+        push_holding(lexer, text, begins, piece, range, items)?;
+        begins += piece.size as usize;
     }
+    Ok(())
 }
 
-impl<'text> Iterator for Pieces<'text> {
-    ghost use Rattle.std.specs.Prelude.{◌-◌, length};
-    ghost use Rattle.std.specs.Iterator.{at_most};
-    ghost use Rattle.lalrpop_edits.specs.Lexed.{HandsOut};
-
-    type Item = Item<'text>;
-
-    ghost next_gives = { HandsOut };
-
-    ghost remaining = { λ s. at_most (length s.lexed.text - s.count) };
-
-    fn next(&mut self) -> Option<Item<'text>> {
-        self.next_piece()
+/// The pieces of the text that hold a byte of the range, if these are its blocks.
+pub(crate) fn pieces_holding<'text>(
+    alloc: Global,
+    lexer: &RuleLexer,
+    text: &'text str,
+    blocks: &[Block],
+    range: &Range<usize>,
+) -> Result<Vec<Item<'text>>, AllocError>
+    requires blocks { AreBlocksOf lexer.now text.now blocks.now }
+    ensures pieces { IfOk result (λ v. ArePiecesIn
+        (record { rules = lexer.now; text = text.now }) range.now.start range.now.end v.items) }
+{
+    let mut items = Vec::new(alloc);
+    let mut begins = 0;
+    for block in blocks {
+        push_all_holding(lexer, text, begins, block, range, &mut items)?;
+        begins += block.size;
     }
-}
-
-impl<'text> FusedIterator for Pieces<'text> {}
-
-impl<'text> fmt::Debug for Pieces<'text> {
-    fn fmt<W: fmt::Write>(&self, f: &mut fmt::Formatter<W>) -> fmt::Result {
-        write!(f, "Pieces(at byte {})", self.at)
-    }
+    Ok(items)
 }

@@ -16,7 +16,7 @@ pub(crate) fn lexer_of(alloc: Global, lines: &str) -> Result<RuleLexer, AllocErr
 
 fn slices(alloc: Global, lexed: &LexedText<'_>) -> Result<String, AllocError> {
     let mut line = String::new(alloc);
-    for piece in lexed.pieces() {
+    for piece in lexed.pieces(alloc, 0..lexed.text().len())? {
         add(&mut line, " ", piece.slice())?;
     }
     Ok(line)

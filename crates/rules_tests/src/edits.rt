@@ -1,6 +1,6 @@
 //! What an edit changes of the pieces of a text, and a text that comes as bytes, in chunks.
 
-use crate::rules::{expect, given, plain};
+use crate::rules::{expect, given, plain, shown};
 use lalrpop_edits::{LexedText, TextDecoder};
 use lalrpop_rules::{Action, ModeRule, Rule, RuleLexer};
 use std::alloc::{AllocError, Global};
@@ -71,6 +71,35 @@ const CHANGES: [(&str, usize, usize, &str, &str); 4] = [
 fn edits_change_what_depends_on_them(rt: HostRuntime) {
     for (text, start, end, new, wanted) in CHANGES {
         expect(&rt, changed(rt.alloc(), text, start, end, new), wanted);
+    }
+}
+
+// The pieces of the text with a byte of the range.
+fn between(alloc: Global, text: &str, start: usize, end: usize) -> Result<String, AllocError> {
+    let lexer = words_and_comments(alloc)?;
+    let Ok(lexed) = LexedText::new(alloc, &lexer, text) else {
+        return Err(AllocError);
+    };
+    let mut line = String::new(alloc);
+    for piece in lexed.pieces(alloc, start..end)? {
+        line.push_str(&shown(alloc, &lexer, &piece)?)?;
+    }
+    Ok(line)
+}
+
+// A range may cut pieces, and characters, and go on past the text.
+const BETWEEN: [(usize, usize, &str); 5] = [
+    (1, 4, "WORD \"ab\" 0, (SPACE \" \" 2), WORD \"cä\" 3, "),
+    (5, 9, "WORD \"cä\" 3, ! \">\" 6, "),
+    (2, 3, "(SPACE \" \" 2), "),
+    (3, 3, ""),
+    (7, 9, ""),
+];
+
+#[test]
+fn pieces_of_a_range_are_given_whole(rt: HostRuntime) {
+    for (start, end, wanted) in BETWEEN {
+        expect(&rt, between(rt.alloc(), "ab cä>", start, end), wanted);
     }
 }
 

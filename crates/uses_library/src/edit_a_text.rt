@@ -1,7 +1,7 @@
 //! A text is edited, and its pieces with it.
-ghost use Rattle.std.specs.Prelude.{◌≡◌, ◌≤◌, ◌<◌, ◌+◌, ◌++◌, ◌⊎◌, ℕ, List, length, take, drop, slice_get, Some, true, IfOk, OnOk, IfErr, IfSome, IfNone};
+ghost use Rattle.std.specs.Prelude.{◌≡◌, ◌≤◌, ◌<◌, ◌+◌, ◌++◌, ◌⊎◌, ℕ, List, length, count_by, take, drop, slice_get, Some, true, IfOk, OnOk, IfErr, IfSome, IfNone};
 ghost use Rattle.std.specs.Str.{IsCharBoundary};
-ghost use Rattle.lalrpop_edits.specs.Lexed.{ArePiecesOf, HasPieces, MeetAt, ReadsTo, replaced};
+ghost use Rattle.lalrpop_edits.specs.Lexed.{ArePiecesOf, MeetAt, ReadsTo, holds_byte, replaced};
 ghost use Rattle.lalrpop_rules.specs.Modes.{trees_in};
 ghost use Rattle.lalrpop_rules.specs.Pieces.{AreSame, slice_of, start_of};
 ghost use Rattle.lalrpop_rules.specs.declared.item.Item.{Item as ItemValue};
@@ -190,18 +190,25 @@ pub fn length_at(lexed: &LexedText<'_>, at: usize) -> usize
     }
 }
 
-// Needs lalrpop_edits::LexedText::pieces: start.
-// Needs lalrpop_edits::Pieces::next: ghost next_gives.
-/// Whether a text is one piece.
-pub fn is_one_piece(lexed: &LexedText<'_>) -> bool
-    ensures one { result ≡ true → HasPieces lexed.now 1 }
+// Needs lalrpop_edits::LexedText::pieces: pieces.
+/// How many pieces hold a byte of the range.
+///
+/// # Errors
+///
+/// `AllocError` if a request for memory was refused.
+pub fn count_between(
+    alloc: Global,
+    lexed: &LexedText<'_>,
+    range: Range<usize>,
+) -> Result<usize, AllocError>
+    ensures count { IfOk result (λ n. (xs : List ItemValue) × (ArePiecesOf lexed.now xs
+        × (count_by (holds_byte range.start range.end) xs ≡ n))) }
 {
-    let mut pieces = lexed.pieces();
-    pieces.next().is_some() && pieces.next().is_none()
+    let pieces = lexed.pieces(alloc, range)?;
+    Ok(pieces.len())
 }
 
-// Needs lalrpop_edits::LexedText::pieces: start.
-// Needs lalrpop_edits::Pieces::next: ghost next_gives, ghost remaining.
+// Needs lalrpop_edits::LexedText::pieces: pieces.
 /// The pieces of a text.
 ///
 /// # Errors
@@ -211,16 +218,17 @@ pub fn piece_list<'text>(
     alloc: Global,
     lexed: &'text LexedText<'_>,
 ) -> Result<Vec<Item<'text>>, AllocError>
-    ensures all { IfOk result (λ pieces. (xs : List ItemValue) → ArePiecesOf lexed.now xs
-        → AreSame xs pieces.items) }
+    ensures all { IfOk result (λ pieces. ArePiecesOf lexed.now pieces.items) }
 {
-    let mut pieces = Vec::new(alloc);
-    for piece in lexed.pieces() {
-        if pieces.push(piece).is_err() {
-            return Err(AllocError);
-        }
-    }
-    Ok(pieces)
+    lexed.pieces(alloc, 0..lexed.text().len())
+}
+
+// Needs lalrpop_edits::LexedText::pieces: exist.
+/// Any text has pieces, whether there is memory for them or not.
+pub fn has_pieces(alloc: Global, lexed: &LexedText<'_>) -> bool
+    ensures exist { (xs : List ItemValue) × ArePiecesOf lexed.now xs }
+{
+    lexed.pieces(alloc, 0..1).is_ok()
 }
 
 // Needs lalrpop_edits::EditError::from: ghost from_gives.

@@ -1,18 +1,20 @@
 -- Cases of specs/Lexed.antt.
-use Rattle.std.proofs.Common.{◌≡◌, ℕ, zero, suc, ◌+◌, ◌-◌, ◌<◌, ◌⊎◌, inl, inr, List, [], ◌∷◌, ◌++◌, length, take, drop, get_or, codes, refl, sym, ap, subst, ◌∙◌, arith}
-use Rattle.std.specs.Prelude.{Some, None}
+use Rattle.std.proofs.Common.{◌≡◌, ◌≢◌, ℕ, zero, suc, ◌+◌, ◌-◌, ◌<◌, ◌≤◌, ◌⊎◌, true, inl, inr, List, [], ◌∷◌, ◌++◌, length, take, drop, get_or, codes, refl, sym, ap, subst, ◌∙◌, arith}
+use Rattle.std.specs.Prelude.{max, min}
 use Rattle.std.specs.Borrow.{Bor}
 use Rattle.std.specs.Str.{chars}
+use Rattle.std.proofs.lemmas.Bool.{lt-ltb, ltb-true}
 use Rattle.std.proofs.lemmas.Str.{chars-nil}
 use Rattle.lalrpop_hir.specs.Tree.{Tree, literal}
 use Rattle.lalrpop_hir.specs.Winners.{Matched}
+use Rattle.lalrpop_rules.specs.Pieces.{slice_of, start_of}
 use Rattle.lalrpop_rules.specs.declared.item.Item.{Item}
 use Rattle.lalrpop_rules.specs.declared.item.Item.TheVariants.{Token, Skipped, Fault}
 use Rattle.lalrpop_rules.proofs.UniquePieces.{no_piece_left}
 use Rattle.bajofeki_rules.specs.declared.action.Action.TheVariants.{Push}
 use Rattle.bajofeki_rules.specs.Stack.{Stack, start}
 use Rattle.lalrpop_rules.specs.Modes.{ModeRules, trees_in}
-use Rattle.lalrpop_edits.specs.Lexed.{Lexed, ArePiecesOf, replaced, IsRange, IsEditError, placed, placed_from, IsChangeOf, MeetAt, IsEarliest, ReadsTo, Reaches, FirstReaches, IsPieceNumber, HasPieces, Handed, HandsOut}
+use Rattle.lalrpop_edits.specs.Lexed.{Lexed, ArePiecesOf, replaced, IsRange, IsEditError, placed, placed_from, IsChangeOf, MeetAt, IsEarliest, ReadsTo, Reaches, FirstReaches, ArePiecesIn, holding, holds_byte}
 use Rattle.lalrpop_edits.specs.declared.change.Change.{Change}
 use Rattle.lalrpop_edits.specs.declared.error.EditError.TheVariants.{NoBoundary, TooLarge, OutOfMemory}
 use Rattle.lalrpop_edits.proofs.Cases.Reach.{a, ab, one_of_two}
@@ -111,20 +113,13 @@ one_more_told_as_none p q c = c.behind
 more_gone_than_there_are : (xs ys : List Item) → length xs ≡ 0 → ¬ IsChangeOf xs ys first_replaced
 more_gone_than_there_are xs ys none c = omega (arith, c.removed, none)
 
--- ---- numbers of pieces
+-- ---- all pieces
 
 no_piece_of_the_empty_text : (r : ModeRules) → ArePiecesOf (record { rules = r; text = [] }) []
 no_piece_of_the_empty_text r = (start, (refl, refl))
 
 text_left_over : (r : ModeRules) → ¬ ArePiecesOf (record { rules = r; text = codes "a" }) []
 text_left_over r are = absurd (cc (are.1.0))
-
-empty_text_has_none : (r : ModeRules) → HasPieces (record { rules = r; text = [] }) 0
-empty_text_has_none r [] are = refl
-empty_text_has_none r (x ∷ xs) are = absurd (no_piece_left (trees_in r 0) r.precedences r.skips [] 0 x are.1.0 refl)
-
-empty_text_has_no_first : (r : ModeRules) (x : Item) → ¬ IsPieceNumber (record { rules = r; text = [] }) 0 x
-empty_text_has_no_first r x is = is [] (no_piece_of_the_empty_text r)
 
 -- ---- no further than needed
 
@@ -246,14 +241,38 @@ cut_further_back_than_needed p xs e are first =
     no_word (inl within) = omega (arith, within, ap length e)
     no_word (inr r) = begins_with_aa r.1.0 r.1.1
 
--- ---- handing out
+-- ---- pieces that hold a byte of a range
 
-nothing_of_the_empty_text : (r : ModeRules) → HandsOut (record { lexed = record { rules = r; text = [] }; count = 0 }) None (record { lexed = record { rules = r; text = [] }; count = 0 })
-nothing_of_the_empty_text r = (refl, empty_text_has_none r)
+-- some byte of the range is one of the piece
+byte_held : (from to : ℕ) (x : Item) → holds_byte from to x ≡ true
+    → (n : ℕ) × ((from ≤ n) × (n < to) × (start_of x ≤ n) × (n < start_of x + length (slice_of x)))
+byte_held from to x holds =
+    let lt = ltb-true (max from (start_of x)) (min to (start_of x + length (slice_of x))) holds in
+    (max from (start_of x), (omega arith, omega (arith, lt), omega arith, omega (arith, lt)))
 
--- not before all are handed out
-nothing_too_early : (l : Lexed) (x : Item) (end : List Item) → ArePiecesOf l (x ∷ end) → ¬ HandsOut (record { lexed = l; count = 0 }) None (record { lexed = l; count = 0 })
-nothing_too_early l x end are h = let n = h.1 (x ∷ end) are in omega (arith, n)
+held_by_a_byte : (from to n : ℕ) (x : Item) → from ≤ n → n < to → start_of x ≤ n → n < start_of x + length (slice_of x) → holds_byte from to x ≡ true
+held_by_a_byte from to n x above below behind before = lt-ltb (max from (start_of x)) (min to (start_of x + length (slice_of x))) (omega arith)
 
-one_piece_twice : (l : Lexed) (x : Item) → ¬ HandsOut (record { lexed = l; count = 4 }) (Some x) (record { lexed = l; count = 4 })
-one_piece_twice l x h = let n : 4 ≡ 5 = ap (λ (s : Handed). s.count) h.0 in omega (arith, n)
+-- of `ab` and `c`
+module _ (p q : Bor (List ℕ)) (ab_is : p.now ≡ codes "ab") (c_is : q.now ≡ codes "c") where
+  cut_one_given_whole : holding 1 2 (Fault 0 p ∷ Fault 2 q ∷ []) ≡ Fault 0 p ∷ []
+  cut_one_given_whole = rw (ab_is, c_is) refl
+
+  both_held : holding 1 9 (Fault 0 p ∷ Fault 2 q ∷ []) ≡ Fault 0 p ∷ Fault 2 q ∷ []
+  both_held = rw (ab_is, c_is) refl
+
+  cut_one_left_out : holding 1 3 (Fault 0 p ∷ Fault 2 q ∷ []) ≢ Fault 2 q ∷ []
+  cut_one_left_out e = let n : 2 ≡ 1 = rw (ab_is, c_is) at (ap length e) in omega (arith, n)
+
+  none_in_an_empty_range : holding 1 1 (Fault 0 p ∷ Fault 2 q ∷ []) ≡ []
+  none_in_an_empty_range = rw (ab_is, c_is) refl
+
+  none_behind_the_text : holding 3 9 (Fault 0 p ∷ Fault 2 q ∷ []) ≡ []
+  none_behind_the_text = rw (ab_is, c_is) refl
+
+none_in_the_empty_text : (r : ModeRules) (from to : ℕ) → ArePiecesIn (record { rules = r; text = [] }) from to []
+none_in_the_empty_text r from to = ([], (no_piece_of_the_empty_text r, refl))
+
+some_in_the_empty_text : (r : ModeRules) (from to : ℕ) (y : Item) (ys : List Item) → ¬ ArePiecesIn (record { rules = r; text = [] }) from to (y ∷ ys)
+some_in_the_empty_text r from to y ys ([], are) = absurd (cc (are.1))
+some_in_the_empty_text r from to y ys (x ∷ xs, are) = no_piece_left (trees_in r 0) r.precedences r.skips [] 0 x are.0.1.0 refl

@@ -3,7 +3,7 @@ use Rattle.std.specs.Prelude.{◌≡◌, ℕ, ◌+◌, ◌≤◌, List, [], ◌�
 use Rattle.std.specs.Str.{IsCharBoundary, IsUtf8}
 use Rattle.bajofeki_rules.specs.Position.{IsBefore, position_of}
 use Rattle.bajofeki_rules.specs.declared.position.Position.{Position}
-use Rattle.lalrpop_edits.specs.Internal.Handing.{size_in}
+use Rattle.lalrpop_edits.specs.Internal.Blocks.{size_in}
 use Rattle.lalrpop_edits.specs.declared.block.Block.{Block}
 use Rattle.lalrpop_edits.specs.declared.lines.Mark.{Mark}
 

@@ -1,6 +1,6 @@
 -- The pieces of a text in blocks.
-use Rattle.std.specs.Prelude.{◌≡◌, ℕ, zero, suc, ◌+◌, ◌≤◌, List, [], ◌∷◌, ◌++◌, length, take}
-use Rattle.bajofeki_rules.specs.Stack.{Stack}
+use Rattle.std.specs.Prelude.{◌≡◌, ℕ, zero, suc, ◌+◌, ◌<◌, ◌≤◌, List, [], ◌∷◌, ◌++◌, length, take, Some, slice_get}
+use Rattle.bajofeki_rules.specs.Stack.{Stack, start}
 use Rattle.lalrpop_rules.specs.Modes.{ModeRules}
 use Rattle.lalrpop_edits.specs.Internal.Kept.{KeptUpTo, AreWithin, after_kept}
 use Rattle.lalrpop_edits.specs.declared.kept.Kept.{Kept}
@@ -18,6 +18,10 @@ pub record IsBlock (r : ModeRules) (text : List ℕ) (at : ℕ) (s : Stack) (b :
 abbrev pub AreBlocks : ModeRules → List ℕ → ℕ → Stack → List Block → ℕ → Stack → Type 0
 AreBlocks r text at s [] to t = (at ≡ to) × (s ≡ t)
 AreBlocks r text at s (b ∷ bs) to t = (u : Stack) × (IsBlock r text at s b u × AreBlocks r text (at + b.size) u bs to t)
+
+-- those of the whole text
+abbrev pub AreBlocksOf : ModeRules → List ℕ → List Block → Type 0
+AreBlocksOf r text bs = (end : Stack) × AreBlocks r text 0 start bs (length text) end
 
 -- the pieces of the blocks, one after another
 abbrev pub pieces_in : List Block → List Kept
@@ -61,3 +65,26 @@ pub record IsSpot (bs : List Block) (block piece count : ℕ) : Type 0 where
   pub block_in : block ≤ length bs
   pub piece_in : piece ≤ length (pieces_at bs block)
   pub count_is : count ≡ length (pieces_in (take block bs)) + piece
+
+-- ---- the piece that holds a byte
+
+-- how many bytes the blocks have
+abbrev pub size_in : List Block → ℕ
+size_in [] = 0
+size_in (b ∷ bs) = b.size + size_in bs
+
+-- the block begins at this place, and holds the byte
+pub record IsBlockAt (bs : List Block) (b : Block) (begins at : ℕ) : Type 0 where
+  pub number : ℕ
+  pub there : slice_get bs number ≡ Some b
+  pub begins_is : begins ≡ size_in (take number bs)
+  pub before : begins ≤ at
+  pub behind : at < begins + b.size
+
+-- the piece of which this is kept begins at this place, the first one beginning at `from`, and holds the byte
+pub record IsPieceAt (ks : List Kept) (from : ℕ) (k : Kept) (begins at : ℕ) : Type 0 where
+  pub number : ℕ
+  pub there : slice_get ks number ≡ Some k
+  pub begins_is : begins ≡ from + sizes (take number ks)
+  pub before : begins ≤ at
+  pub behind : at < begins + k.size

@@ -1,12 +1,9 @@
--- A text that is edited and its pieces, as tuples, which proofs use to tell one from another.
+-- A text that is edited, as a tuple, which proofs use to tell one from another.
 use Rattle.std.specs.Prelude.{ℕ, List, refl}
 use Rattle.std.specs.Coded.{Coded, code_by, coded×, coded_list, coded_ℕ}
 use Rattle.lalrpop_rules.specs.Modes.{ModeRules}
 use Rattle.lalrpop_rules.specs.Internal.ModeCode.{modes_code}
-use Rattle.lalrpop_edits.specs.Lexed.{Lexed, Handed}
+use Rattle.lalrpop_edits.specs.Lexed.{Lexed}
 
 abbrev pub lexed_code : Coded Lexed
 lexed_code = code_by (ModeRules × List ℕ) (coded× modes_code (coded_list coded_ℕ)) (λ l. (l.rules, l.text)) (λ p. record { rules = p.0; text = p.1 }) (λ _. refl)
-
-abbrev pub handed_code : Coded Handed
-handed_code = code_by (Lexed × ℕ) (coded× lexed_code coded_ℕ) (λ h. (h.lexed, h.count)) (λ p. record { lexed = p.0; count = p.1 }) (λ _. refl)

@@ -1,9 +1,11 @@
 -- The pieces of a text by what is kept of them.
-use Rattle.std.specs.Prelude.{ℕ, ◌+◌, Bool, true, false, List, [], ◌∷◌, take, drop, Option, Some, None, slice_get}
+use Rattle.std.specs.Prelude.{◌≡◌, ℕ, ◌+◌, Bool, true, false, List, [], ◌∷◌, ◌++◌, take, drop, Option, Some, None, slice_get}
 use Rattle.std.specs.Borrow.{Bor}
 use Rattle.lalrpop_hir.specs.declared.token.Token.{Token as Cut}
+use Rattle.lalrpop_rules.specs.Pieces.{AreSame}
 use Rattle.lalrpop_rules.specs.declared.item.Item.{Item}
 use Rattle.lalrpop_rules.specs.declared.item.Item.TheVariants.{Token, Skipped, Fault}
+use Rattle.lalrpop_edits.specs.Lexed.{holding}
 use Rattle.lalrpop_edits.specs.Internal.Kept.{rule_of}
 use Rattle.lalrpop_edits.specs.declared.kept.Kept.{Kept}
 
@@ -30,3 +32,7 @@ item_at skips text at k = item_with skips at (rule_of k) (take k.size (drop at t
 abbrev pub items_from : List Bool → List ℕ → ℕ → List Kept → List Item
 items_from skips text at [] = []
 items_from skips text at (k ∷ ks) = item_at skips text at k ∷ items_from skips text (at + k.size) ks
+
+-- the list has grown by those that hold a byte from `from` up to `to`, of pieces that are the same as these
+abbrev pub AddsHolding : ℕ → ℕ → List Item → List Item → List Item → Type 0
+AddsHolding from to old new xs = (ys : List Item) × (AreSame ys xs × (new ≡ old ++ holding from to ys))

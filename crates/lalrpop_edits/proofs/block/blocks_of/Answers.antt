@@ -3,10 +3,9 @@ use Rattle.lalrpop_edits.specs.declared.kept.Kept.{Kept}
 use Rattle.lalrpop_edits.specs.declared.block.Block.{Block}
 use Rattle.std.specs.Str.{IsCharBoundary}
 use Rattle.std.proofs.lemmas.List.{append-nil, drop-drop}
-use Rattle.lalrpop_edits.specs.Internal.Blocks.{pieces_in, sizes, after_pieces, IsMarked, AreMarked}
+use Rattle.lalrpop_edits.specs.Internal.Blocks.{pieces_in, size_in, sizes, after_pieces, IsMarked, AreMarked}
 use Rattle.lalrpop_edits.proofs.BlockLaws.{sizes_join, after_join, sizes_front, pieces_join, marked_join, split_run}
 use Rattle.lalrpop_edits.specs.Internal.BlockPlaces.{AreCounted, IsCounted}
-use Rattle.lalrpop_edits.specs.Internal.Handing.{size_in}
 use Rattle.lalrpop_edits.proofs.LineLaws.{counted_join, marked_sizes}
 use Rattle.lalrpop_edits.proofs.block.blocks_of.Goals as goal
 

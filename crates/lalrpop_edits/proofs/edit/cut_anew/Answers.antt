@@ -2,7 +2,7 @@ use Rattle.std.proofs.Common.{◌≡◌, ℕ, ◌-◌, ◌<◌, ◌≤◌, ◌�
 use Rattle.lalrpop_edits.specs.declared.kept.Kept.{Kept}
 use Rattle.lalrpop_edits.specs.declared.block.Block.{Block}
 use Rattle.bajofeki_rules.specs.Stack.{Stack, start}
-use Rattle.lalrpop_rules.specs.Modes.{EachMode}
+use Rattle.lalrpop_rules.specs.Modes.{EachMode, ModeRules}
 use Rattle.std.specs.Str.{IsCharBoundary}
 use Rattle.lalrpop_edits.specs.Internal.Kept.{KeptUpTo}
 use Rattle.lalrpop_edits.specs.declared.place.Place.{Place}
@@ -13,6 +13,7 @@ use Rattle.lalrpop_edits.specs.Internal.Starting.{IsStart}
 use Rattle.lalrpop_edits.proofs.BlockLaws.{spot_within}
 use Rattle.lalrpop_edits.specs.declared.meet.Edit.{Edit}
 use Rattle.lalrpop_edits.specs.declared.change.Change.{Change}
+use Rattle.lalrpop_edits.specs.declared.edit.Start.{Start}
 use Rattle.std.proofs.lemmas.List.{length-take-le}
 use Rattle.lalrpop_edits.proofs.LeastChanges.{least}
 use Rattle.lalrpop_edits.proofs.Paying.{all_paid}
@@ -20,6 +21,22 @@ use Rattle.lalrpop_edits.specs.Internal.BlockPlaces.{AreSameAround}
 use Rattle.lalrpop_edits.proofs.LineLaws.{kept_boundaries}
 use Rattle.lalrpop_edits.proofs.Relexing.{all_kept, same_around, each_there, old_marked, old_fits, old_count, old_pieces, start_boundary, all_sizes, stacks_meet, new_blocks, changed}
 use Rattle.lalrpop_edits.proofs.edit.cut_anew.Goals as goal
+
+-- where the cut begins, and what was cut from there on
+record Begun (r : ModeRules) (text : List ℕ) (bs : List Block) (from : ℕ) (first : Start) (from_there : Place) : Type 0 where
+  is_start : IsStart r bs from first
+  at : from_there.at ≡ sizes (take first.spot.count (pieces_in bs))
+  stack : from_there.stack ≡ after_pieces r (take first.spot.count (pieces_in bs)) start
+  cut : (ks : List Kept) (to : ℕ) (t : Stack) → KeptUpTo r text from_there.at from_there.stack ks to t
+      → KeptUpTo r text (sizes (take first.spot.count (pieces_in bs))) (after_pieces r (take first.spot.count (pieces_in bs)) start) ks to t
+
+begun : (r : ModeRules) (text : List ℕ) (bs cs : List Block) (from : ℕ) (first : Start) (from_there : Place) → cs ≡ bs → IsStart r cs from first
+    → from_there ≡ first.place → Begun r text bs from first from_there
+begun r text bs cs from first from_there same is e =
+    let s : IsStart r bs from first = subst (λ (xs : List Block). IsStart r xs from first) same is in
+    let at : from_there.at ≡ sizes (take first.spot.count (pieces_in bs)) = ap (λ (p : Place). p.at) e ∙ s.place_at in
+    let stack : from_there.stack ≡ after_pieces r (take first.spot.count (pieces_in bs)) start = ap (λ (p : Place). p.stack) e ∙ s.place_stack in
+    record { is_start = s; at = at; stack = stack; cut = λ ks to t are. rw (← at, ← stack) are }
 
 pub start_of-requires-clause-marked : goal.start_of-requires-clause-marked
 start_of-requires-clause-marked c =
@@ -71,20 +88,22 @@ cut_to_meet-requires-clause-size c =
 
 pub cut_to_meet-requires-clause-boundary : goal.cut_to_meet-requires-clause-boundary
 cut_to_meet-requires-clause-boundary c =
+    let text = c.args.text.now in
+    let bs = c.args.blocks.now.items in
     let o = c.requires.old in
-    let n = c.in_ok-first.first.spot.count in
-    let s : IsStart c.args.lexer.now c.args.blocks.now.items c.args.from c.in_ok-first.first =
-    subst (λ (xs : List Block). IsStart c.args.lexer.now xs c.args.from c.in_ok-first.first) c.deref.ensures.value c.in_ok-first.ensures.start in
-    subst (IsCharBoundary c.args.text.now) (sym (ap (λ (p : Place). p.at) c.in_ok-clone-2.ensures.cases ∙ s.place_at))
-    (start_boundary c.args.lexer.now c.args.blocks.now.items c.args.text.now c.args.from c.args.to c.args.size o.0 o.1.0 o.1.1 c.utf8.text n s.within)
+    let b = begun c.args.lexer.now text bs c.deref.result.now c.args.from c.in_ok-first.first c.in_ok-clone-2.field-0 c.deref.ensures.value c.in_ok-first.ensures.start
+    c.in_ok-clone-2.ensures.cases in
+    subst (IsCharBoundary text) (sym b.at)
+    (start_boundary c.args.lexer.now bs text c.args.from c.args.to c.args.size o.0 o.1.0 o.1.1 c.utf8.text c.in_ok-first.first.spot.count b.is_start.within)
 
 pub cut_to_meet-requires-clause-there : goal.cut_to_meet-requires-clause-there
 cut_to_meet-requires-clause-there c =
-    let n = c.in_ok-first.first.spot.count in
-    let s : IsStart c.args.lexer.now c.args.blocks.now.items c.args.from c.in_ok-first.first =
-    subst (λ (xs : List Block). IsStart c.args.lexer.now xs c.args.from c.in_ok-first.first) c.deref.ensures.value c.in_ok-first.ensures.start in
-    subst (EachMode (λ m. m < c.args.lexer.now.modes)) (sym (ap (λ (p : Place). p.stack) c.in_ok-clone-2.ensures.cases ∙ s.place_stack))
-    (each_there c.args.lexer.now (take n (pieces_in c.args.blocks.now.items)) start c.modes-modes.ensures.within (omega (arith, c.modes-modes.ensures.count, c.modes-modes.ensures.some), tt))
+    let r = c.args.lexer.now in
+    let bs = c.args.blocks.now.items in
+    let b = begun r c.args.text.now bs c.deref.result.now c.args.from c.in_ok-first.first c.in_ok-clone-2.field-0 c.deref.ensures.value c.in_ok-first.ensures.start
+    c.in_ok-clone-2.ensures.cases in
+    subst (EachMode (λ m. m < r.modes)) (sym b.stack)
+    (each_there r (take c.in_ok-first.first.spot.count (pieces_in bs)) start c.modes-modes.ensures.within (omega (arith, c.modes-modes.ensures.count, c.modes-modes.ensures.some), tt))
 
 pub cut_to_meet-requires-clause-cutter : goal.cut_to_meet-requires-clause-cutter
 cut_to_meet-requires-clause-cutter c =
@@ -107,16 +126,12 @@ put_pieces-requires-clause-fits c =
     let cut = c.cut_to_meet.new.cut.pieces.items in
     let there = c.cut_to_meet.new.cut.place in
     let met = c.in_ok-cut_to_meet.ensures in
-    let s : IsStart r bs from c.in_ok-first.first =
-    subst (λ (xs : List Block). IsStart r xs from c.in_ok-first.first) c.deref.ensures.value c.in_ok-first.ensures.start in
-    let at : c.in_ok-clone-2.field-0.at ≡ sizes (take n (pieces_in bs)) = ap (λ (p : Place). p.at) c.in_ok-clone-2.ensures.cases ∙ s.place_at in
-    let stack : c.in_ok-clone-2.field-0.stack ≡ after_pieces r (take n (pieces_in bs)) start = ap (λ (p : Place). p.stack) c.in_ok-clone-2.ensures.cases ∙ s.place_stack in
-    let are : KeptUpTo r text (sizes (take n (pieces_in bs))) (after_pieces r (take n (pieces_in bs)) start) cut there.at there.stack =
-    subst (λ (a : ℕ). KeptUpTo r text a (after_pieces r (take n (pieces_in bs)) start) cut there.at there.stack) at
-    (subst (λ (v : Stack). KeptUpTo r text c.in_ok-clone-2.field-0.at v cut there.at there.stack) stack met.cut) in
+    let b = begun r text bs c.deref.result.now from c.in_ok-first.first c.in_ok-clone-2.field-0 c.deref.ensures.value c.in_ok-first.ensures.start
+    c.in_ok-clone-2.ensures.cases in
+    let are = b.cut cut there.at there.stack met.cut in
     let behind : KeptUpTo r text there.at there.stack (drop d (pieces_in bs)) (length text) met.behind.0 =
     subst (λ (xs : List Block). KeptUpTo r text there.at there.stack (drop d (pieces_in xs)) (length text) met.behind.0) c.deref-2.ensures.value met.behind.1 in
-    let all = all_sizes r bs text from c.args.to c.args.size o.0 o.1.0 o.1.1 n d cut there.at there.stack s.within are met.behind.0 behind in
+    let all = all_sizes r bs text from c.args.to c.args.size o.0 o.1.0 o.1.1 n d cut there.at there.stack b.is_start.within are met.behind.0 behind in
     omega (arith, ap (λ (ls : List Kept). sizes (take n (pieces_in bs) ++ (ls ++ drop d (pieces_in bs)))) c.deref-3.ensures.value, all, o.1.1.fits_now)
 
 pub put_pieces-requires-clause-boundaries : goal.put_pieces-requires-clause-boundaries
@@ -131,18 +146,14 @@ put_pieces-requires-clause-boundaries c =
     let cut = c.cut_to_meet.new.cut.pieces.items in
     let there = c.cut_to_meet.new.cut.place in
     let met = c.in_ok-cut_to_meet.ensures in
-    let s : IsStart r bs from c.in_ok-first.first =
-    subst (λ (xs : List Block). IsStart r xs from c.in_ok-first.first) c.deref.ensures.value c.in_ok-first.ensures.start in
-    let at : c.in_ok-clone-2.field-0.at ≡ sizes (take n (pieces_in bs)) = ap (λ (p : Place). p.at) c.in_ok-clone-2.ensures.cases ∙ s.place_at in
-    let stack : c.in_ok-clone-2.field-0.stack ≡ after_pieces r (take n (pieces_in bs)) start = ap (λ (p : Place). p.stack) c.in_ok-clone-2.ensures.cases ∙ s.place_stack in
-    let are : KeptUpTo r text (sizes (take n (pieces_in bs))) (after_pieces r (take n (pieces_in bs)) start) cut there.at there.stack =
-    subst (λ (a : ℕ). KeptUpTo r text a (after_pieces r (take n (pieces_in bs)) start) cut there.at there.stack) at
-    (subst (λ (v : Stack). KeptUpTo r text c.in_ok-clone-2.field-0.at v cut there.at there.stack) stack met.cut) in
+    let b = begun r text bs c.deref.result.now from c.in_ok-first.first c.in_ok-clone-2.field-0 c.deref.ensures.value c.in_ok-first.ensures.start
+    c.in_ok-clone-2.ensures.cases in
+    let are = b.cut cut there.at there.stack met.cut in
     let behind : KeptUpTo r text there.at there.stack (drop d (pieces_in bs)) (length text) met.behind.0 =
     subst (λ (xs : List Block). KeptUpTo r text there.at there.stack (drop d (pieces_in xs)) (length text) met.behind.0) c.deref-2.ensures.value met.behind.1 in
     subst (λ (ls : List Kept). (m : ℕ) → IsCharBoundary text (sizes (take m (take n (pieces_in bs) ++ (ls ++ drop d (pieces_in bs)))))) (sym c.deref-3.ensures.value)
     (kept_boundaries r text (take n (pieces_in bs) ++ (cut ++ drop d (pieces_in bs))) (length text) met.behind.0 c.utf8.text
-    (all_kept r bs text from c.args.to c.args.size o.0 o.1.0 o.1.1 n d cut there.at there.stack s.within are met.behind.0 behind))
+    (all_kept r bs text from c.args.to c.args.size o.0 o.1.0 o.1.1 n d cut there.at there.stack b.is_start.within are met.behind.0 behind))
 
 pub put_pieces-requires-clause-met : goal.put_pieces-requires-clause-met
 put_pieces-requires-clause-met c =
@@ -156,19 +167,15 @@ put_pieces-requires-clause-met c =
     let cut = c.cut_to_meet.new.cut.pieces.items in
     let there = c.cut_to_meet.new.cut.place in
     let met = c.in_ok-cut_to_meet.ensures in
-    let s : IsStart r bs from c.in_ok-first.first =
-    subst (λ (xs : List Block). IsStart r xs from c.in_ok-first.first) c.deref.ensures.value c.in_ok-first.ensures.start in
-    let at : c.in_ok-clone-2.field-0.at ≡ sizes (take n (pieces_in bs)) = ap (λ (p : Place). p.at) c.in_ok-clone-2.ensures.cases ∙ s.place_at in
-    let stack : c.in_ok-clone-2.field-0.stack ≡ after_pieces r (take n (pieces_in bs)) start = ap (λ (p : Place). p.stack) c.in_ok-clone-2.ensures.cases ∙ s.place_stack in
-    let are : KeptUpTo r text (sizes (take n (pieces_in bs))) (after_pieces r (take n (pieces_in bs)) start) cut there.at there.stack =
-    subst (λ (a : ℕ). KeptUpTo r text a (after_pieces r (take n (pieces_in bs)) start) cut there.at there.stack) at
-    (subst (λ (v : Stack). KeptUpTo r text c.in_ok-clone-2.field-0.at v cut there.at there.stack) stack met.cut) in
+    let b = begun r text bs c.deref.result.now from c.in_ok-first.first c.in_ok-clone-2.field-0 c.deref.ensures.value c.in_ok-first.ensures.start
+    c.in_ok-clone-2.ensures.cases in
+    let are = b.cut cut there.at there.stack met.cut in
     let old : IsOldPlace r bs c.cut_to_meet.new.old = subst (λ (xs : List Block). IsOldPlace r xs c.cut_to_meet.new.old) c.deref-2.ensures.value met.old in
     subst (λ (ls : List Kept). (c.cut_to_meet.new.old.spot.block ≡ length bs)
     ⊎ (after_pieces r (take n (pieces_in bs) ++ ls) start ≡ after_pieces r (take d (pieces_in bs)) start)) (sym c.deref-3.ensures.value)
     (elim met.met [
       | inl last ↦ inl (last ∙ ap length c.deref-2.ensures.value)
-      | inr same ↦ inr (stacks_meet r bs text from c.args.to c.args.size o.0 o.1.0 o.1.1 n d cut there.at there.stack s.within are c.cut_to_meet.new.old.place.stack old.stack same)
+      | inr same ↦ inr (stacks_meet r bs text from c.args.to c.args.size o.0 o.1.0 o.1.1 n d cut there.at there.stack b.is_start.within are c.cut_to_meet.new.old.place.stack old.stack same)
     ])
 
 pub returns-clause-blocks : goal.returns-clause-blocks
@@ -183,19 +190,15 @@ returns-clause-blocks c =
     let cut = c.cut_to_meet.new.cut.pieces.items in
     let there = c.cut_to_meet.new.cut.place in
     let met = c.in_ok-cut_to_meet.ensures in
-    let s : IsStart r bs from c.in_ok-first.first =
-    subst (λ (xs : List Block). IsStart r xs from c.in_ok-first.first) c.deref.ensures.value c.in_ok-first.ensures.start in
-    let at : c.in_ok-clone-2.field-0.at ≡ sizes (take n (pieces_in bs)) = ap (λ (p : Place). p.at) c.in_ok-clone-2.ensures.cases ∙ s.place_at in
-    let stack : c.in_ok-clone-2.field-0.stack ≡ after_pieces r (take n (pieces_in bs)) start = ap (λ (p : Place). p.stack) c.in_ok-clone-2.ensures.cases ∙ s.place_stack in
-    let are : KeptUpTo r text (sizes (take n (pieces_in bs))) (after_pieces r (take n (pieces_in bs)) start) cut there.at there.stack =
-    subst (λ (a : ℕ). KeptUpTo r text a (after_pieces r (take n (pieces_in bs)) start) cut there.at there.stack) at
-    (subst (λ (v : Stack). KeptUpTo r text c.in_ok-clone-2.field-0.at v cut there.at there.stack) stack met.cut) in
+    let b = begun r text bs c.deref.result.now from c.in_ok-first.first c.in_ok-clone-2.field-0 c.deref.ensures.value c.in_ok-first.ensures.start
+    c.in_ok-clone-2.ensures.cases in
+    let are = b.cut cut there.at there.stack met.cut in
     let behind : KeptUpTo r text there.at there.stack (drop d (pieces_in bs)) (length text) met.behind.0 =
     subst (λ (xs : List Block). KeptUpTo r text there.at there.stack (drop d (pieces_in xs)) (length text) met.behind.0) c.deref-2.ensures.value met.behind.1 in
     let is : pieces_in c.put_pieces.new.blocks.items ≡ take n (pieces_in bs) ++ (cut ++ drop d (pieces_in bs)) =
     c.in_ok-put_pieces.ensures.pieces ∙ ap (λ (ls : List Kept). take n (pieces_in bs) ++ (ls ++ drop d (pieces_in bs))) c.deref-3.ensures.value in (
       met.behind.0,
-      new_blocks r bs text from c.args.to c.args.size o.0 o.1.0 o.1.1 n d cut there.at there.stack s.within are c.put_pieces.new.blocks.items is met.behind.0
+      new_blocks r bs text from c.args.to c.args.size o.0 o.1.0 o.1.1 n d cut there.at there.stack b.is_start.within are c.put_pieces.new.blocks.items is met.behind.0
           c.in_ok-put_pieces.ensures.marked behind,
     )
 
@@ -211,16 +214,12 @@ returns-clause-counted c =
     let cut = c.cut_to_meet.new.cut.pieces.items in
     let there = c.cut_to_meet.new.cut.place in
     let met = c.in_ok-cut_to_meet.ensures in
-    let s : IsStart r bs from c.in_ok-first.first =
-    subst (λ (xs : List Block). IsStart r xs from c.in_ok-first.first) c.deref.ensures.value c.in_ok-first.ensures.start in
-    let at : c.in_ok-clone-2.field-0.at ≡ sizes (take n (pieces_in bs)) = ap (λ (p : Place). p.at) c.in_ok-clone-2.ensures.cases ∙ s.place_at in
-    let stack : c.in_ok-clone-2.field-0.stack ≡ after_pieces r (take n (pieces_in bs)) start = ap (λ (p : Place). p.stack) c.in_ok-clone-2.ensures.cases ∙ s.place_stack in
-    let are : KeptUpTo r text (sizes (take n (pieces_in bs))) (after_pieces r (take n (pieces_in bs)) start) cut there.at there.stack =
-    subst (λ (a : ℕ). KeptUpTo r text a (after_pieces r (take n (pieces_in bs)) start) cut there.at there.stack) at
-    (subst (λ (v : Stack). KeptUpTo r text c.in_ok-clone-2.field-0.at v cut there.at there.stack) stack met.cut) in
+    let b = begun r text bs c.deref.result.now from c.in_ok-first.first c.in_ok-clone-2.field-0 c.deref.ensures.value c.in_ok-first.ensures.start
+    c.in_ok-clone-2.ensures.cases in
+    let are = b.cut cut there.at there.stack met.cut in
     let old : IsOldPlace r bs c.cut_to_meet.new.old = subst (λ (xs : List Block). IsOldPlace r xs c.cut_to_meet.new.old) c.deref-2.ensures.value met.old in
     let same : AreSameAround o.0 text (sizes (take n (pieces_in bs))) (sizes (take d (pieces_in bs))) (sizes (take n (pieces_in bs) ++ cut)) =
-    same_around r bs text from c.args.to c.args.size o.0 o.1.0 o.1.1 n d cut there.at there.stack s.within are (omega (arith, met.replaced, old.at))
+    same_around r bs text from c.args.to c.args.size o.0 o.1.0 o.1.1 n d cut there.at there.stack b.is_start.within are (omega (arith, met.replaced, old.at))
     (ap (moved_place from c.args.to c.args.size) (sym old.at) ∙ met.place) in
     c.in_ok-put_pieces.ensures.counted o.0 o.1.1.counted
     (subst (λ (ls : List Kept). AreSameAround o.0 text (sizes (take n (pieces_in bs))) (sizes (take d (pieces_in bs))) (sizes (take n (pieces_in bs) ++ ls))) (sym c.deref-3.ensures.value) same)
@@ -236,21 +235,17 @@ returns-clause-change c = λ before t known.
     let cut = c.cut_to_meet.new.cut.pieces.items in
     let there = c.cut_to_meet.new.cut.place in
     let met = c.in_ok-cut_to_meet.ensures in
-    let s : IsStart r bs from c.in_ok-first.first =
-    subst (λ (xs : List Block). IsStart r xs from c.in_ok-first.first) c.deref.ensures.value c.in_ok-first.ensures.start in
-    let at : c.in_ok-clone-2.field-0.at ≡ sizes (take n (pieces_in bs)) = ap (λ (p : Place). p.at) c.in_ok-clone-2.ensures.cases ∙ s.place_at in
-    let stack : c.in_ok-clone-2.field-0.stack ≡ after_pieces r (take n (pieces_in bs)) start = ap (λ (p : Place). p.stack) c.in_ok-clone-2.ensures.cases ∙ s.place_stack in
-    let are : KeptUpTo r text (sizes (take n (pieces_in bs))) (after_pieces r (take n (pieces_in bs)) start) cut there.at there.stack =
-    subst (λ (a : ℕ). KeptUpTo r text a (after_pieces r (take n (pieces_in bs)) start) cut there.at there.stack) at
-    (subst (λ (v : Stack). KeptUpTo r text c.in_ok-clone-2.field-0.at v cut there.at there.stack) stack met.cut) in
+    let b = begun r text bs c.deref.result.now from c.in_ok-first.first c.in_ok-clone-2.field-0 c.deref.ensures.value c.in_ok-first.ensures.start
+    c.in_ok-clone-2.ensures.cases in
+    let are = b.cut cut there.at there.stack met.cut in
     let old : IsOldPlace r bs c.cut_to_meet.new.old = subst (λ (xs : List Block). IsOldPlace r xs c.cut_to_meet.new.old) c.deref-2.ensures.value met.old in
     let is : pieces_in c.put_pieces.new.blocks.items ≡ take n (pieces_in bs) ++ (cut ++ drop d (pieces_in bs)) =
     c.in_ok-put_pieces.ensures.pieces ∙ ap (λ (ls : List Kept). take n (pieces_in bs) ++ (ls ++ drop d (pieces_in bs))) c.deref-3.ensures.value in
-    changed r bs text from c.args.to c.args.size before t known n d cut there.at there.stack s.within are c.put_pieces.new.blocks.items is met.count
+    changed r bs text from c.args.to c.args.size before t known n d cut there.at there.stack b.is_start.within are c.put_pieces.new.blocks.items is met.count
     (spot_within bs c.cut_to_meet.new.old.spot.block c.cut_to_meet.new.old.spot.piece d old.spot)
     (omega (arith, met.replaced, old.at)) (ap (moved_place from c.args.to c.args.size) (sym old.at) ∙ met.place)
     (record { first = n; removed = d - n; inserted = c.len.result; start = c.in_ok-first.first.place.at; old_end = c.cut_to_meet.new.old.place.at; new_end = there.at })
-    refl refl (omega (arith, c.len.ensures, c.cut_to_meet.new.cut.pieces.ok.0)) s.place_at old.at refl
+    refl refl (omega (arith, c.len.ensures, c.cut_to_meet.new.cut.pieces.ok.0)) b.is_start.place_at old.at refl
 
 pub returns-clause-least : goal.returns-clause-least
 returns-clause-least c =
@@ -263,13 +258,8 @@ returns-clause-least c =
     let cut = c.cut_to_meet.new.cut.pieces.items in
     let there = c.cut_to_meet.new.cut.place in
     let met = c.in_ok-cut_to_meet.ensures in
-    let s : IsStart r bs from c.in_ok-first.first =
-    subst (λ (xs : List Block). IsStart r xs from c.in_ok-first.first) c.deref.ensures.value c.in_ok-first.ensures.start in
-    let at : c.in_ok-clone-2.field-0.at ≡ sizes (take n (pieces_in bs)) = ap (λ (p : Place). p.at) c.in_ok-clone-2.ensures.cases ∙ s.place_at in
-    let stack : c.in_ok-clone-2.field-0.stack ≡ after_pieces r (take n (pieces_in bs)) start = ap (λ (p : Place). p.stack) c.in_ok-clone-2.ensures.cases ∙ s.place_stack in
-    let are : KeptUpTo r text (sizes (take n (pieces_in bs))) (after_pieces r (take n (pieces_in bs)) start) cut there.at there.stack =
-    subst (λ (a : ℕ). KeptUpTo r text a (after_pieces r (take n (pieces_in bs)) start) cut there.at there.stack) at
-    (subst (λ (v : Stack). KeptUpTo r text c.in_ok-clone-2.field-0.at v cut there.at there.stack) stack met.cut) in
+    let b = begun r text bs c.deref.result.now from c.in_ok-first.first c.in_ok-clone-2.field-0 c.deref.ensures.value c.in_ok-first.ensures.start
+    c.in_ok-clone-2.ensures.cases in
     let is : pieces_in c.put_pieces.new.blocks.items ≡ take n (pieces_in bs) ++ (cut ++ drop d (pieces_in bs)) =
     c.in_ok-put_pieces.ensures.pieces ∙ ap (λ (ls : List Kept). take n (pieces_in bs) ++ (ls ++ drop d (pieces_in bs))) c.deref-3.ensures.value in
     let e : Edit = record { from = from; to = c.args.to; size = c.args.size } in
@@ -279,11 +269,11 @@ returns-clause-least c =
     (λ (xs : List Block). (i j : ℕ) → n ≤ i → i ≤ d → j ≤ length cut → AreMetAfter r e (pieces_in xs) c.in_ok-clone-2.field-0.at c.in_ok-clone-2.field-0.stack cut i j
     → (i ≡ d) × (j ≡ length cut)) c.deref-2.ensures.value met.first in
     let count : length (take n (pieces_in bs)) ≡ n =
-    length-take-le n (pieces_in bs) (spot_within bs c.in_ok-first.first.spot.block c.in_ok-first.first.spot.piece n s.spot) in
-    least r e (pieces_in bs) (pieces_in c.put_pieces.new.blocks.items) cut (drop d (pieces_in bs)) n d c.in_ok-clone-2.field-0.at c.in_ok-clone-2.field-0.stack is count at stack first_met
-    s.within met.count
+    length-take-le n (pieces_in bs) (spot_within bs c.in_ok-first.first.spot.block c.in_ok-first.first.spot.piece n b.is_start.spot) in
+    least r e (pieces_in bs) (pieces_in c.put_pieces.new.blocks.items) cut (drop d (pieces_in bs)) n d c.in_ok-clone-2.field-0.at c.in_ok-clone-2.field-0.stack is count b.at b.stack first_met
+    b.is_start.within met.count
     (record { first = n; removed = d - n; inserted = c.len.result; start = c.in_ok-first.first.place.at; old_end = c.cut_to_meet.new.old.place.at; new_end = there.at })
-    refl refl (omega (arith, c.len.ensures, c.cut_to_meet.new.cut.pieces.ok.0)) s.first
+    refl refl (omega (arith, c.len.ensures, c.cut_to_meet.new.cut.pieces.ok.0)) b.is_start.first
 
 pub returns-clause-cost : goal.returns-clause-cost
 returns-clause-cost c =

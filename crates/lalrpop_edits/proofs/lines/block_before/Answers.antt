@@ -1,7 +1,7 @@
 use Rattle.std.proofs.Common.{◌+◌, ℕ, length, drop, inl, refl, arith, sym, subst, ◌∙◌}
 use Rattle.std.proofs.lemmas.Option.{slice_get_read}
 use Rattle.lalrpop_edits.specs.Internal.BlockPlaces.{AreCounted}
-use Rattle.lalrpop_edits.proofs.Handing.{block_passed}
+use Rattle.lalrpop_edits.proofs.Finding.{block_passed}
 use Rattle.lalrpop_edits.proofs.LineLaws.{begin_mark, counted_next}
 use Rattle.lalrpop_edits.proofs.lines.block_before.Goals as goal
 

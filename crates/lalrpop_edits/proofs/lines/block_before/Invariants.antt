@@ -1,6 +1,6 @@
 use Rattle.std.proofs.Common.{◌≡◌, ◌≤◌, take, drop}
 use Rattle.lalrpop_edits.specs.Internal.BlockPlaces.{AreCounted, IsMark}
-use Rattle.lalrpop_edits.specs.Internal.Handing.{size_in}
+use Rattle.lalrpop_edits.specs.Internal.Blocks.{size_in}
 use Rattle.lalrpop_edits.proofs.lines.block_before.Given as goal
 
 -- the mark is the beginning of the next block

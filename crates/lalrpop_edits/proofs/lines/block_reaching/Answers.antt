@@ -3,7 +3,7 @@ use Rattle.std.proofs.lemmas.Option.{slice_get_read}
 use Rattle.bajofeki_rules.specs.Position.{IsBefore, position_of}
 use Rattle.bajofeki_rules.specs.declared.position.Position.{Position}
 use Rattle.lalrpop_edits.specs.Internal.BlockPlaces.{AreCounted}
-use Rattle.lalrpop_edits.proofs.Handing.{block_passed}
+use Rattle.lalrpop_edits.proofs.Finding.{block_passed}
 use Rattle.lalrpop_edits.proofs.LineLaws.{begin_mark, counted_next, none_before}
 use Rattle.lalrpop_edits.proofs.lines.block_reaching.Goals as goal
 

@@ -1,7 +1,7 @@
 use Rattle.std.proofs.Common.{length, refl, arith}
 use Rattle.std.proofs.lemmas.Option.{slice_get_read}
-use Rattle.lalrpop_edits.proofs.Handing.{block_passed}
-use Rattle.lalrpop_edits.proofs.lexed_text.find_block.Goals as goal
+use Rattle.lalrpop_edits.proofs.Finding.{block_passed}
+use Rattle.lalrpop_edits.proofs.pieces.find_block.Goals as goal
 
 pub loop-block-preserved : goal.loop-block-preserved
 loop-block-preserved c =
