@@ -8,7 +8,7 @@ use Rattle.lalrpop_edits.specs.Internal.Reach.{AreAlike}
 pub alike_less : (n m : ℕ) (text other : List ℕ) → n ≤ m → AreAlike m text other → AreAlike n text other
 alike_less n m text other le alike = sym (take-take n m text le) ∙ ap (take n) alike ∙ take-take n m other le
 
--- behind a place
+-- after a place
 pub alike_behind : (at n : ℕ) (text other : List ℕ) → AreAlike (at + n) text other → AreAlike n (drop at text) (drop at other)
 alike_behind at n text other alike = sym (drop-take at n text) ∙ ap (drop at) alike ∙ drop-take at n other
 

@@ -40,7 +40,7 @@ pub pieces_join : (bs cs : List Block) → pieces_in (bs ++ cs) ≡ pieces_in bs
 pieces_join [] cs = refl
 pieces_join (b ∷ bs) cs = ap (λ (ks : List Kept). b.pieces.items ++ ks) (pieces_join bs cs) ∙ sym (append_assoc b.pieces.items (pieces_in bs) (pieces_in cs))
 
--- the pieces before a block, those of the block, and those behind it
+-- the pieces before a block, those of the block, and those after it
 pub pieces_around : (bs : List Block) (n : ℕ) → pieces_in bs ≡ pieces_in (take n bs) ++ (pieces_at bs n ++ pieces_in (drop (suc n) bs))
 pieces_around [] zero = refl
 pieces_around [] (suc n) = refl
@@ -150,7 +150,7 @@ pub got_front : (ks ls : List Kept) (k : Kept) → slice_get ks 0 ≡ Some k →
 got_front [] ls k at = absurd (none-some k at)
 got_front (l ∷ ks) ls k at = at
 
--- what lies in front of a place, and behind it
+-- what lies in front of a place, and after it
 pub around : (front ks behind : List Kept) (n : ℕ) → front ++ (ks ++ behind) ≡ (front ++ take n ks) ++ (drop n ks ++ behind)
 around front ks behind n =
     ap (λ (ls : List Kept). front ++ (ls ++ behind)) (sym (take-append-drop n ks))
@@ -179,7 +179,7 @@ module _ (bs : List Block) (block piece count : ℕ) (spot : IsSpot bs block pie
   spot_within =
       omega (arith, spot_length, ap length spot_around, length-append (pieces_in (take block bs) ++ take piece (pieces_at bs block)) (drop piece (pieces_at bs block) ++ pieces_in (drop (suc block) bs)))
 
--- behind the last block there are no pieces
+-- after the last block there are no pieces
 pub none_at : (bs : List Block) (n : ℕ) → length bs ≤ n → pieces_at bs n ≡ []
 none_at [] n le = refl
 none_at (b ∷ bs) zero le = absurd (omega arith)

@@ -61,14 +61,14 @@ held_after old new gives = subst (λ (c : Chunked). IsHeldBack c) (sym gives.0) 
 
 -- ---- what has come
 
--- the bytes of a piece that is final, and the rest behind them
+-- the bytes of a piece that is final, and the rest after them
 front_of_rest : (c : Chunked) (x : Item) → IsFinal c x → c.rest ≡ slice_of x ++ drop (length (slice_of x)) c.rest
 front_of_rest c x final =
     let front = is_front (trees_in c.rules c.stack.mode) c.rules.precedences c.rules.skips (c.rest ++ []) 0 (placed 0 x) (final [] (λ _. refl)) in
     let split : c.rest ≡ slice_of x ++ front.0 = sym (append-nil c.rest) ∙ front.1.0 ∙ ap (λ (p : List ℕ). p ++ front.0) (slice_placed 0 x) in
     split ∙ ap (λ (t : List ℕ). slice_of x ++ t) (sym (ap (drop (length (slice_of x))) split ∙ drop_at (slice_of x) front.0 (length (slice_of x)) refl))
 
--- less is left behind a piece that is given, so a caller who asks for one after another comes to an end
+-- less is left after a piece that is given, so a caller who asks for one after another comes to an end
 pub given_less : (c d : Chunked) (x : Item) → GivesFinal c (Some x) d → length d.rest < length c.rest
 given_less c d x gives =
     let some = is_some (trees_in c.rules c.stack.mode) c.rules.precedences c.rules.skips (c.rest ++ []) 0 (placed 0 x) (gives.0 [] (λ _. refl)) in
@@ -118,7 +118,7 @@ fault_begins c d at slice gives = (
 
 -- ---- the pieces that were given
 
--- behind what was given lies the rest, and what comes
+-- after what was given lies the rest, and what comes
 left_behind : (r : ModeRules) (text more : List ℕ) (xs : List Item) (c : Chunked) → Came r text xs c → drop c.at (text ++ more) ≡ c.rest ++ more
 left_behind r text more xs c came =
     let so_far = came_rest r text xs c came in

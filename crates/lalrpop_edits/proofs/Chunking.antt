@@ -197,7 +197,7 @@ cutter_more r c memo mode at w text is here sound others = record {
         rw (one, same) sound
     by_mode m v there (inr other) = λ p i n noted. is.sound m v there p i n (others m p (at + i) n other noted)
 
--- and it may go on behind a front of the rest
+-- and it may go on after a front of the rest
 pub cutter_behind : (r : ModeRules) (c : Cutter) (at k : ℕ) (text : List ℕ) → k ≤ length text → IsCutter r c at text → IsCutter r c (at + k) (drop k text)
 cutter_behind r c at k text within is = record {
   count = is.count;
@@ -249,7 +249,7 @@ after_by actions None skipped at slice s = refl
 after_by actions (Some i) true at slice s = refl
 after_by actions (Some i) false at slice s = refl
 
--- the piece by this rule at the front of the rest is final, and what is left lies behind it
+-- the piece by this rule at the front of the rest is final, and what is left lies after it
 module _ (r : ModeRules) (last text rest : List ℕ) (given at size mode : ℕ) (s t : Stack) (over : Bool) (rule number : Option ℕ) (skipped : Bool) (slice : Bor (List ℕ))
     (same_rest : rest ≡ drop given text) (same_mode : mode ≡ s.mode) (same_rule : number ≡ rule) (within : size ≤ length rest)
     (same_slice : slice.now ≡ take size rest)

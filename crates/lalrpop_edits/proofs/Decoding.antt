@@ -16,7 +16,7 @@ use Rattle.std.proofs.lemmas.Str.{IsUtf8-nil, IsUtf8-append, IsUtf8-encode, leng
 use Rattle.std.specs.Char.{encode_utf8}
 use Rattle.lalrpop_edits.specs.Decoded.{NoCharacter, IsBegun, IsBad, Decoding, nothing_decoded, Splits, Decodes}
 
--- a byte that may be a character's first; that may be the second behind it; and that may be a later one
+-- a byte that may be a character's first; that may be the second after it; and that may be a later one
 abbrev first_fits : ℕ → Bool
 first_fits x = is_in_range 0xC2 0xF4 x
 
@@ -219,7 +219,7 @@ comes_whole (x ∷ y ∷ z ∷ []) none e =
     (order x 224)
 comes_whole (x ∷ y ∷ z ∷ w ∷ rest) none e = absurd (fault_in_four x y z w rest e)
 
--- ---- behind the longest text at the front
+-- ---- after the longest text at the front
 
 no_character : (bytes : List ℕ) → StartsWithNoChar bytes → NoCharacter bytes
 no_character bytes none n some within u =
@@ -289,7 +289,7 @@ bad_by bytes left n len v e same some = subst IsBad (sym same) (bad_behind bytes
 
 -- ---- laws
 
--- whatever comes behind bad bytes, they stay bad
+-- whatever comes after bad bytes, they stay bad
 pub bad_more : (left more : List ℕ) → IsBad left → IsBad (left ++ more)
 bad_more left more bad = (
   (λ empty. bad.0 (front_empty left more empty)),
@@ -316,7 +316,7 @@ some_byte : (left : List ℕ) → left ≢ [] → 0 < length left
 some_byte [] some = absurd (some refl)
 some_byte (x ∷ left) some = omega arith
 
--- behind a text, bytes that have begun a character, or bad ones: the text is the longest one at the front of all
+-- after a text, bytes that have begun a character, or bad ones: the text is the longest one at the front of all
 pub cut_behind : (text left : List ℕ) → IsUtf8 text → left ≢ [] → IsBegun left ⊎ IsBad left → IsValidUpTo (text ++ left) (length text)
 cut_behind text left u some kind =
     let more = some_byte left some in

@@ -15,7 +15,7 @@ pub alike_before : (text : List ℕ) (from to : ℕ) (new : List ℕ) → from �
 alike_before text from to new le =
     sym (take_at (take from text) (new ++ drop to text) from (omega (arith, length-take from text)))
 
--- and behind it they have the same rests
+-- and after it they have the same rests
 pub same_behind : (text : List ℕ) (from to : ℕ) (new : List ℕ) (k : ℕ) → from ≤ length text
     → drop (from + length new + k) (replaced text from to new) ≡ drop (to + k) text
 same_behind text from to new k le =
@@ -45,7 +45,7 @@ pub edited_alike : (before text : List ℕ) (from to size : ℕ) → IsEdited be
 edited_alike before text from to size (order, within, (new, (count, is))) =
     alike_before before from to new (omega (arith, order, within)) ∙ ap (take from) (sym is)
 
--- behind it they have the same rests
+-- after it they have the same rests
 pub edited_rest : (before text : List ℕ) (from to size at : ℕ) → IsEdited before text from to size → to ≤ at
     → drop at before ≡ drop (moved_place from to size at) text
 edited_rest before text from to size at (order, within, (new, (count, is))) behind =
@@ -60,7 +60,7 @@ pub edited_front : (r : ModeRules) (before text : List ℕ) (from to size : ℕ)
 edited_front r before text from to size s ks at t edited within are =
     kept_front r before text 0 s ks at t from (edited_alike before text from to size edited) within are
 
--- and so are those behind it, shifted
+-- and so are those after it, shifted
 pub edited_behind : (r : ModeRules) (before text : List ℕ) (from to size at : ℕ) (s : Stack) (ks : List Kept) (end : ℕ) (t : Stack)
     → IsEdited before text from to size → to ≤ at → end ≡ length before → KeptUpTo r before at s ks end t
     → KeptUpTo r text (moved_place from to size at) s ks (length text) t

@@ -18,7 +18,7 @@ use Rattle.lalrpop_edits.proofs.BlockLaws.{blocks_kept, blocks_marked, kept_size
 use Rattle.lalrpop_edits.proofs.Holding.{adds_none, adds_on, adds_one, all_within, are_in}
 use Rattle.lalrpop_edits.proofs.LineLaws.{kept_boundaries, marked_sizes, some_boundaries}
 
--- what lies in front of an element, the element, and what lies behind it
+-- what lies in front of an element, the element, and what lies after it
 split_at : {X : Type 0} (xs : List X) (n : ℕ) (x : X) → slice_get xs n ≡ Some x → xs ≡ take n xs ++ x ∷ drop (suc n) xs
 split_at [] n x e = absurd (cc)
 split_at {X} (y ∷ xs) zero x e = ap (λ (z : X). z ∷ xs) (same_Some y x e)
@@ -76,7 +76,7 @@ module _ (r : ModeRules) (text : List ℕ) (bs : List Block) (t : Stack) (are : 
     pub block_ends : size_in (take n bs) + b.size ≤ length text
     block_ends = omega (arith, all_within text (size_in (take n bs)) b.pieces.items block_bounds, block_bytes)
 
-    -- those of its pieces that hold a byte of the range come behind those of the blocks in front
+    -- those of its pieces that hold a byte of the range come after those of the blocks in front
     pub block_adds : (from to : ℕ) (old new : List Item) → AddsHolding from to [] old (items_from r.skips text 0 (pieces_in (take n bs)))
         → AddsHolding from to old new (items_from r.skips text (size_in (take n bs)) b.pieces.items)
         → AddsHolding from to [] new (items_from r.skips text 0 (pieces_in (take (n + 1) bs)))
@@ -91,7 +91,7 @@ module _ (r : ModeRules) (text : List ℕ) (bs : List Block) (t : Stack) (are : 
   -- ---- the piece that holds a byte
 
   module _ (b : Block) (from at : ℕ) (f : IsBlockAt bs b from at) where
-    -- the pieces of the block reach behind the byte
+    -- the pieces of the block reach after the byte
     pub block_reaches : at < from + sizes b.pieces.items
     block_reaches = omega (arith, f.behind, block_bytes f.number b f.there)
 

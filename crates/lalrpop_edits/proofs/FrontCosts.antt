@@ -99,7 +99,7 @@ walked_start w ts memo mode begin text here = record {
   distinct = tt;
 }
 
--- one more run, from the place on; what is found behind it ends at another
+-- one more run, from the place on; what is found after it ends at another
 pub walked_more : (w : Walker) (d : List Row) (ts : List Tree) (ps : List ℕ) (old mid new : Memo) (mode begin : ℕ) (text : List ℕ) (at to size before after far run : ℕ) (xs ys : List (ℕ × (ℕ × ℕ)))
     → IsWalkerOf w d → IsTrim d → RecognizesAll d ts ps → IsUtf8 text → IsCharBoundary text at → IsCharBoundary text to → at ≤ to
     → ((m p e : ℕ) → IsKnown old m p e → IsKnown mid m p e) → ((m p e : ℕ) → IsKnown mid m p e → IsKnown new m p e)

@@ -48,7 +48,7 @@ whole_pieces l to ys past are =
 pub each_holds : (l : Lexed) (from to : ℕ) (ys : List Item) → ArePiecesIn l from to ys → All (λ x. holds_byte from to x ≡ true) ys
 each_holds l from to ys are = subst (All (λ x. holds_byte from to x ≡ true)) (sym are.1.1) (filter_passes (holds_byte from to) are.0)
 
--- so the one that holds a byte begins at it or before it, and ends behind it
+-- so the one that holds a byte begins at it or before it, and ends after it
 pub holds_it : (l : Lexed) (at : ℕ) (x : Item) → ArePiecesIn l at (at + 1) (x ∷ []) → (start_of x ≤ at) × (at < start_of x + length (slice_of x))
 holds_it l at x are =
     let holds : max at (start_of x) < min (at + 1) (start_of x + length (slice_of x)) = ltb-true _ _ (All-head (λ y. holds_byte at (at + 1) y ≡ true) x [] (each_holds l at (at + 1) (x ∷ []) are)) in
@@ -160,7 +160,7 @@ module _ (from to : ℕ) where
         let xs = items_from skips text at ks in
         (xs, (same_list xs, sym (append-nil old) ∙ ap (λ (zs : List Item). old ++ zs) (sym (none_hold at ks fits none))))
 
-    -- those of some pieces, and then those of the pieces behind them
+    -- those of some pieces, and then those of the pieces after them
     pub adds_on : (a b c : List Item) (at : ℕ) (ks ls : List Kept) → AddsHolding from to a b (items_from skips text at ks)
         → AddsHolding from to b c (items_from skips text (at + sizes ks) ls) → AddsHolding from to a c (items_from skips text at (ks ++ ls))
     adds_on a b c at ks ls first later =

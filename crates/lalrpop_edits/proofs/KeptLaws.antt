@@ -124,7 +124,7 @@ kept_front r text text2 at s (k ∷ ks) to t reach alike within are =
       kept_front r text text2 (at + k.size) (after_kept r k s) ks to t reach alike within.1 are.1,
     )
 
--- behind: equal rests have the same, and nothing that is kept changes
+-- after: equal rests have the same, and nothing that is kept changes
 pub kept_behind : (r : ModeRules) (text text2 : List ℕ) (at at2 : ℕ) (s : Stack) (ks : List Kept) (n : ℕ) (t : Stack) → drop at text ≡ drop at2 text2
     → KeptUpTo r text at s ks (at + n) t → KeptUpTo r text2 at2 s ks (at2 + n) t
 kept_behind r text text2 at at2 s [] n t e here = (omega (arith, here.0), here.1)

@@ -77,7 +77,7 @@ counted_split text (b ∷ bs) cs are =
     let later = counted_split (drop b.size text) bs cs are.1 in
     ((are.0, later.0), subst (λ (t : List ℕ). AreCounted t cs) (drop-drop (size_in bs) b.size text) later.1)
 
--- blocks in front of a stretch that was replaced, those that came, and those behind
+-- blocks in front of a stretch that was replaced, those that came, and those after
 pub counted_around : (before text : List ℕ) (bs made : List Block) (f e begin old new : ℕ) → AreCounted before bs → AreSameAround before text begin old new
     → size_in (take f bs) ≤ begin → AreCounted (drop (size_in (take f bs)) text) made → old ≤ size_in (take e bs)
     → size_in (take f bs) + size_in made ≡ new + (size_in (take e bs) - old) → AreCounted text (take f bs ++ (made ++ drop e bs))
@@ -146,7 +146,7 @@ module _ (r : ModeRules) (bs made : List Block) (cut : List Kept) (f p c l q d e
       (subst (λ (n : ℕ). AreCounted (drop n text) made) (sym front_size) here) (omega (arith, old_end))
       (omega (arith, made_size, old_end, cut_from, sizes_join (take c (pieces_in bs)) cut))
 
--- all pieces in the end, as those in front of the blocks that change, those of these blocks, and those behind
+-- all pieces in the end, as those in front of the blocks that change, those of these blocks, and those after
 pub joined_all : (bs : List Block) (cut : List Kept) (f p c l q d : ℕ) → IsSpot bs f p c → IsSpot bs l q d
     → take c (pieces_in bs) ++ (cut ++ drop d (pieces_in bs))
     ≡ pieces_in (take f bs) ++ ((take p (pieces_at bs f) ++ (cut ++ drop q (pieces_at bs l))) ++ pieces_in (drop (suc l) bs))
@@ -164,7 +164,7 @@ kept_boundaries r text ks to t u are n =
     let ends : p.0 ≡ sizes (take n ks) = omega (arith, (kept_sizes r text 0 start (take n ks) p.0 p.1.0 p.1.1.0).0) in
     subst (IsCharBoundary text) ends (kept_boundary r text 0 start (take n ks) p.0 p.1.0 (IsCharBoundary-start text u) u p.1.1.0)
 
--- so do some of them, behind those in front
+-- so do some of them, after those in front
 pub some_boundaries : (text : List ℕ) (front ks behind : List Kept) → ((n : ℕ) → IsCharBoundary text (sizes (take n (front ++ (ks ++ behind))))) → (n : ℕ)
     → IsCharBoundary text (sizes front + sizes (take n ks))
 some_boundaries text front ks behind each n =
@@ -224,7 +224,7 @@ none_before text m place u mark before n boundary le less same =
     not_before (position_of text n) place same
     (before_trans (position_of text n) m.place place (subst (IsBefore (position_of text n)) (sym mark.place) ascends) before)
 
--- and behind one that doesn't lie before it none has it
+-- and after one that doesn't lie before it none has it
 pub none_behind : (text : List ℕ) (m : Mark) (place : Position) → IsUtf8 text → IsMark text m → ¬ IsBefore m.place place → (n : ℕ) → IsCharBoundary text n → m.at < n
     → position_of text n ≢ place
 none_behind text m place u mark not n boundary less same =

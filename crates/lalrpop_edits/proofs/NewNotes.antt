@@ -61,7 +61,7 @@ crossing_there begin at at2 c text rest rest2 utf8 cut is further apart =
 
 -- ---- along the text
 
--- what was noted up to a place in the text, behind its first `off` bytes: all of what was read in vain, or all before the place
+-- what was noted up to a place in the text, after its first `off` bytes: all of what was read in vain, or all before the place
 pub record AreNoted (w : Walker) (old new : Memo) (mode at : ℕ) (text vain more : List ℕ) (off place : ℕ) (rest : List ℕ) : Type 0 where
   pub done : ℕ
   pub news : List (ℕ × (ℕ × ℕ))

@@ -114,7 +114,7 @@ module _ (w : Walker) (d : List Row) (ts : List Tree) (ps : List ℕ) (walks : I
   right_kind u k None is right = absurd is
   right_kind u k (Some r) is right = subst (IsRightKind ts ps u) is right
 
-  -- what the place behind a word says is right
+  -- what the place after a word says is right
   pub says_right : (u : List ℕ) → All (λ c. c < 1114112) u → IsRightKind ts ps u (says w (behind w u))
   says_right u scalars = right_kind u (says w (behind w u)) (slice_get d (after d u)) (walks u scalars) (h.kinds u)
 
@@ -125,7 +125,7 @@ module _ (w : Walker) (d : List Row) (ts : List Tree) (ps : List ℕ) (walks : I
   one_kind k l None is same = absurd is
   one_kind k l (Some r) is same = sym is ∙ same
 
-  -- behind a word at which the walk rejects, no tree matches
+  -- after a word at which the walk rejects, no tree matches
   pub none_after_reject : (u v : List ℕ) → All (λ c. c < 1114112) u → says w (behind w u) ≡ Reject → ¬ Matched ts (u ++ v)
   none_after_reject u v scalars reject =
       none_behind d ts ps h u v (same_kind (says w (behind w u)) Reject (slice_get d (after d u)) reject (walks u scalars))
@@ -272,7 +272,7 @@ over_open w p c n v below neither (inl o) = let both : Reject ≡ Neither = sym 
 over_open w p c n v below neither (inr (inl o)) = let both : Reject ≡ Neither = sym o.1 ∙ neither in cc
 over_open w p c n v below neither (inr (inr o)) = o.1
 
--- one more pair was noted, behind a front of the text
+-- one more pair was noted, after a front of the text
 pub noted_sound : (w : Walker) (m n : Memo) (mode at place size to : ℕ) (text rest : List ℕ) (i : ℕ) → IsCut text i rest → to ≡ at + i → IsOver w place (chars rest) size
     → ((a p e k : ℕ) → IsNoted n a p e k → IsNoted m a p e k ⊎ ((a ≡ mode) × (p ≡ place) × (e ≡ to) × (k ≡ size)))
     → (begin j : ℕ) (all : List ℕ) → begin + j ≡ at → j ≤ length all → drop j all ≡ text → IsSound w m mode begin all → IsSound w n mode begin all

@@ -1,4 +1,4 @@
--- The piece at a place: what is kept of it, the stack of modes behind it, what it costs, and when it is too large to be kept.
+-- The piece at a place: what is kept of it, the stack of modes after it, what it costs, and when it is too large to be kept.
 use Rattle.std.proofs.Common.{◌≡◌, ◌≢◌, ℕ, ◌+◌, ◌-◌, ◌<◌, ◌≤◌, ◌⊎◌, inl, inr, Bool, List, [], ◌∷◌, ◌++◌, length, take, drop, if◌then◌else◌, refl, sym, ap, subst, ◌∙◌, arith, eq-eqb, ne_eqb, length-drop}
 use Rattle.std.specs.Prelude.{Option, Some, None, IsSomeAnd, slice_get}
 use Rattle.std.specs.Str.{chars, IsCharBoundary}

@@ -67,7 +67,7 @@ token_reaches ts text at place None i bytes is = is
 token_reaches ts text at place (Some false) i bytes is = is
 token_reaches ts text at place (Some true) i bytes is = is
 
--- from a place in the fault, or right behind it
+-- from a place in the fault, or right after it
 fault_reads : (ts : List Tree) (text : List ℕ) (at place size : ℕ) → at ≤ length text → IsCharBoundary text place → at + size < place
     → ReadsOn ts (take (place - at) (drop at text)) None size
     → (k : ℕ) × ((at ≤ k) × (k ≤ at + size) × IsCharBoundary text k × ReadsTo ts text k place)

@@ -56,7 +56,7 @@ module _ (r : ModeRules) (bs : List Block) (text : List ℕ) (from to size : ℕ
   pub old_from : from < 2 ^ 63
   old_from = omega (arith, old.edited.0, old.edited.1, old.fits)
 
-  -- in front of a place, and behind it
+  -- in front of a place, and after it
   pub front_kept : (n : ℕ) → KeptUpTo r before 0 start (take n (pieces_in bs)) (sizes (take n (pieces_in bs))) (after_pieces r (take n (pieces_in bs)) start)
   front_kept n =
       let p = kept_split r before 0 start (take n (pieces_in bs)) (drop n (pieces_in bs)) (length before) t
@@ -123,12 +123,12 @@ joined_fit bs cut f p c l q d first last =
       sizes_join (drop q (pieces_at bs l)) (pieces_in (drop (suc l) bs)),
     )
 
--- behind the block of the last spot
+-- after the block of the last spot
 pub ends_same : (bs : List Block) (l e : ℕ) → (e ≡ l + 1) ⊎ ((length bs ≤ l) × (length bs ≤ e)) → drop e bs ≡ drop (suc l) bs
 ends_same bs l e (inl is) = let same : e ≡ suc l = omega (arith, is) in ap (λ (n : ℕ). drop n bs) same
 ends_same bs l e (inr past) = drop_all e bs past.1 ∙ sym (drop_all (suc l) bs (omega (arith, past.0)))
 
--- the blocks in front of the first spot's, those that were made, and those behind the last spot's
+-- the blocks in front of the first spot's, those that were made, and those after the last spot's
 module _ (bs made : List Block) (cut : List Kept) (f p c l q d e : ℕ) (first : IsSpot bs f p c) (last : IsSpot bs l q d) (ends : drop e bs ≡ drop (suc l) bs)
     (items : pieces_in made ≡ take p (pieces_at bs f) ++ (cut ++ drop q (pieces_at bs l))) where
   pub joined_pieces : pieces_in (take f bs ++ (made ++ drop e bs)) ≡ take c (pieces_in bs) ++ (cut ++ drop d (pieces_in bs))
@@ -141,7 +141,7 @@ module _ (bs made : List Block) (cut : List Kept) (f p c l q d e : ℕ) (first :
       ∙ ap (λ (ks : List Kept). ks ++ (cut ++ (drop q (pieces_at bs l) ++ pieces_in (drop (suc l) bs)))) (sym (spot_front bs f p c first))
       ∙ ap (λ (ks : List Kept). take c (pieces_in bs) ++ (cut ++ ks)) (sym (spot_behind bs l q d last))
 
-  -- and what the blocks say is true, if the stacks are the same behind them, or no block is there
+  -- and what the blocks say is true, if the stacks are the same after them, or no block is there
   module _ (r : ModeRules) where
     stack_behind : after_pieces r (take c (pieces_in bs) ++ cut) start ≡ after_pieces r (take d (pieces_in bs)) start
         → after_pieces r (pieces_in made) (after_pieces r (pieces_in (take f bs)) start) ≡ after_pieces r (pieces_in (take (suc l) bs)) start
@@ -186,7 +186,7 @@ module _ (r : ModeRules) (bs : List Block) (text : List ℕ) (from to size : ℕ
       kept_join r text 0 start (take c (pieces_in bs)) (sizes (take c (pieces_in bs))) (after_pieces r (take c (pieces_in bs)) start) cut at s
       (front_stays r bs text from to size before t old c within) are
 
-  -- the texts are the same in front of what was cut, and behind it
+  -- the texts are the same in front of what was cut, and after it
   pub same_around : to ≤ sizes (take d (pieces_in bs)) → moved_place from to size (sizes (take d (pieces_in bs))) ≡ at
       → AreSameAround before text (sizes (take c (pieces_in bs))) (sizes (take d (pieces_in bs))) (sizes (take c (pieces_in bs) ++ cut))
   same_around replaced moved =

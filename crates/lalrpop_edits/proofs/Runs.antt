@@ -43,7 +43,7 @@ module _ (d : List Row) (ts : List Tree) (ps : List ℕ) (h : RecognizesAll d ts
   stays p [] reject = reject
   stays p (c ∷ w) reject = stays (step d p c) w (h.stays p c reject)
 
-  -- behind a word that leads to a state that rejects no tree matches
+  -- after a word that leads to a state that rejects no tree matches
   pub none_behind : (v w : List ℕ) → IsReject d (after d v) → ¬ Matched ts (v ++ w)
   none_behind v w reject =
       unmatched ts ps (v ++ w) (slice_get d (after d (v ++ w))) (subst (IsReject d) (sym (run_append d 0 v w)) (stays (after d v) w reject)) (h.kinds (v ++ w))

@@ -1,4 +1,4 @@
--- Where a run has read so far that nothing behind can matter, the piece depends on what was read alone.
+-- Where a run has read so far that nothing after can matter, the piece depends on what was read alone.
 use Rattle.std.proofs.Common.{◌≡◌, ℕ, ◌+◌, ◌<◌, ◌≤◌, ◌⊎◌, ⊎_elim, inl, inr, List, ◌++◌, length, take, drop, arith, refl, sym, ap, subst, ◌∙◌, append_assoc, length-append, length-drop}
 use Rattle.std.specs.Prelude.{Option, Some, None, IfSome, IfNone}
 use Rattle.std.specs.Str.{chars, IsUtf8, IsCharBoundary}

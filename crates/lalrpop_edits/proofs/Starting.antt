@@ -79,7 +79,7 @@ first_next bs from p place m s b is at lt marked fits count =
 
 -- ---- the start
 
--- it is in front of the first piece that depends on something from `from` on, or behind all pieces
+-- it is in front of the first piece that depends on something from `from` on, or after all pieces
 module _ (bs : List Block) (block piece count from at : ℕ) (b : Block) (s : Stack) (spot : IsSpot bs block piece count) (is : pieces_at bs block ≡ b.pieces.items)
     (here : at ≤ from) (marked : IsMarked s b) (within : AreWithin from at (take piece b.pieces.items))
     (stops : block + 1 < length bs → from < at + b.reach) where

@@ -24,7 +24,7 @@ boundary_before before text new from to r u v e =
     (IsCharBoundary-at_seam text (take from before) (new ++ drop to before) (e ∙ replaced_is before new from to)
     (IsUtf8-append new (drop to before) v (IsUtf8-drop before to u r.ends)))
 
--- and behind them
+-- and after them
 pub boundary_behind : (before text new : List ℕ) (from to : ℕ) → IsRange before from to → IsUtf8 before → text ≡ replace_range before from to new
     → IsCharBoundary text (from + length new)
 boundary_behind before text new from to r u e =

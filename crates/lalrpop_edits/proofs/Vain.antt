@@ -44,7 +44,7 @@ over_opens w p n (c ∷ v) (b ∷ a ∷ z) y (inr (inr (neither, (m, (size, o)))
     (over_opens w (next_of w p c) m v (a ∷ z) y o left (omega arith)
     (omega (arith, size, below, ap (λ (x : ℕ). length (encode_utf8 x)) first, length-append (encode_utf8 b) (encode_utf8_all (a ∷ z)))))
 
--- and so it is behind each longer front of the text
+-- and so it is after each longer front of the text
 module _ (w : Walker) (text : List ℕ) (end n m : ℕ) (cut : IsCut text end (drop end text)) (over : IsOver w (behind w (chars (take end text))) (chars (drop end text)) m)
     (above : end < n) (below : n < end + m) (within : n ≤ length text) where
   open_along : GoesOn text (drop end text) end (take n text) → says w (behind w (chars (take n text))) ≡ Neither
@@ -61,7 +61,7 @@ module _ (w : Walker) (text : List ℕ) (end n m : ℕ) (cut : IsCut text end (d
   open_behind utf8 =
       open_along (goes_on text (drop end text) end (take n text) cut (drop n text, (sym (take-append-drop n text), utf8)) (omega (arith, length-take n text, within, above)))
 
--- the match has as many bytes as the run stood behind
+-- the match has as many bytes as the run stood after
 pub stand_size : (w : Walker) (text : List ℕ) (end place : ℕ) (best : Option (ℕ × List ℕ)) → IsStand w text end place best → size_of best ≡ end
 stand_size w text end place None h = omega (arith, h.last, length-take end text, h.within)
 stand_size w text end place (Some m) h = omega (arith, ap length h.last.1, length-take end text, h.within)
@@ -91,7 +91,7 @@ unknown_open w m mode at place [] u some = absurd (omega (arith, some))
 unknown_open w m mode at place (c ∷ []) u some = u.0
 unknown_open w m mode at place (c ∷ b ∷ v) u some = unknown_open w m mode (at + length (encode_utf8 c)) (next_of w place c) (b ∷ v) u.2 (omega arith)
 
--- a run that stood behind the first `end` bytes read these characters since, up to the byte `at`
+-- a run that stood after the first `end` bytes read these characters since, up to the byte `at`
 pub record IsVainTo (w : Walker) (m : Memo) (mode begin : ℕ) (text : List ℕ) (end there at place : ℕ) (rest v : List ℕ) : Type 0 where
   pub bytes : end + length (encode_utf8_all v) ≡ at
   pub reached : place ≡ behind_from w there v
@@ -119,7 +119,7 @@ vain_more w m mode begin text end there at at2 place place2 c rest rest2 v h wor
           (subst (λ (p : ℕ). (begin + at) / 64 ≢ (begin + at2) / 64 → ¬ IsKnown m mode p (begin + at2)) led new)));
     }
 
--- the run ends behind one more character, or where the text ends
+-- the run ends after one more character, or where the text ends
 pub vain_stop : (w : Walker) (m : Memo) (mode begin : ℕ) (text : List ℕ) (end there at place read : ℕ) (rest v : List ℕ) → IsVainTo w m mode begin text end there at place rest v
     → at ≤ read → read ≤ at + 4 → read ≤ length text → IsVain w m mode begin text end there read v
 vain_stop w m mode begin text end there at place read rest v h from to within = record {
@@ -136,7 +136,7 @@ if_none (Some x) P h never = absurd (never x refl)
 
 -- ---- where they end in the text
 
--- what is left of a text behind its first characters
+-- what is left of a text after its first characters
 left_behind : (rest v more : List ℕ) → IsUtf8 rest → chars rest ≡ v ++ more → (left : List ℕ) × ((rest ≡ encode_utf8_all v ++ left) × IsUtf8 left)
 left_behind rest [] more utf8 e = (rest, (refl, utf8))
 left_behind rest (c ∷ v) more utf8 e =

@@ -43,7 +43,7 @@ pub behind_from_append : (w : Walker) (place : ℕ) (v u : List ℕ) → behind_
 behind_from_append w place [] u = refl
 behind_from_append w place (c ∷ v) u = behind_from_append w (next_of w place c) v u
 
--- a word and what is behind it
+-- a word and what is after it
 pub behind_append : (w : Walker) (v u : List ℕ) → behind w (v ++ u) ≡ behind_from w (behind w v) u
 behind_append w v u = behind_from_append w (first_of w) v u
 
@@ -216,11 +216,11 @@ edges_of d p ts other s well stored o tests =
     }
 
 module _ (d : List Row) (p : ℕ) (ts : List (Range × ℕ)) (other : ℕ) (edges : AreEdges d p ts other) (k next : ℕ) (passed : EndBefore ts k next) where
-  -- values before the next test, and behind those before it, lead along the other edge
+  -- values before the next test, and after those before it, lead along the other edge
   pub by_others : (c : ℕ) → next ≤ c → ((t : Range × ℕ) → slice_get ts k ≡ Some t → c < t.0.start) → step d p c ≡ other
   by_others c from behind = edges.leads c ∙ leads_between ts edges.ascending k other c (λ j t l e. omega (arith, passed j t l e)) behind
 
-  -- at the end each value behind the tests does
+  -- at the end each value after the tests does
   pub by_others_last : (c : ℕ) → length ts ≤ k → next ≤ c → step d p c ≡ other
   by_others_last c end from = by_others c from (λ t e. absurd (omega (arith, slice_get_within ts k t e)))
 

@@ -17,7 +17,7 @@ use Rattle.lalrpop_edits.specs.declared.error.EditError.{EditError}
 use Rattle.lalrpop_edits.specs.declared.error.EditError.TheVariants.{NoBoundary, TooLarge, OutOfMemory}
 
 -- by which rules the text is cut; the piece that was given last, unless more has come since; what has come and is in no piece that was given;
--- how many bytes were given, and the stack of modes behind them; and whether no more comes
+-- how many bytes were given, and the stack of modes after them; and whether no more comes
 pub record Chunked : Type 0 where
   pub rules : ModeRules
   pub last : List ℕ

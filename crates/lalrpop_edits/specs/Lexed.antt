@@ -70,7 +70,7 @@ IsChange old new c = (xs ys : List Item) → ArePiecesOf old xs → ArePiecesOf 
 abbrev pub end_of : ℕ → List Item → ℕ
 end_of n xs = length (joined (take n xs))
 
--- the first i old pieces and the first j new ones end at one place behind what was replaced, in the same modes
+-- the first i old pieces and the first j new ones end at one place after what was replaced, in the same modes
 pub record MeetAt (actions : List (List Action)) (from to size : ℕ) (xs ys : List Item) (i j : ℕ) : Type 0 where
   pub behind : to ≤ end_of i xs
   pub same : from + size + (end_of i xs - to) ≡ end_of j ys
@@ -85,15 +85,15 @@ IsEarliest old new from to size c = (xs ys : List Item) → ArePiecesOf old xs �
 abbrev pub ReadsTo : List Tree → List ℕ → ℕ → ℕ → Type 0
 ReadsTo ts text at to = (at ≤ to) × ((v : List ℕ) × Matched ts (chars (take (to - at) (drop at text)) ++ v))
 
--- what is at the place may change the piece: it ends there or behind; or all up to there begins a word that some tree matches, from where a token begins on,
--- or from a place in a fault or right behind it
+-- what is at the place may change the piece: it ends there or after; or all up to there begins a word that some tree matches, from where a token begins on,
+-- or from a place in a fault or right after it
 abbrev pub Reaches : List Tree → List ℕ → ℕ → Item → Type 0
 Reaches ts text place (Token token) = (place ≤ token.start + length token.slice.now) ⊎ ReadsTo ts text token.start place
 Reaches ts text place (Skipped token) = (place ≤ token.start + length token.slice.now) ⊎ ReadsTo ts text token.start place
 Reaches ts text place (Fault at slice) =
     (place ≤ at + length slice.now) ⊎ ((k : ℕ) × ((at ≤ k) × (k ≤ at + length slice.now) × IsCharBoundary text k × ReadsTo ts text k place))
 
--- the first piece behind those that stay reaches what was replaced: in front of it no piece is cut anew that needn't be
+-- the first piece after those that stay reaches what was replaced: in front of it no piece is cut anew that needn't be
 abbrev pub FirstReaches : Lexed → ℕ → Change → Type 0
 FirstReaches old from c = (xs : List Item) → ArePiecesOf old xs → (x : Item) → slice_get xs c.first ≡ Some x
     → Reaches (trees_in old.rules (after_all old.rules.actions (take c.first xs) start).mode) old.text from x

@@ -60,7 +60,7 @@ fn end_of(text: &str) -> Position
     }
 }
 
-// The block of these pieces of the text, which begin at the place: from then on that is behind them.
+// The block of these pieces of the text, which begin at the place: from then on that is after them.
 fn block_of(
     alloc: Global,
     lexer: &RuleLexer,
@@ -108,7 +108,7 @@ fn share(left: usize, most: usize) -> usize
     }
 }
 
-// The blocks of these pieces of the text, which begin at the place: from then on that is behind them.
+// The blocks of these pieces of the text, which begin at the place: from then on that is after them.
 pub(crate) fn blocks_of(
     alloc: Global,
     lexer: &RuleLexer,

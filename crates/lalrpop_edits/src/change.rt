@@ -4,13 +4,13 @@
 ///
 /// ```
 /// let change = text.edit(alloc, 4..5, "yz")?; // "let x" becomes "let yz"
-/// let repaint = &text.text()[change.start..change.new_end]; // " yz", if the space depends on the character behind it
+/// let repaint = &text.text()[change.start..change.new_end]; // " yz", if the space depends on the character after it
 /// ```
 #[derive(Clone, Copy, Debug, PartialEq, Eq)]
 pub struct Change {
     /// How many pieces at the front stay.
     pub first: usize,
-    /// How many old pieces behind those are gone.
+    /// How many old pieces after those are gone.
     pub removed: usize,
     /// How many pieces came in their place. All others are the old ones, shifted.
     pub inserted: usize,

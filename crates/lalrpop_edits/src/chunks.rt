@@ -150,7 +150,7 @@ fn final_front(
     None
 }
 
-// Whether nothing matches at the front of the rest, whatever comes behind it, if anything may.
+// Whether nothing matches at the front of the rest, whatever comes after it, if anything may.
 fn nothing_matches(alloc: Global, lexer: &Lexer, rest: &str, is_ended: bool) -> bool
     ensures yes { result ≡ true → (more : List ℕ) → (is_ended ≡ true → more ≡ [])
         → NoMatchBefore lexer.now.trees (rest.now ++ more) 1 }
@@ -303,7 +303,7 @@ impl<'rules> Chunks<'rules> {
         &self.text[self.last..self.given]
     }
 
-    /// Whether a fault begins at the front of what has come and is in no piece, whatever comes behind it. How long the fault is
+    /// Whether a fault begins at the front of what has come and is in no piece, whatever comes after it. How long the fault is
     /// may not be known yet.
     pub fn begins_fault(&self) -> bool
         ensures yes { result ≡ true → BeginsFault self.now }

@@ -33,7 +33,7 @@ impl Model for TextDecoder {
     ghost invariant = { λ d. IsBegun d.begun.items };
 }
 
-// Bytes, cut behind the longest text at their front.
+// Bytes, cut after the longest text at their front.
 #[derive(Clone, Copy)]
 struct Front<'bytes> {
     text: &'bytes str,
@@ -77,7 +77,7 @@ impl TextDecoder {
         }
     }
 
-    /// Whether a byte has come that is of no character. What came before it was given; what comes behind it isn't.
+    /// Whether a byte has come that is of no character. What came before it was given; what comes after it isn't.
     pub fn is_broken(&self) -> bool
         ensures broken { result ≡ self.now.is_broken }
     {

@@ -139,7 +139,7 @@ fn pieces_of(blocks: &[Block], number: usize) -> &[Kept]
 }
 
 // The pieces of the blocks that change: those of the first block in front of the one spot, those that were cut, and those of the
-// last block behind the other spot.
+// last block after the other spot.
 fn joined_pieces(
     alloc: Global,
     blocks: &[Block],
@@ -228,7 +228,7 @@ fn put_pieces(
 
 /// Cuts anew what an edit changed of the pieces of a text: the text is the new one, and the blocks those of the old one, of which the
 /// bytes from `from` to `to` gave way to `size` others. It begins at the first piece that depends on something from `from` on, and
-/// ends where an old piece begins behind `to`, in the same modes.
+/// ends where an old piece begins after `to`, in the same modes.
 ///
 /// # Errors
 ///

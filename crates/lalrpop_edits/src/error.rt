@@ -14,7 +14,7 @@ use thiserror::Error;
 /// ```
 #[derive(Clone, Copy, Debug, PartialEq, Eq, Drop, Error)]
 pub enum EditError {
-    /// The range isn't one of whole characters of the text: it begins behind its end, or begins or ends inside a character or
+    /// The range isn't one of whole characters of the text: it begins after its end, or begins or ends inside a character or
     /// past the end of the text.
     #[error("the range isn't one of whole characters of the text")]
     NoBoundary,

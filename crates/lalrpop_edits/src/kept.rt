@@ -13,7 +13,7 @@ pub(crate) struct Kept {
     pub(crate) rule: u32,
     // How many bytes it has.
     pub(crate) size: u32,
-    // How many bytes behind it it depends on at most; one more than there are if it depends on where the text ends.
+    // How many bytes after it it depends on at most; one more than there are if it depends on where the text ends.
     pub(crate) past: u32,
 }
 

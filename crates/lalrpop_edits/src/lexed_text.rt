@@ -107,9 +107,9 @@ fn edit_parts(
 /// A text with its pieces by rules with modes, which stay those of the text whatever is edited. Beside the text it keeps 12 bytes
 /// for each piece.
 ///
-/// An edit cuts anew from the first piece that depends on what is replaced up to the first place behind it where an old piece
+/// An edit cuts anew from the first piece that depends on what is replaced up to the first place after it where an old piece
 /// begins in the same modes; all other pieces are kept. How far a piece depends is how far the automaton read to find it: a comment
-/// that is never closed, for one, makes the piece at its beginning depend on the end of the text, so each edit behind it cuts from
+/// that is never closed, for one, makes the piece at its beginning depend on the end of the text, so each edit after it cuts from
 /// there.
 ///
 /// ```
@@ -247,7 +247,7 @@ impl<'rules> LexedText<'rules> {
         )
     }
 
-    /// The pieces that hold a byte of the range, in order; one that the range cuts is given whole. Of an empty range, and behind the
+    /// The pieces that hold a byte of the range, in order; one that the range cuts is given whole. Of an empty range, and after the
     /// text, there are none; all of them hold a byte of `0..text.text().len()`. What it takes is a sum over the blocks, as for
     /// `position`, and a walk along those with a byte of the range.
     ///
@@ -279,7 +279,7 @@ impl<'rules> LexedText<'rules> {
         position_in(&self.text, &self.blocks, at)
     }
 
-    /// The byte offset of a line and column, both from 1; the column may be the one behind the last character of its line. `None`
+    /// The byte offset of a line and column, both from 1; the column may be the one after the last character of its line. `None`
     /// if the text has no such place. It takes as long as `position`.
     pub fn offset(&self, place: Position) -> Option<usize>
         ensures some { IfSome result (λ at. IsCharBoundary self.now.text at

@@ -1,5 +1,5 @@
 //! A text that is edited, and its pieces, by rules with modes. After an edit only those pieces are cut anew that depend on what
-//! was replaced, and those up to the first place behind it where an old piece begins in the same modes.
+//! was replaced, and those up to the first place after it where an old piece begins in the same modes.
 #![tactic(auto)]
 
 mod block;

@@ -38,7 +38,7 @@ pub(crate) struct Old {
     pub(crate) place: Place,
 }
 
-// What was cut: the pieces, and the place behind them.
+// What was cut: the pieces, and the place after them.
 #[derive(Drop)]
 pub(crate) struct Cut {
     pub(crate) pieces: Vec<Kept>,
@@ -53,7 +53,7 @@ pub(crate) struct Edit {
     pub(crate) size: usize,
 }
 
-// The next piece behind the spot, which passes it; or `None` if no piece is left.
+// The next piece after the spot, which passes it; or `None` if no piece is left.
 fn next_piece(blocks: &[Block], spot: &mut Spot) -> Option<Kept>
     requires spot { IsSpot blocks.now spot.old.block spot.old.piece spot.old.count }
     requires fits { length (pieces_in blocks.now) < 2 ^ 63 }
@@ -129,7 +129,7 @@ fn next_turn(edit: &Edit, end: usize, old: &Place, cut: &Place) -> Turn
     Turn::PassOn
 }
 
-/// Cuts the text until an old place behind what was replaced is met, with the same stack; or else the end of the text. Nothing
+/// Cuts the text until an old place after what was replaced is met, with the same stack; or else the end of the text. Nothing
 /// is cut yet.
 ///
 /// # Errors

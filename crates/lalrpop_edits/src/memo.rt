@@ -9,7 +9,7 @@ use std::collections::BTreeMap;
 /// How many bytes lie between one place where something is noted and the next.
 pub(crate) const STRIDE: usize = 64;
 
-/// From which places of a walk no match comes. Runs that read on behind their last match note it wherever a character ends that goes
+/// From which places of a walk no match comes. Runs that read on after their last match note it wherever a character ends that goes
 /// on past a multiple of 64 bytes, so that a later run which comes there stops.
 #[derive(Drop)]
 pub(crate) struct Memo {
@@ -30,7 +30,7 @@ impl Memo {
         }
     }
 
-    /// How many bytes behind the character from `from` to `to` settle that no match comes from the place, if that was noted.
+    /// How many bytes after the character from `from` to `to` settle that no match comes from the place, if that was noted.
     #[inline(always)]
     pub(crate) fn known(&self, mode: usize, place: usize, from: usize, to: usize) -> Option<usize>
         ensures known { IfSome result (λ n. IsNoted self.now mode place to n) }

@@ -58,7 +58,7 @@ fn find_block(blocks: &[Block], at: usize) -> Option<(&Block, usize)>
     None
 }
 
-// What is kept of the piece that holds the byte, and where it begins. The first one begins at `start`, not behind the byte.
+// What is kept of the piece that holds the byte, and where it begins. The first one begins at `start`, not after the byte.
 fn find_piece(pieces: &[Kept], start: usize, at: usize) -> Option<(Kept, usize)>
     requires order { start ≤ at }
     ensures found { IfSome result (λ f. IsPieceAt pieces.now start f.0 f.1 at) }

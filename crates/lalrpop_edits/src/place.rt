@@ -35,7 +35,7 @@ impl Clone for Place {
     }
 }
 
-/// Passes the piece, which begins at the place: from then on the place is behind it. No text has 2^64 bytes.
+/// Passes the piece, which begins at the place: from then on the place is after it. No text has 2^64 bytes.
 ///
 /// # Errors
 ///

@@ -18,8 +18,8 @@ use std::alloc::Global;
 /// ```
 /// use lalrpop_edits::SettledToken;
 ///
-/// let found = SettledToken::of(alloc, &numbers, "12 + 3"); // `12`; the space behind it shows that it ends there
-/// let stays = found.reach <= 3; // true: whatever comes behind the space, the token is the same
+/// let found = SettledToken::of(alloc, &numbers, "12 + 3"); // `12`; the space after it shows that it ends there
+/// let stays = found.reach <= 3; // true: whatever comes after the space, the token is the same
 /// ```
 #[derive(Clone, Copy, Debug)]
 pub struct SettledToken<'text> {

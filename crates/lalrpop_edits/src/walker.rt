@@ -72,7 +72,7 @@ impl<'a> Walker<'a> {
         }
     }
 
-    /// The place that the character of the text at the byte `at` leads to, which moves behind it.
+    /// The place that the character of the text at the byte `at` leads to, which moves after it.
     #[inline(always)]
     pub(crate) fn read(&self, place: usize, text: &str, at: &mut usize) -> usize
         requires right { IsRight self.now }

@@ -44,7 +44,7 @@ match_goes_no_further ts m closed (inr (zero, (begins, before, (v, (some, longer
 match_goes_no_further ts m closed (inr (suc k, (begins, inl e, more))) = absurd (omega (arith, e))
 match_goes_no_further ts m closed (inr (suc k, (begins, inr before, more))) = before 0 (omega arith) m
 
--- nothing matches at `b`, and `a` matches behind it, however it goes on
+-- nothing matches at `b`, and `a` matches after it, however it goes on
 fault_ends_at_a_match : (ts : List Tree) → MatchesAt ts (codes "ba") 1 → ((v : List ℕ) → ¬ Matched ts (codes "ba" ++ v)) → ¬ IsOpen ts (codes "ba")
 unfolding chars
 fault_ends_at_a_match ts m closed (inl none) = none 1 (omega arith) m

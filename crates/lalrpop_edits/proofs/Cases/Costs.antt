@@ -59,7 +59,7 @@ word_goes_on = record {
 no_word : (w : List ℕ) → ¬ Matched [] w
 no_word w m = absurd (cc (m.1.1.0))
 
--- where there are no words, nothing is read behind what is cut
+-- where there are no words, nothing is read after what is cut
 no_word_goes_on : (text : List ℕ) (to far : ℕ) → to < far → ¬ IsReadTo no_rules text 0 to far
 no_word_goes_on text to far more is = by_place is.reads
   where

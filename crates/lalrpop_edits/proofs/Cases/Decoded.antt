@@ -104,7 +104,7 @@ fault = (
   (λ e. (0xFF ∷ [], (refl, (letter, inr (of_no_character, refl))))),
 )
 
--- and behind it nothing is given
+-- and after it nothing is given
 nothing_behind_a_fault : Decodes broken (codes "a") [] broken
 nothing_behind_a_fault = ((λ e. (refl, refl)), (λ e. absurd (true≢false e)))
 

@@ -76,7 +76,7 @@ ab_whole : IsUtf8 (codes "ab")
 unfolding lib.Utf8.encode
 ab_whole = (97 ∷ 98 ∷ [], (refl, refl))
 
--- behind the token `a` the byte was read that begins `abc`
+-- after the token `a` the byte was read that begins `abc`
 token_read_on : ReadsOn (a ∷ abc ∷ []) (codes "ab") (Some 0) 1
 unfolding chars
 token_read_on = (99 ∷ [], (1, (abc, (refl, refl))))
@@ -92,7 +92,7 @@ no_longer_token : ¬ ReadsOn (a ∷ b ∷ []) (codes "ab") (Some 0) 1
 unfolding chars
 no_longer_token on = begins_no_longer_word on.0 on.1
 
--- right behind the fault `c`
+-- right after the fault `c`
 fault_read_on : ReadsOn (b ∷ abc ∷ []) (codes "cab") None 1
 unfolding chars
 fault_read_on = (1, (omega arith, (omega arith, λ within high. omega (arith, high)), (99 ∷ [], (1, (abc, (refl, refl))))))
@@ -132,7 +132,7 @@ begins_no_abc v m = by_tree (one_of_two a abc (97 ∷ 98 ∷ 100 ∷ v) m)
     by_tree (inl e) = let n : suc (suc (suc (length v))) ≡ 1 = ap length e in omega (arith, n)
     by_tree (inr e) = let n : 100 ≡ 99 = ap (λ (w : List ℕ). get_or w 2 0) e in omega (arith, n)
 
--- nothing begins with all three, so no byte behind them may be read
+-- nothing begins with all three, so no byte after them may be read
 fourth_byte_read_in_vain : ¬ IsReadFor (a ∷ abc ∷ []) (codes "abde") (Some 0) 1 4
 unfolding chars
 fourth_byte_read_in_vain reads = let on = reads 3 (omega arith) (omega arith) (omega arith) abd_whole in begins_no_abc on.0 on.1
@@ -154,7 +154,7 @@ token_and_nothing_behind is = record {
 byte_too_many : ¬ IsKept (two a b) 0 (codes "abb") (piece 0 1 2)
 byte_too_many kept = no_longer_token (kept.reads 2 (omega arith) (omega arith) (omega arith) ab_whole)
 
--- where `ab` matches too, it depends on the byte behind it: `ac` may become `ab`
+-- where `ab` matches too, it depends on the byte after it: `ac` may become `ab`
 byte_behind_is_missing : ¬ IsKept (two a ab) 0 (codes "ac") (piece 0 1 0)
 byte_behind_is_missing kept = let is = kept.front (codes "ab") refl in let le = is.1.1.0.1 (codes "ab") ab_matches in omega (arith, is.1.0, le)
 

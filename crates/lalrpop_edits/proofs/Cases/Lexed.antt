@@ -80,7 +80,7 @@ placed_two p q e = ap (λ (n : ℕ). Fault 5 p ∷ Fault (5 + n) q ∷ []) (ap l
 abbrev first_replaced : Change
 first_replaced = record { first = 0; removed = 1; inserted = 1; start = 0; old_end = 2; new_end = 3 }
 
--- `ab` became `abc`, and the space behind it stayed
+-- `ab` became `abc`, and the space after it stayed
 one_of_two_changed : (p q p2 q2 : Bor (List ℕ)) → p.now ≡ codes "ab" → q.now ≡ codes " " → p2.now ≡ codes "abc" → q2.now ≡ codes " "
     → IsChangeOf (Token (record { index = 0; slice = p; start = 0 }) ∷ Skipped (record { index = 1; slice = q; start = 2 }) ∷ [])
     (Token (record { index = 0; slice = p2; start = 0 }) ∷ Skipped (record { index = 1; slice = q2; start = 3 }) ∷ []) first_replaced
@@ -104,7 +104,7 @@ changed_bytes_told_as_kept : (p p2 : Bor (List ℕ)) → p.now ≡ codes "a" →
 changed_bytes_told_as_kept p p2 e f c =
     let n : 97 ≡ 98 = ap (λ (bytes : List ℕ). get_or bytes 0 0) (sym e ∙ c.front.0.1 ∙ f) in omega (arith, n)
 
--- nor is one more piece behind
+-- nor is one more piece after
 one_more_told_as_none : (p q : Bor (List ℕ))
     → ¬ IsChangeOf (Fault 0 p ∷ []) (Fault 0 p ∷ Fault 1 q ∷ []) (record { first = 1; removed = 0; inserted = 0; start = 1; old_end = 1; new_end = 1 })
 one_more_told_as_none p q c = c.behind
@@ -123,7 +123,7 @@ text_left_over r are = absurd (cc (are.1.0))
 
 -- ---- no further than needed
 
--- `c` was put behind `ab`
+-- `c` was put after `ab`
 met_behind : (p p2 : Bor (List ℕ)) → p.now ≡ codes "ab" → p2.now ≡ codes "abc" → MeetAt [] 2 2 1 (Fault 0 p ∷ []) (Fault 0 p2 ∷ []) 1 1
 met_behind p p2 e f = record { behind = rw e (omega arith); same = rw e (rw f refl); stack = refl }
 
@@ -183,7 +183,7 @@ end_of_a_token ts text p e = inl (omega (arith, ap length e))
 abbrev abc : Tree
 abc = literal (97 ∷ 98 ∷ 99 ∷ [])
 
--- and those behind it, as long as a longer word may come
+-- and those after it, as long as a longer word may come
 longer_word_may_come : (p : Bor (List ℕ)) → Reaches (a ∷ abc ∷ []) (codes "xabd") 3 (Token (record { index = 0; slice = p; start = 1 }))
 unfolding chars
 longer_word_may_come p = inr (omega arith, (99 ∷ [], (1, (abc, (refl, refl)))))
@@ -192,7 +192,7 @@ no_longer_word : (p : Bor (List ℕ)) → p.now ≡ codes "a" → ¬ Reaches (a 
 no_longer_word p e (inl within) = omega (arith, within, ap length e)
 no_longer_word p e (inr r) = no_word_begun r
 
--- a word may come right behind the fault `x`
+-- a word may come right after the fault `x`
 word_behind_a_fault : (p : Bor (List ℕ)) → p.now ≡ codes "x" → Reaches (a ∷ abc ∷ []) (codes "xabd") 3 (Fault 0 p)
 unfolding chars
 word_behind_a_fault p e =

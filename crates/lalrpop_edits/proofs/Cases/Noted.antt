@@ -30,12 +30,12 @@ accepting_is_last c below = refl
 no_byte_behind_b : IsOver walk 1 (97 ∷ []) 0
 no_byte_behind_b = inl (refl, accepting_is_last)
 
--- a `c` behind an `a` settles that no match comes, and two bytes are read
+-- a `c` after an `a` settles that no match comes, and two bytes are read
 a_and_c : IsOver walk 0 (97 ∷ 99 ∷ []) 2
 unfolding lib.Utf8.encode
 a_and_c = inr (inr (refl, (1, (refl, inr (inl (refl, refl))))))
 
--- where the text ends behind an `a`, a match may come, so its end is read too
+-- where the text ends after an `a`, a match may come, so its end is read too
 a_and_the_end : IsOver walk 0 (97 ∷ []) 2
 unfolding lib.Utf8.encode
 a_and_the_end = inr (inr (refl, (1, (refl, inr (refl, (98, (omega arith, λ e. cc)))))))

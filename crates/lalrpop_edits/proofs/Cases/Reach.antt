@@ -35,7 +35,7 @@ alike_in_two_bytes = refl
 not_in_three : ¬ AreAlike 3 (codes "abc") (codes "abd")
 not_in_three e = let n : 99 ≡ 100 = ap (λ (v : List ℕ). get_or v 2 0) e in omega (arith, n)
 
--- where the one ends is seen by the byte behind
+-- where the one ends is seen by the byte after
 end_unseen : AreAlike 2 (codes "ab") (codes "abc")
 end_unseen = refl
 

@@ -18,7 +18,7 @@ abbrev pub AreCounted : List ℕ → List Block → Type 0
 AreCounted text [] = Unit {0}
 AreCounted text (b ∷ bs) = IsCounted text b × AreCounted (drop b.size text) bs
 
--- the texts have the same bytes in front of the one place, and behind the other, which lies at `old` in the one text and at `new` in the other
+-- the texts have the same bytes in front of the one place, and after the other, which lies at `old` in the one text and at `new` in the other
 pub record AreSameAround (before text : List ℕ) (start old new : ℕ) : Type 0 where
   pub front : take start before ≡ take start text
   pub behind : drop old before ≡ drop new text

@@ -20,7 +20,7 @@ pub record IsOld (r : ModeRules) (bs : List Block) (text : List ℕ) (from to si
   pub counted : AreCounted before bs
 
 -- the pieces ks of the text before became the pieces ls of the text: the first ones stay, then some went and others came in their place, and
--- the rest stay; each place of the change is where the pieces in front of it end; and up to the first place, and behind the others, the texts have the same bytes
+-- the rest stay; each place of the change is where the pieces in front of it end; and up to the first place, and after the others, the texts have the same bytes
 pub record IsKeptChange (r : ModeRules) (before text : List ℕ) (ks ls : List Kept) (c : Change) : Type 0 where
   pub removed : c.first + c.removed ≤ length ks
   pub inserted : c.first + c.inserted ≤ length ls

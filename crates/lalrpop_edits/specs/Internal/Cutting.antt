@@ -16,6 +16,6 @@ abbrev pub IsEdited : List ℕ → List ℕ → ℕ → ℕ → ℕ → Type 0
 IsEdited before text from to size =
     (from ≤ to) × (to ≤ length before) × ((new : List ℕ) × ((length new ≡ size) × (text ≡ replaced before from to new)))
 
--- where a place behind what was replaced lies in the new text
+-- where a place after what was replaced lies in the new text
 abbrev pub moved_place : ℕ → ℕ → ℕ → ℕ → ℕ
 moved_place from to size at = from + size + (at - to)

@@ -25,12 +25,12 @@ abbrev pub IsFront : List Tree → List ℕ → List ℕ → Option ℕ → List
 IsFront ts ps text (Some i) slice = IsLongest ts ps text (Some (i, slice)) × IsOnlyStrongest ts ps (chars slice) i
 IsFront ts ps text None slice = IsFault ts text slice
 
--- all that was seen begins a word that some tree matches: from where the token begins on; or from a place in the fault, of this size, or right behind it
+-- all that was seen begins a word that some tree matches: from where the token begins on; or from a place in the fault, of this size, or right after it
 abbrev pub ReadsOn : List Tree → List ℕ → Option ℕ → ℕ → Type 0
 ReadsOn ts seen (Some i) size = (v : List ℕ) × Matched ts (chars seen ++ v)
 ReadsOn ts seen None size = (k : ℕ) × ((k ≤ size) × IsCharBoundary seen k × ((v : List ℕ) × Matched ts (chars (drop k seen) ++ v)))
 
--- a piece of this rule and size depends on no more bytes of the text than it has to: so does all that was seen behind it, before the last character
+-- a piece of this rule and size depends on no more bytes of the text than it has to: so does all that was seen after it, before the last character
 abbrev pub IsReadFor : List Tree → List ℕ → Option ℕ → ℕ → ℕ → Type 0
 IsReadFor ts text rule size reach = (n : ℕ) → size < n → n < reach → n ≤ length text → IsUtf8 (take n text) → ReadsOn ts (take n text) rule size
 

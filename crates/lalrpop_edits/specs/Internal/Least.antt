@@ -9,7 +9,7 @@ use Rattle.lalrpop_edits.specs.declared.meet.Edit.{Edit}
 use Rattle.lalrpop_edits.specs.Internal.Blocks.{sizes, after_pieces}
 use Rattle.lalrpop_edits.specs.Internal.Meeting.{new_place}
 
--- the first i of the old pieces ks and the first j of the new ones ls end at one place behind what was replaced, with the same stack
+-- the first i of the old pieces ks and the first j of the new ones ls end at one place after what was replaced, with the same stack
 pub record AreMetAt (r : ModeRules) (e : Edit) (ks ls : List Kept) (i j : ℕ) : Type 0 where
   pub behind : e.to ≤ sizes (take i ks)
   pub same : new_place e (sizes (take i ks)) ≡ sizes (take j ls)

@@ -1,4 +1,4 @@
--- The old pieces, which are met behind an edit.
+-- The old pieces, which are met after an edit.
 use Rattle.std.specs.Prelude.{◌≡◌, ℕ, ◌+◌, ◌≤◌, ◌<◌, List, length, take, drop}
 use Rattle.bajofeki_rules.specs.Stack.{Stack, start}
 use Rattle.lalrpop_rules.specs.Modes.{ModeRules}
@@ -19,31 +19,31 @@ pub record IsOldPlace (r : ModeRules) (bs : List Block) (o : Old) : Type 0 where
   pub at : o.place.at ≡ sizes (take o.spot.count (pieces_in bs))
   pub stack : o.place.stack ≡ after_pieces r (take o.spot.count (pieces_in bs)) start
 
--- where a place behind what was replaced lies in the new text
+-- where a place after what was replaced lies in the new text
 abbrev pub new_place : Edit → ℕ → ℕ
 new_place e at = moved_place e.from e.to e.size at
 
--- from each place behind what was replaced on, the old pieces ks are those of this text too
+-- from each place after what was replaced on, the old pieces ks are those of this text too
 pub record AreOld (r : ModeRules) (text : List ℕ) (e : Edit) (ks : List Kept) : Type 0 where
   pub within : e.to ≤ sizes ks
   pub ends : new_place e (sizes ks) ≡ length text
   pub behind : (n : ℕ) → e.to ≤ sizes (take n ks)
       → KeptUpTo r text (new_place e (sizes (take n ks))) (after_pieces r (take n ks) start) (drop n ks) (length text) (after_pieces r ks start)
 
--- both places lie behind what was replaced and are the same one in the new text, with the same stack
+-- both places lie after what was replaced and are the same one in the new text, with the same stack
 pub record AreMet (e : Edit) (old cut : Place) : Type 0 where
   pub behind : e.to ≤ old.at
   pub at : new_place e old.at ≡ cut.at
   pub stack : old.stack ≡ cut.stack
 
--- what is to be done is right: they are met; or they aren't, and the old place lies behind the one where the text is cut, which isn't at the end; or
+-- what is to be done is right: they are met; or they aren't, and the old place lies after the one where the text is cut, which isn't at the end; or
 -- the old place lies before what was replaced, or before that one, or the text is cut to its end
 abbrev pub IsTurn : Edit → ℕ → Place → Place → Turn → Type 0
 IsTurn e end old cut Meet = AreMet e old cut
 IsTurn e end old cut CutOn = (cut.at < end) × (e.to ≤ old.at) × (cut.at ≤ new_place e old.at) × ¬ AreMet e old cut
 IsTurn e end old cut PassOn = (e.to ≤ old.at → cut.at ≤ new_place e old.at → end ≤ cut.at) × ¬ AreMet e old cut
 
--- the first i of the old pieces ks and the first j of the pieces cs, which begin at this place and stack, end at one place behind what was replaced, with the
+-- the first i of the old pieces ks and the first j of the pieces cs, which begin at this place and stack, end at one place after what was replaced, with the
 -- same stack
 pub record AreMetAfter (r : ModeRules) (e : Edit) (ks : List Kept) (at : ℕ) (s : Stack) (cs : List Kept) (i j : ℕ) : Type 0 where
   pub behind : e.to ≤ sizes (take i ks)

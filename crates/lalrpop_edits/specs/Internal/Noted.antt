@@ -35,7 +35,7 @@ abbrev pub GoesOn : Walker → ℕ → Type 0
 GoesOn w p = (c : ℕ) × ((c < 1114112) × ¬ (says w (next_of w p c) ≡ Reject))
 
 -- from the place on no nonempty front of the characters leads to a match, and n bytes settle that: the walk rejects what they hold,
--- or whatever comes behind them; or they are one more than there are, and more may match
+-- or whatever comes after them; or they are one more than there are, and more may match
 abbrev pub IsOver : Walker → ℕ → List ℕ → ℕ → Type 0
 IsOver w p [] n = ((n ≡ 0) × IsLast w p) ⊎ ((n ≡ 1) × GoesOn w p)
 IsOver w p (c ∷ v) n =
@@ -52,7 +52,7 @@ abbrev pub MatchedLast : Walker → List ℕ → ℕ → Option (ℕ × List ℕ
 MatchedLast w seen p None = length seen ≡ 0
 MatchedLast w seen p (Some m) = (0 < length seen) × (m.1 ≡ seen) × (says w p ≡ Accepts m.0)
 
--- a run of the text stood there, behind its first `end` bytes, when it last matched, or else where it began
+-- a run of the text stood there, after its first `end` bytes, when it last matched, or else where it began
 pub record IsStand (w : Walker) (text : List ℕ) (end place : ℕ) (best : Option (ℕ × List ℕ)) : Type 0 where
   pub within : end ≤ length text
   pub seen : IsUtf8 (take end text)

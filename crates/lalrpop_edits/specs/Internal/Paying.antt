@@ -23,7 +23,7 @@ size_of (Some m) = length m.1
 
 -- ---- notes
 
--- of a text that begins at the byte `begin` of a longer one: a character ends behind its first n bytes, and is the first one there that goes on past a multiple of
+-- of a text that begins at the byte `begin` of a longer one: a character ends after its first n bytes, and is the first one there that goes on past a multiple of
 -- 64 bytes of the longer text, or ends at one
 pub record IsCrossing (begin : ℕ) (text : List ℕ) (n : ℕ) : Type 0 where
   pub boundary : IsCharBoundary text n
@@ -54,7 +54,7 @@ AreUnknown w m mode at place (c ∷ v) =
     × ((at / 64 ≢ (at + length (encode_utf8 c)) / 64) → ¬ IsKnown m mode (next_of w place c) (at + length (encode_utf8 c)))
     × AreUnknown w m mode (at + length (encode_utf8 c)) (next_of w place c) v
 
--- these characters were read in vain behind the first `end` bytes of the text, of which `read` were read; and one more, unless the text ends there
+-- these characters were read in vain after the first `end` bytes of the text, of which `read` were read; and one more, unless the text ends there
 pub record IsVain (w : Walker) (m : Memo) (mode begin : ℕ) (text : List ℕ) (end place read : ℕ) (vain : List ℕ) : Type 0 where
   pub within : read ≤ length text
   pub front : (more : List ℕ) × (chars (drop end text) ≡ vain ++ more)
@@ -73,7 +73,7 @@ pub record IsRunPaid (w : Walker) (old new : Memo) (mode begin : ℕ) (text : Li
 
 -- ---- the piece at the front of a text
 
--- n steps are owed: none, or those of the match behind the fault, which the next piece is
+-- n steps are owed: none, or those of the match after the fault, which the next piece is
 abbrev pub IsOwedBehind : List Tree → List ℕ → List ℕ → Front → ℕ → ℕ → Type 0
 IsOwedBehind ts ps text f far n =
     (n ≡ 0) ⊎ ((f.rule ≡ None) × (f.size + n ≤ far) × ((i : ℕ) × ((slice : List ℕ) × ((length slice ≡ n) × IsLongest ts ps (drop f.size text) (Some (i, slice))))))

@@ -61,7 +61,7 @@ pub record IsMet (w : Walker) (place : ℕ) : Type 0 where
   pub scalars : All (λ c. c < 1114112) word
   pub reached : place ≡ behind w word
 
--- behind each word of characters the walk says what the automaton says
+-- after each word of characters the walk says what the automaton says
 abbrev pub IsWalkerOf : Walker → List Row → Type 0
 IsWalkerOf w d = (word : List ℕ) → All (λ c. c < 1114112) word → IsSomeAnd (slice_get d (after d word)) (λ r. r.kind ≡ says w (behind w word))
 

@@ -28,7 +28,7 @@ pub returns-then-not-is_before-clause-reaches : goal.returns-then-not-is_before-
 returns-then-not-is_before-clause-reaches c =
     none_behind c.args.text.now c.loop-c.mark c.args.place c.utf8.text c.loop-c.invariant.mark (λ before. true≢false (sym (c.if-not-is_before.ensures.before.1 before)))
 
--- the text is cut behind the character too
+-- the text is cut after the character too
 cut_behind : (text rest rest2 : List ℕ) (at c size : ℕ) → IsUtf8 text → IsCut text at rest → rest ≡ encode_utf8 c ++ rest2 → size ≡ length (encode_utf8 c)
     → IsCut text (at + size) rest2 × ((at + size ≤ length text) × IsCharBoundary text (at + size))
 cut_behind text rest rest2 at c size u cut step is =
