@@ -61,7 +61,7 @@ fn says_warnings(alloc: Global, bytes: &[u8], wanted: &str) -> bool {
     let Ok(file) = read_rules(alloc, bytes) else {
         return false;
     };
-    match warnings_message(alloc, "f", &file) {
+    match warnings_message(alloc, "f", bytes, &file) {
         Ok(said) => said.as_str() == wanted,
         Err(_) => false,
     }
@@ -77,7 +77,7 @@ fn warnings_of_rules_are_said(rt: HostRuntime) {
         ),
         (
             b"A = /{D}/\n  D part = /[0-9]/\n[M]\nB = ''\n",
-            "tokens: f:2:3: warning: no pattern below uses the part {D}\ntokens: f: warning: no rule enters the mode M\ntokens: f:4:6: warning: this literal is empty, and no token is\n",
+            "tokens: f:2:3: warning: no pattern below uses the part {D}\ntokens: f:3:1: warning: no rule enters the mode M\ntokens: f:4:6: warning: this literal is empty, and no token is\n",
         ),
     ];
     for (bytes, said) in rows {

@@ -306,6 +306,10 @@ fn the_automata_of_modes_and_of_a_rule_are_drawn(rt: HostRuntime) {
 const TWO_MODES: &[u8] =
     b"{\"file\":\"mode.rules\",\"kind\":\"automaton\",\"mode\":\"INITIAL\",\"states\":4,\"least_states\":3,\"past\":1}\n{\"file\":\"mode.rules\",\"kind\":\"automaton\",\"mode\":\"TEXT\",\"states\":3,\"least_states\":3,\"past\":1}\n";
 
+// The mode TEXT, which no rule enters, begins in line 2.
+const WARNED_MODES: &[u8] =
+    b"{\"file\":\"mode.rules\",\"line\":2,\"column\":1,\"kind\":\"mode-not-entered\",\"mode\":\"TEXT\"}\n{\"file\":\"mode.rules\",\"kind\":\"automaton\",\"mode\":\"INITIAL\",\"states\":4,\"least_states\":3,\"past\":1}\n{\"file\":\"mode.rules\",\"kind\":\"automaton\",\"mode\":\"TEXT\",\"states\":3,\"least_states\":3,\"past\":1}\n";
+
 #[test]
 fn rules_are_reviewed(rt: HostRuntime) {
     let rows: &[(&[&str], &[u8], &[u8], u8)] = &[
@@ -315,12 +319,7 @@ fn rules_are_reviewed(rt: HostRuntime) {
             b"",
             0,
         ),
-        (
-            &["--json", "mode.rules", "--check"],
-            TWO_MODES,
-            b"tokens: mode.rules: warning: no rule enters the mode TEXT\n",
-            1,
-        ),
+        (&["--json", "mode.rules", "--check"], WARNED_MODES, b"", 1),
         (
             &["--quiet", "--json", "mode.rules", "--check"],
             TWO_MODES,
@@ -384,7 +383,7 @@ fn warnings_are_said(rt: HostRuntime) {
         (
             &["--html", "mode.rules", "g"],
             b"<span class=\"WORD\">x</span>",
-            b"tokens: mode.rules: warning: no rule enters the mode TEXT\n",
+            b"tokens: mode.rules:2:1: warning: no rule enters the mode TEXT\n",
             0,
         ),
         (
@@ -406,7 +405,7 @@ fn warnings_are_said(rt: HostRuntime) {
 }
 
 const FOUR: &[u8] =
-    b"tokens: refused.rules:1:1: warning: no pattern below uses the part {D}\ntokens: refused.rules: warning: no rule enters the mode M\ntokens: refused.rules: warning: no rule enters the mode N\ntokens: refused.rules:5:18: warning: this literal is empty, and no token is\n";
+    b"tokens: refused.rules:1:1: warning: no pattern below uses the part {D}\ntokens: refused.rules:4:1: warning: no rule enters the mode M\ntokens: refused.rules:4:1: warning: no rule enters the mode N\ntokens: refused.rules:5:18: warning: this literal is empty, and no token is\n";
 
 #[test]
 fn warnings_stand_before_the_answer(rt: HostRuntime) {

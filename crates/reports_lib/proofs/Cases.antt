@@ -3,6 +3,7 @@ mod Answer
 mod Compared
 mod FileRules
 mod ItemLines
+mod ModePlace
 mod Reasons
 mod ReviewJson
 mod ReviewLines

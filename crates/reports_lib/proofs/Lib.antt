@@ -6,6 +6,8 @@ pub mod Steps
 pub mod ReviewMembers
 -- clashes
 pub mod ClashLineLaws
+-- the sections of a file of rules
+pub mod ModePlaces
 -- reviews
 pub mod ReviewLaws
 -- two files that are compared

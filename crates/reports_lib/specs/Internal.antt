@@ -1,3 +1,4 @@
 -- What private functions promise one another.
 pub mod Commas
+pub mod ModePlaces
 pub mod RuleNames

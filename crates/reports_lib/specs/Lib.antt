@@ -2,6 +2,7 @@ pub mod Answer
 pub mod Compared
 pub mod FileRules
 pub mod ItemLines
+pub mod ModePlace
 pub mod Reasons
 pub mod ReportedFile
 pub mod ReviewJson

@@ -75,6 +75,28 @@ impl Reply {
         })
     }
 
+    /// This answer, after another one.
+    ///
+    /// # Errors
+    ///
+    /// `AllocError` if a request for memory was refused.
+    pub fn following(self, first: Reply) -> Result<Reply, AllocError>
+        ensures followed { IfOk result (λ reply. reply ≡ followed first self) }
+    {
+        let Reply {
+            status,
+            mut out,
+            mut err,
+        } = first;
+        out.extend_from_slice(&self.out)?;
+        err.push_str(&self.err)?;
+        Ok(Reply {
+            status: status.max(self.status),
+            out,
+            err,
+        })
+    }
+
     /// The exit status.
     pub fn status(&self) -> u8
         ensures status { result ≡ self.now.status }

@@ -9,8 +9,8 @@ use lalrpop_lexer::lexer::dfa::NfaIndex;
 use lalrpop_rules::ModeRule;
 use std::marker::Model;
 
-// A place for a number that no rule has.
-const NO_PLACE: Position = Position { line: 1, column: 1 };
+/// A place for a number that no rule, part or mode has.
+pub(crate) const NO_PLACE: Position = Position { line: 1, column: 1 };
 
 /// What a report says of a file of rules.
 #[derive(Debug, Drop)]

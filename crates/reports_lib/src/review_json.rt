@@ -267,8 +267,12 @@ fn write_clash(
     write_word(alloc, writer, "text", &clash.word)
 }
 
-// An object that is begun, on a line of its own.
-fn begun_object(alloc: Global) -> Result<Writer, AllocError>
+/// An object that is begun, on a line of its own.
+///
+/// # Errors
+///
+/// `AllocError` if a request for memory was refused.
+pub(crate) fn begun_object(alloc: Global) -> Result<Writer, AllocError>
     ensures tokens { IfOk result (λ writer. writer.tokens ≡ begin_object ∷ []) }
     ensures before { IfOk result (λ writer. writer.before ≡ []) }
 {
@@ -277,8 +281,12 @@ fn begun_object(alloc: Global) -> Result<Writer, AllocError>
     Ok(writer)
 }
 
-// Ends the object and its line.
-fn ended_line(mut writer: Writer) -> Result<Vec<u8>, AllocError>
+/// Ends the object and its line.
+///
+/// # Errors
+///
+/// `AllocError` if a request for memory was refused.
+pub(crate) fn ended_line(mut writer: Writer) -> Result<Vec<u8>, AllocError>
     ensures { IfOk result (λ line. line.items
         ≡ writer.before ++ (print (writer.tokens ++ end_object ∷ []) ++ codes "\n")) }
 {

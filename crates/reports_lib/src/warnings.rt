@@ -1,15 +1,18 @@
 //! What is said of what a file of rules says, but surely doesn't mean.
 ghost use Rattle.std.specs.Prelude.{◌≡◌, map, string_bytes, IfOk};
+ghost use Rattle.bajofeki_rules.specs.Lines.{lines};
+ghost use Rattle.lalrpop_rule_file.specs.RuleFile.{without_mark as without_mark_of};
 ghost use Rattle.reports_lib.specs.ItemLines.{name_at};
 ghost use Rattle.reports_lib.specs.Reasons.{place_at};
 ghost use Rattle.reports_lib.specs.Warned.{SaysWarnings, text_place, warned_at, warned_of, warning_line};
+ghost use Rattle.reports_lib.specs.Internal.ModePlaces.{section_at};
+ghost use Rattle.reports_lib.specs.declared.layout.LineForm.TheVariants.{Plain};
 
+use crate::mode_place::mode_place;
+use crate::reported_file::NO_PLACE;
 use lalrpop_lexer::Position;
-use lalrpop_rule_file::{FileRule, PartLine, RuleFile, Warning};
+use lalrpop_rule_file::{FileRule, PartLine, RuleFile, Warning, without_mark};
 use std::alloc::{AllocError, Global};
-
-// A place for a number that no part and no rule has.
-const NO_PLACE: Position = Position { line: 1, column: 1 };
 
 // A warning about the whole file.
 fn warned_of(alloc: Global, name: &str, words: &str) -> Result<String, AllocError>
@@ -26,8 +29,8 @@ fn warned_at(alloc: Global, name: &str, place: Position, words: &str) -> Result<
     format!(in alloc; "tokens: {name}:{line}:{column}: warning: {words}\n")
 }
 
-// The name of the part with this index.
-fn part_name<'text>(parts: &[PartLine<'text>], part: usize) -> &'text str
+/// The name of the part with this index.
+pub(crate) fn part_name<'text>(parts: &[PartLine<'text>], part: usize) -> &'text str
     ensures { result.now ≡ name_at (map (λ p. p.name.now) parts.now) part }
 {
     match parts.get(part) {
@@ -36,8 +39,8 @@ fn part_name<'text>(parts: &[PartLine<'text>], part: usize) -> &'text str
     }
 }
 
-// Where its line begins the name.
-fn part_place(parts: &[PartLine<'_>], part: usize) -> Position
+/// Where its line begins the name.
+pub(crate) fn part_place(parts: &[PartLine<'_>], part: usize) -> Position
     ensures { result ≡ place_at (map (λ p. p.place) parts.now) part }
 {
     match parts.get(part) {
@@ -46,8 +49,8 @@ fn part_place(parts: &[PartLine<'_>], part: usize) -> Position
     }
 }
 
-// The name of the mode with this number.
-fn mode_name<'text>(modes: &[&'text str], mode: usize) -> &'text str
+/// The name of the mode with this number.
+pub(crate) fn mode_name<'text>(modes: &[&'text str], mode: usize) -> &'text str
     ensures { result.now ≡ name_at (map (λ name. name.now) modes.now) mode }
 {
     match modes.get(mode) {
@@ -56,8 +59,8 @@ fn mode_name<'text>(modes: &[&'text str], mode: usize) -> &'text str
     }
 }
 
-// Where the text of the rule with this index begins.
-fn text_place(rules: &[FileRule<'_>], rule: usize) -> Position
+/// Where the text of the rule with this index begins.
+pub(crate) fn text_place(rules: &[FileRule<'_>], rule: usize) -> Position
     ensures { result ≡ place_at (map (λ r. r.place) rules.now) rule }
 {
     match rules.get(rule) {
@@ -66,14 +69,16 @@ fn text_place(rules: &[FileRule<'_>], rule: usize) -> Position
     }
 }
 
-// The line of a warning.
+// The line of a warning about the file with these lines.
 fn warning_line(
     alloc: Global,
     name: &str,
+    bytes: &[u8],
     file: &RuleFile<'_>,
     warning: Warning,
 ) -> Result<String, AllocError>
-    ensures { IfOk result (λ line. string_bytes line ≡ warning_line name.now file.now warning) }
+    ensures { IfOk result (λ line. string_bytes line
+        ≡ warning_line name.now (section_at (lines bytes.now)) file.now warning) }
 {
     match warning {
         Warning::NoRules => warned_of(
@@ -89,8 +94,9 @@ fn warning_line(
         }
         Warning::ModeNotEntered { mode } => {
             let mode = mode_name(&file.modes, mode);
+            let place = mode_place(bytes, mode);
             let words = format!(in alloc; "no rule enters the mode {mode}")?;
-            warned_of(alloc, name, words.as_str())
+            warned_at(alloc, name, place, words.as_str())
         }
         Warning::LiteralEmpty { rule } => {
             let place = text_place(&file.rules, rule);
@@ -100,14 +106,15 @@ fn warning_line(
 }
 
 /// What the program says of what a file of rules says, but surely doesn't mean (`RuleFile::warnings`): a line for each warning,
-/// with the file's name, and the line and the column, both from 1, if the warning is about a place. It is empty if there is no
-/// warning.
+/// with the file's name, and the line and the column, both from 1, unless the warning is about the whole file. It is empty if
+/// there is no warning. `bytes` are those that the file was read from.
 ///
 /// ```
 /// use tokens_lib::{read_rules, warnings_message};
 ///
-/// let file = read_rules(alloc, b"A = ''\n")?;
-/// let message = warnings_message(alloc, "c.rules", &file)?; // "tokens: c.rules:1:6: warning: this literal is empty, and no token is\n"
+/// let bytes = b"A = ''\n";
+/// let file = read_rules(alloc, bytes)?;
+/// let message = warnings_message(alloc, "c.rules", bytes, &file)?; // "tokens: c.rules:1:6: warning: this literal is empty, and no token is\n"
 /// ```
 ///
 /// # Errors
@@ -116,15 +123,17 @@ fn warning_line(
 pub fn warnings_message(
     alloc: Global,
     name: &str,
+    bytes: &[u8],
     file: &RuleFile<'_>,
 ) -> Result<String, AllocError>
-    ensures message { IfOk result (λ message.
-        SaysWarnings name.now file.now (string_bytes message)) }
+    ensures message { IfOk result (λ message. SaysWarnings Plain name.now
+        (lines (without_mark_of bytes.now)) file.now (string_bytes message)) }
 {
+    let text = without_mark(bytes);
     let warnings = file.warnings(alloc)?;
     let mut message = String::new(alloc);
     for warning in &warnings {
-        let line = warning_line(alloc, name, file, *warning)?;
+        let line = warning_line(alloc, name, text, file, *warning)?;
         message.push_str(line.as_str())?;
     }
     Ok(message)

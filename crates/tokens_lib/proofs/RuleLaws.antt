@@ -6,6 +6,7 @@ use Rattle.lalrpop_rule_file.specs.RuleFile.{without_mark}
 use Rattle.lalrpop_rules.specs.Modes.{ModeRules}
 use Rattle.lexdfa_lib.specs.declared.error.RunError.{RunError}
 use Rattle.reports_lib.specs.Answer.{Answer, silence, followed, remark}
+use Rattle.reports_lib.specs.declared.layout.LineForm.TheVariants.{Plain}
 use Rattle.tokens_lib.specs.FileAnswers.{BytesAnswer, FirstTextsAnswer, cut_files}
 use Rattle.tokens_lib.specs.NamedRules.{AreRulesOf, LexerOf, RulesOf, RulesRefused}
 use Rattle.tokens_lib.specs.Streams.{Given, Reading, Stream, Console, Says, Answers, Begins, Fails}
@@ -57,7 +58,7 @@ warned_refused {A} (Ok (Err reply)) found message P Q turn (own, (from, same)) h
 -- the file gave bytes that are rules, their lexer has this answer, and the warnings were said before it
 pub by_lexer : (verbosity : Verbosity) (GivesIt : List ℕ → Given → Type 0) (IsFor : ModeRules → List (List ℕ) → Answer → Type 0) (rules : List ℕ) (set : ModeRules) (modes : List (List ℕ))
     (said : List ℕ) (own answer : Answer)
-    → (bytes : List ℕ) × (GivesIt rules (Ok bytes) × (AreRulesOf bytes set modes × Warned verbosity rules (lines (without_mark bytes)) said))
+    → (bytes : List ℕ) × (GivesIt rules (Ok bytes) × (AreRulesOf bytes set modes × Warned Plain verbosity rules (lines (without_mark bytes)) said))
     → IsFor set modes own → answer ≡ followed (remark said) own → BytesAnswer GivesIt (RulesOf verbosity (LexerOf IsFor)) rules answer
 by_lexer verbosity GivesIt IsFor rules set modes said own answer (bytes, (gives, ((rs, (say, is)), warned))) done same =
     inr (bytes, (gives, inr (said, (warned, (own, ((modes, (rs, (say, inr (set, (is, done))))), same))))))
@@ -74,7 +75,7 @@ no_lexer verbosity GivesIt IsFor rules answer (inr (bytes, (gives, inr (words, (
 
 abbrev IsRead : Verbosity → (List ℕ → Given → Type 0) → List ℕ → ModeRules → List (List ℕ) → List ℕ → Type 0
 IsRead verbosity GivesIt rules set modes said =
-    (bytes : List ℕ) × (GivesIt rules (Ok bytes) × (AreRulesOf bytes set modes × Warned verbosity rules (lines (without_mark bytes)) said))
+    (bytes : List ℕ) × (GivesIt rules (Ok bytes) × (AreRulesOf bytes set modes × Warned Plain verbosity rules (lines (without_mark bytes)) said))
 
 abbrev Wanted : Verbosity → (List ℕ → Given → Type 0) → (ModeRules → List (List ℕ) → Answer → Type 0) → List ℕ → Answer → Type 0
 Wanted verbosity GivesIt IsFor rules = BytesAnswer GivesIt (RulesOf verbosity (LexerOf IsFor)) rules

@@ -12,13 +12,13 @@ use Rattle.reports_lib.specs.Answer.{Answer, remark}
 use Rattle.reports_lib.specs.Compared.{DifferenceAnswer, text_status}
 use Rattle.reports_lib.specs.ReviewLines.{has_findings}
 use Rattle.reports_lib.specs.declared.layout.LineForm.{LineForm}
+use Rattle.reports_lib.specs.declared.layout.LineForm.TheVariants.{Plain, Json}
 use Rattle.tokens_lib.specs.FileAnswers.{BytesAnswer, shown_name, ReadingAnswer, NumberedAnswer, FilesAnswer, cut_files, TextsAnswer}
 use Rattle.tokens_lib.specs.Checked.{CheckAnswer, finding}
 use Rattle.tokens_lib.specs.Emitted.{SourceAnswer}
 use Rattle.tokens_lib.specs.Pictured.{PictureAnswer}
 use Rattle.tokens_lib.specs.NamedRules.{rules_status, RulesTold, RulesOf, LexerOf, clashes_status, ClashesAnswer}
 use Rattle.tokens_lib.specs.Program.{ActionAnswer, CommandAnswer, ComparedAnswer, other_of}
-use Rattle.tokens_lib.specs.WarningsSaid.{is_said}
 use Rattle.tokens_lib.specs.Progress.{total_said}
 use Rattle.tokens_lib.specs.Streams.{Given, Reading, Stream, GivesWhole}
 use Rattle.tokens_lib.specs.TextAnswer.{cut_status, CutAnswer, lines_of, page_of, PiecesAnswer, PiecesPart, PageAnswer, PagePart}
@@ -88,17 +88,17 @@ texts_low Gives i k verbosity IsFor PartFor files answer each is =
     (λ n x y file a own. numbered_low Gives IsFor (total_said verbosity (length files)) n x y file a each own) is
 
 -- what is said of the file has a low status, and so has what is answered for its rules
-rules_told_low : (told : List ℕ → Answer) (verbosity : Verbosity) (IsFor : List ℕ → List (List ℕ) → List (List ℕ) → List ModeRule → Answer → Type 0) (file bytes : List ℕ) (answer : Answer)
-    → ((ls modes : List (List ℕ)) (rs : List ModeRule) (a : Answer) → IsFor file ls modes rs a → IsLow a) → ((said : List ℕ) → IsLow (told said)) → RulesTold told verbosity IsFor file bytes answer → IsLow answer
-rules_told_low told verbosity IsFor file bytes answer each first (inl (error, (is, (known, (rest, e))))) = low answer _ e (omega arith)
-rules_told_low told verbosity IsFor file bytes answer each first (inr (said, (warned, (own, ((modes, (rs, (say, is))), e))))) =
+rules_told_low : (form : LineForm) (told : List ℕ → Answer) (verbosity : Verbosity) (IsFor : List ℕ → List (List ℕ) → List (List ℕ) → List ModeRule → Answer → Type 0) (file bytes : List ℕ) (answer : Answer)
+    → ((ls modes : List (List ℕ)) (rs : List ModeRule) (a : Answer) → IsFor file ls modes rs a → IsLow a) → ((said : List ℕ) → IsLow (told said)) → RulesTold form told verbosity IsFor file bytes answer → IsLow answer
+rules_told_low form told verbosity IsFor file bytes answer each first (inl (error, (is, (known, (rest, e))))) = low answer _ e (omega arith)
+rules_told_low form told verbosity IsFor file bytes answer each first (inr (said, (warned, (own, ((modes, (rs, (say, is))), e))))) =
     let a : IsLow own = each (lines (without_mark bytes)) modes rs own is in
     let b : IsLow (told said) = first said in
     low answer _ e (omega arith)
 
 rules_of_low : (verbosity : Verbosity) (IsFor : List ℕ → List (List ℕ) → List (List ℕ) → List ModeRule → Answer → Type 0) (file bytes : List ℕ) (answer : Answer)
     → ((ls modes : List (List ℕ)) (rs : List ModeRule) (a : Answer) → IsFor file ls modes rs a → IsLow a) → RulesOf verbosity IsFor file bytes answer → IsLow answer
-rules_of_low verbosity IsFor file bytes answer each is = rules_told_low remark verbosity IsFor file bytes answer each (λ said. omega arith) is
+rules_of_low verbosity IsFor file bytes answer each is = rules_told_low Plain remark verbosity IsFor file bytes answer each (λ said. omega arith) is
 
 lexer_low : (IsFor : ModeRules → List (List ℕ) → Answer → Type 0) (file : List ℕ) (ls modes : List (List ℕ)) (rs : List ModeRule) (answer : Answer)
     → ((set : ModeRules) (names : List (List ℕ)) (a : Answer) → IsFor set names a → IsLow a) → LexerOf IsFor file ls modes rs answer → IsLow answer
@@ -123,6 +123,12 @@ list_low file ls modes rs answer (inr (r, (css, (are, (clashes, e))))) = low ans
 one_low : (b : Bool) → (if b then 1 else 0) ≤ 6
 one_low true = omega arith
 one_low false = omega arith
+
+finding_low : (form : LineForm) (said : List ℕ) → IsLow (finding form said)
+finding_low Plain [] = omega arith
+finding_low Plain (b ∷ said) = omega arith
+finding_low Json [] = omega arith
+finding_low Json (b ∷ said) = omega arith
 
 check_low : (form : LineForm) (file : List ℕ) (ls modes : List (List ℕ)) (rs : List ModeRule) (answer : Answer) → CheckAnswer form file ls modes rs answer → IsLow answer
 check_low form file ls modes rs answer (inl (error, (is, (places, (are, (said, (says, e))))))) = low answer _ e (rules_low error)
@@ -167,8 +173,8 @@ action_low : (Gives : List ℕ → Given → Type 0) (Read_of : List ℕ → Rea
 action_low Gives Read_of i k Clashes verbosity rules files answer is =
     reads_low Gives (RulesOf verbosity ClashesAnswer) rules answer (λ bytes a said. rules_of_low verbosity ClashesAnswer rules bytes a (list_low rules) said) is
 action_low Gives Read_of i k (Check form) verbosity rules files answer is =
-    reads_low Gives (RulesTold finding verbosity (CheckAnswer form)) rules answer
-    (λ bytes a said. rules_told_low finding verbosity (CheckAnswer form) rules bytes a (check_low form rules) (λ words. one_low (is_said words)) said) is
+    reads_low Gives (RulesTold form (finding form) verbosity (CheckAnswer form)) rules answer
+    (λ bytes a said. rules_told_low form (finding form) verbosity (CheckAnswer form) rules bytes a (check_low form rules) (finding_low form) said) is
 action_low Gives Read_of i k (Cut form recovers) verbosity rules files answer is =
     let several = nat_lt 1 (length files) in
     by_rules_low verbosity Gives (λ r modes. TextsAnswer Read_of i k verbosity (PiecesAnswer r modes form recovers several) (PiecesPart r modes form recovers several) files) rules answer

@@ -1,6 +1,6 @@
 -- cases: proofs/Cases/Checked.antt
 -- What is answered by a check of rules.
-use Rattle.std.specs.Prelude.{◌≡◌, ℕ, ◌⊎◌, List, [], length, if◌then◌else◌}
+use Rattle.std.specs.Prelude.{◌≡◌, ℕ, ◌⊎◌, List, [], ◌∷◌, length, if◌then◌else◌}
 use Rattle.lalrpop_hir.specs.Clashes.{Entry}
 use Rattle.bajofeki_rules.specs.declared.position.Position.{Position}
 use Rattle.lalrpop_rules.specs.ModeClashes.{AreModeClashes}
@@ -13,12 +13,18 @@ use Rattle.lalrpop_rules.specs.RuleSet.{names_of}
 use Rattle.reports_lib.specs.Answer.{Answer, refusal}
 use Rattle.reports_lib.specs.ReviewLines.{review_text, clash_report, has_findings}
 use Rattle.reports_lib.specs.declared.layout.LineForm.{LineForm}
+use Rattle.reports_lib.specs.declared.layout.LineForm.TheVariants.{Plain, Json}
 use Rattle.tokens_lib.specs.NamedRules.{StandAt, IsSetOf, FaultAnswer}
-use Rattle.tokens_lib.specs.WarningsSaid.{is_said}
 
--- what is said in a check is something that was found
-abbrev pub finding : List ℕ → Answer
-finding said = refusal (if is_said said then 1 else 0) said
+-- 1 if anything is said
+abbrev pub said_status : List ℕ → ℕ
+said_status [] = 0
+said_status (b ∷ said) = 1
+
+-- what is told of the file in a check is something that was found: lines are said, and objects are written
+abbrev pub finding : LineForm → List ℕ → Answer
+finding Plain said = refusal (said_status said) said
+finding Json said = record { status = said_status said; out = said; err = [] }
 
 -- in some mode two rules clash
 abbrev pub HaveClash : List ModeRule → ℕ → Type 0

@@ -21,6 +21,7 @@ pub use Rattle.reports_lib.specs.Answer
 pub use Rattle.reports_lib.specs.Compared
 pub use Rattle.reports_lib.specs.FileRules
 pub use Rattle.reports_lib.specs.ItemLines
+pub use Rattle.reports_lib.specs.ModePlace
 pub use Rattle.reports_lib.specs.Reasons
 pub use Rattle.reports_lib.specs.ReportedFile
 pub use Rattle.reports_lib.specs.ReviewJson

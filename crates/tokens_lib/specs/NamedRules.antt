@@ -19,6 +19,8 @@ use Rattle.reports_lib.specs.Answer.{Answer, refusal, remark, followed, headed}
 use Rattle.reports_lib.specs.Reasons.{SaysBadLine, SaysRules}
 use Rattle.reports_lib.specs.RuleClashes.{clash_lines}
 use Rattle.reports_lib.specs.FileRules.{AreFileRules}
+use Rattle.reports_lib.specs.declared.layout.LineForm.{LineForm}
+use Rattle.reports_lib.specs.declared.layout.LineForm.TheVariants.{Plain}
 use Rattle.tokens_lib.specs.WarningsSaid.{Warned}
 use Rattle.tokens_lib.specs.declared.command.Verbosity.{Verbosity}
 
@@ -51,21 +53,21 @@ rules_status error = 2
 abbrev pub LinesAnswer : (List ℕ → List (List ℕ) → List (List ℕ) → List ModeRule → Answer → Type 0) → List ℕ → List (List ℕ) → Answer → Type 0
 LinesAnswer IsFor file ls answer = (modes : List (List ℕ)) × ((rs : List ModeRule) × (SayRules ls modes rs × IsFor file ls modes rs answer))
 
--- the warnings about the file with these lines are said, which is the one answer, and then this is answered
-abbrev pub WarnedAnswer : (List ℕ → Answer) → Verbosity → (Answer → Type 0) → List ℕ → List (List ℕ) → Answer → Type 0
-WarnedAnswer told verbosity Is file ls answer =
-    (said : List ℕ) × (Warned verbosity file ls said × ((own : Answer) × (Is own × (answer ≡ followed (told said) own))))
+-- the warnings about the file with these lines are told in this form, which is the one answer, and then this is answered
+abbrev pub WarnedAnswer : LineForm → (List ℕ → Answer) → Verbosity → (Answer → Type 0) → List ℕ → List (List ℕ) → Answer → Type 0
+WarnedAnswer form told verbosity Is file ls answer =
+    (said : List ℕ) × (Warned form verbosity file ls said × ((own : Answer) × (Is own × (answer ≡ followed (told said) own))))
 
 -- the bytes have a bad line; or their lines are rules with this answer, after the answer for the warnings about them
-abbrev pub RulesTold : (List ℕ → Answer) → Verbosity → (List ℕ → List (List ℕ) → List (List ℕ) → List ModeRule → Answer → Type 0) → List ℕ → List ℕ → Answer → Type 0
-RulesTold told verbosity IsFor file bytes answer =
+abbrev pub RulesTold : LineForm → (List ℕ → Answer) → Verbosity → (List ℕ → List (List ℕ) → List (List ℕ) → List ModeRule → Answer → Type 0) → List ℕ → List ℕ → Answer → Type 0
+RulesTold form told verbosity IsFor file bytes answer =
     ((error : RuleFileError) × (IsRuleFileError (without_mark bytes) error
     × ((said : List ℕ) × (SaysBadLine (lines (without_mark bytes)) error said × (answer ≡ refusal 3 (headed file said))))))
-    ⊎ WarnedAnswer told verbosity (LinesAnswer IsFor file (lines (without_mark bytes))) file (lines (without_mark bytes)) answer
+    ⊎ WarnedAnswer form told verbosity (LinesAnswer IsFor file (lines (without_mark bytes))) file (lines (without_mark bytes)) answer
 
 -- where a warning is a remark: nothing is wrong
 abbrev pub RulesOf : Verbosity → (List ℕ → List (List ℕ) → List (List ℕ) → List ModeRule → Answer → Type 0) → List ℕ → List ℕ → Answer → Type 0
-RulesOf verbosity IsFor file bytes answer = RulesTold remark verbosity IsFor file bytes answer
+RulesOf verbosity IsFor file bytes answer = RulesTold Plain remark verbosity IsFor file bytes answer
 
 -- an error of the rules of these lines is said
 abbrev pub ErrorAnswer : List ℕ → List (List ℕ) → List (List ℕ) → List ModeRule → RulesError → Answer → Type 0

@@ -46,7 +46,7 @@ ByLexer Gives verbosity IsFor rules answer = BytesAnswer Gives (RulesOf verbosit
 -- the answer for an action by a file of rules that cuts no text
 abbrev pub ReplyAnswer : (List ℕ → Given → Type 0) → Verbosity → Action → List ℕ → List (List ℕ) → Answer → Type 0
 ReplyAnswer Gives verbosity Clashes rules files answer = BytesAnswer Gives (RulesOf verbosity ClashesAnswer) rules answer
-ReplyAnswer Gives verbosity (Check form) rules files answer = BytesAnswer Gives (RulesTold finding verbosity (CheckAnswer form)) rules answer
+ReplyAnswer Gives verbosity (Check form) rules files answer = BytesAnswer Gives (RulesTold form (finding form) verbosity (CheckAnswer form)) rules answer
 ReplyAnswer Gives verbosity (Emit language) rules files answer = ByLexer Gives verbosity (λ r modes. SourceAnswer language rules r) rules answer
 ReplyAnswer Gives verbosity Picture rules files answer = ByLexer Gives verbosity (PictureAnswer rules (slice_get files 0)) rules answer
 ReplyAnswer Gives verbosity Difference rules files answer = ByLexer Gives verbosity (λ r modes. ComparedAnswer Gives verbosity rules r modes (other_of files)) rules answer

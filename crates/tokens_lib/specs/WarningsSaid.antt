@@ -1,23 +1,19 @@
 -- cases: proofs/Cases/WarningsSaid.antt
 -- Whether the warnings about a file of rules are said, and of which file.
-use Rattle.std.specs.Prelude.{◌≡◌, ℕ, Bool, true, false, List, [], ◌∷◌, map}
+use Rattle.std.specs.Prelude.{◌≡◌, ℕ, List, [], map}
 use Rattle.lalrpop_rule_file.specs.PartLines.{ArePartLines}
 use Rattle.lalrpop_rule_file.specs.RuleFile.{AreFileParts, AreRules, ArePlaces}
 use Rattle.lalrpop_rule_file.specs.declared.file.RuleFile.{RuleFile}
 use Rattle.reports_lib.specs.Warned.{SaysWarnings}
+use Rattle.reports_lib.specs.declared.layout.LineForm.{LineForm}
 use Rattle.tokens_lib.specs.declared.command.Verbosity.{Verbosity}
 use Rattle.tokens_lib.specs.declared.command.Verbosity.TheVariants.{Quiet, Warnings, Progress}
 
--- whether something is said
-abbrev pub is_said : List ℕ → Bool
-is_said [] = false
-is_said (b ∷ said) = true
-
 -- nothing with --quiet
-abbrev pub SaysIfAsked : Verbosity → List ℕ → RuleFile → List ℕ → Type 0
-SaysIfAsked Quiet name file said = said ≡ []
-SaysIfAsked Warnings name file said = SaysWarnings name file said
-SaysIfAsked Progress name file said = SaysWarnings name file said
+abbrev pub SaysIfAsked : LineForm → Verbosity → List ℕ → List (List ℕ) → RuleFile → List ℕ → Type 0
+SaysIfAsked form Quiet name ls file said = said ≡ []
+SaysIfAsked form Warnings name ls file said = SaysWarnings form name ls file said
+SaysIfAsked form Progress name ls file said = SaysWarnings form name ls file said
 
 -- the lines are this file: its modes, its rules and its parts, and where these stand
 pub record IsFileOf (ls : List (List ℕ)) (file : RuleFile) : Type 0 where
@@ -27,5 +23,5 @@ pub record IsFileOf (ls : List (List ℕ)) (file : RuleFile) : Type 0 where
   pub part_lines : ArePartLines ls file.part_lines.items
 
 -- it is said of the file with these lines
-abbrev pub Warned : Verbosity → List ℕ → List (List ℕ) → List ℕ → Type 0
-Warned verbosity name ls said = (file : RuleFile) × (IsFileOf ls file × SaysIfAsked verbosity name file said)
+abbrev pub Warned : LineForm → Verbosity → List ℕ → List (List ℕ) → List ℕ → Type 0
+Warned form verbosity name ls said = (file : RuleFile) × (IsFileOf ls file × SaysIfAsked form verbosity name ls file said)

@@ -6,6 +6,7 @@ ghost use Rattle.lalrpop_rule_file.specs.RuleFile.{AreFileParts, AreRules, ArePl
 ghost use Rattle.lalrpop_rule_file.specs.declared.file_rule.FileRule.{FileRule as FileRuleValue};
 ghost use Rattle.reports_lib.specs.Answer.{Answer, about as about_text, followed, headed, refusal, remark};
 ghost use Rattle.reports_lib.specs.Reasons.{CanBeSaid, SaysBadLine, SaysRules};
+ghost use Rattle.reports_lib.specs.declared.layout.LineForm.TheVariants.{Plain};
 ghost use Rattle.tokens_lib.specs.FileAnswers.{BytesAnswer};
 ghost use Rattle.tokens_lib.specs.NamedRules.{StandAt, IsSetOf, AreRulesOf, LinesAnswer, RulesOf, RulesRefused, clashes_status, rules_status};
 ghost use Rattle.tokens_lib.specs.Streams.{GivesWhole};
@@ -162,13 +163,14 @@ fn lexer_of_bytes(
     ensures lexer { IfOk result (λ found. IfOk found (λ f.
         AreRulesOf bytes.now f.lexer.lexer (map string_bytes f.lexer.modes.items))) }
     ensures warned { IfOk result (λ found. IfOk found (λ f.
-        Warned verbosity name.now (lines (without_mark_of bytes.now)) (string_bytes f.said))) }
+        Warned Plain verbosity name.now (lines (without_mark_of bytes.now))
+        (string_bytes f.said))) }
     ensures refused { IfOk result (λ found. IfErr found
         (RulesOf verbosity RulesRefused name.now bytes.now)) }
 {
     match read_rules(alloc, bytes) {
         Ok(file) => {
-            let said = warnings_said(alloc, verbosity, name, &file)?;
+            let said = warnings_said(alloc, verbosity, name, bytes, &file)?;
             warned_lexer(lexer_of_rules(alloc, name, bytes, &file)?, said)
         }
         Err(error) => Ok(Err(line_refused(alloc, name, without_mark(bytes), &error)?)),
@@ -189,7 +191,8 @@ pub(crate) fn lexer_by_name<F: Files>(
     ensures lexer { IfOk result (λ found. IfOk found (λ f. (bytes : List ℕ)
         × (GivesWhole (F.gives files.now) name.now (Ok bytes)
         × (AreRulesOf bytes f.lexer.lexer (map string_bytes f.lexer.modes.items)
-        × Warned verbosity name.now (lines (without_mark_of bytes)) (string_bytes f.said))))) }
+        × Warned Plain verbosity name.now (lines (without_mark_of bytes))
+        (string_bytes f.said))))) }
     ensures refused { IfOk result (λ found. IfErr found
         (BytesAnswer (GivesWhole (F.gives files.now)) (RulesOf verbosity RulesRefused) name.now)) }
 {

@@ -39,6 +39,7 @@ pub use lalrpop_rules::{
 pub use page::write_page;
 pub use program::{run, run_program};
 pub use reports_lib::{
-    Layout, LineForm, ModeFile, bad_line_message, clash_lines, rules_message, warnings_message,
+    Layout, LineForm, ModeFile, bad_line_message, clash_lines, rules_message, warnings_json,
+    warnings_message,
 };
 pub use streams::{Reader, Sink, Source, System};

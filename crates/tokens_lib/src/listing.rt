@@ -1,19 +1,20 @@
 //! What is listed of a file of rules: all clashes, or a review.
-ghost use Rattle.std.specs.Prelude.{◌≡◌, ◌<◌, ℕ, length, slice_get, Some, map, IfOk};
+ghost use Rattle.std.specs.Prelude.{◌≡◌, ◌<◌, ℕ, List, length, slice_get, Some, map, IfOk};
 ghost use Rattle.bajofeki_rules.specs.Lines.{lines};
 ghost use Rattle.lalrpop_rule_file.specs.RuleFile.{AreFileParts, AreRules, ArePlaces, NamesMode, without_mark as without_mark_of};
 ghost use Rattle.lalrpop_rule_file.specs.declared.file_rule.FileRule.{FileRule as FileRuleValue};
 ghost use Rattle.tokens_lib.specs.FileAnswers.{BytesAnswer};
 ghost use Rattle.tokens_lib.specs.NamedRules.{StandAt, LinesAnswer, RulesTold, ClashesAnswer};
 ghost use Rattle.tokens_lib.specs.Internal.Faults.{NameOnly};
-ghost use Rattle.tokens_lib.specs.Internal.Listings.{ListingAnswer, told_first, first_status};
+ghost use Rattle.tokens_lib.specs.Internal.Listings.{ListingAnswer, form_of, told_first};
 ghost use Rattle.tokens_lib.specs.Streams.{GivesWhole};
+ghost use Rattle.tokens_lib.specs.WarningsSaid.{SaysIfAsked};
 
 use crate::by_rules::{clashes_status, line_refused, rules_refused, unread};
 use crate::checked::check_rules;
 use crate::command::Verbosity;
 use crate::files::{Files, bytes_of};
-use crate::warnings::{is_said, warnings_said};
+use crate::warnings::{warnings_found, warnings_said};
 use lalrpop_rule_file::{RuleFile, read_rules, without_mark};
 use lalrpop_rules::mode_clashes;
 use reports_lib::{LineForm, ModeFile, Reply, clash_lines};
@@ -70,13 +71,25 @@ fn list_of(
     }
 }
 
-// The status of what was said of the file of rules, if anything was.
-fn first_status(listing: Listing, any: bool) -> u8
-    ensures { result ≡ first_status listing any }
+// What is answered for the warnings about the file of rules that these bytes are.
+fn warned(
+    alloc: Global,
+    listing: Listing,
+    verbosity: Verbosity,
+    name: &str,
+    bytes: &[u8],
+    file: &RuleFile<'_>,
+) -> Result<Reply, AllocError>
+    ensures told { IfOk result (λ reply. (said : List ℕ)
+        × (SaysIfAsked (form_of listing) verbosity name.now (lines (without_mark_of bytes.now))
+        file.now said × (reply ≡ told_first listing said))) }
 {
     match listing {
-        Listing::Clashes => 0,
-        Listing::Review(_) => u8::from(any),
+        Listing::Clashes => {
+            let said = warnings_said(alloc, verbosity, name, bytes, file)?;
+            Ok(Reply::refusal(alloc, 0, said))
+        }
+        Listing::Review(form) => warnings_found(alloc, form, verbosity, name, bytes, file),
     }
 }
 
@@ -112,13 +125,13 @@ fn list_in(
     bytes: &[u8],
 ) -> Result<Reply, AllocError>
     ensures answer { IfOk result
-        (RulesTold (told_first listing) verbosity (ListingAnswer listing) name.now bytes.now) }
+        (RulesTold (form_of listing) (told_first listing) verbosity (ListingAnswer listing)
+        name.now bytes.now) }
 {
     match read_rules(alloc, bytes) {
         Ok(file) => {
-            let said = warnings_said(alloc, verbosity, name, &file)?;
-            let status = first_status(listing, is_said(said.as_str()));
-            list_by(alloc, listing, name, bytes, &file)?.after(status, said)
+            let first = warned(alloc, listing, verbosity, name, bytes, &file)?;
+            list_by(alloc, listing, name, bytes, &file)?.following(first)
         }
         Err(error) => line_refused(alloc, name, without_mark(bytes), &error),
     }
@@ -137,7 +150,8 @@ pub(crate) fn list_rules<F: Files>(
     name: &str,
 ) -> Result<Reply, AllocError>
     ensures answer { IfOk result (BytesAnswer (GivesWhole (F.gives files.now))
-        (RulesTold (told_first listing) verbosity (ListingAnswer listing)) name.now) }
+        (RulesTold (form_of listing) (told_first listing) verbosity (ListingAnswer listing))
+        name.now) }
 {
     match bytes_of(alloc, files, name)? {
         Ok(bytes) => list_in(alloc, listing, verbosity, name, &bytes),

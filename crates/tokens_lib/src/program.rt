@@ -212,8 +212,9 @@ fn arguments_refused(alloc: Global, error: &ArgumentsError<'_>) -> Result<Reply,
 /// (`warnings_message`), which `--quiet` leaves out; if a write there fails, nothing more is said, and the run goes on.
 ///
 /// `--check` reads the rules alone. If some clash, it writes all clashes; otherwise it writes a review (`lalrpop_review`): the
-/// rules that match the empty text, and for each mode the rules that never win and how large its automaton is. `--diff` reads two
-/// files of rules, and for each mode writes the least text of which they make different tokens, if there is one.
+/// rules that match the empty text, and for each mode the rules that never win and how large its automaton is. With `--json` the
+/// warnings are written to `out` too, before these lines (`warnings_json`), and aren't said. `--diff` reads two files of rules,
+/// and for each mode writes the least text of which they make different tokens, if there is one.
 ///
 /// The exit status is
 ///

@@ -1,15 +1,19 @@
 //! What the program says of files that give no lexer, said by a program of one's own.
-ghost use Rattle.std.specs.Prelude.{◌≡◌, ℕ, List, [], codes, length, string_bytes, IfOk, IfSome};
+ghost use Rattle.std.specs.Prelude.{◌≡◌, ℕ, List, [], ◌∷◌, codes, length, string_bytes, IfOk, IfSome};
 ghost use Rattle.bajofeki_rules.specs.Lines.{lines};
-ghost use Rattle.lalrpop_rule_file.specs.RuleFile.{without_mark};
+ghost use Rattle.lalrpop_rule_file.specs.FileModes.{Said};
+ghost use Rattle.lalrpop_rule_file.specs.RuleFile.{LinesSay, without_mark};
+ghost use Rattle.lalrpop_rule_file.specs.declared.warning.Warning.TheVariants.{ModeNotEntered};
 ghost use Rattle.tokens_lib.specs.Answer.{headed};
 ghost use Rattle.tokens_lib.specs.Reasons.{SaysBadLine, place_at, placed, refusal_text};
-ghost use Rattle.tokens_lib.specs.Warned.{AreWarnings};
+ghost use Rattle.tokens_lib.specs.ModePlace.{section_place};
+ghost use Rattle.tokens_lib.specs.ReviewJson.{object_line};
+ghost use Rattle.tokens_lib.specs.Warned.{AreWarnings, warning_members};
 
 use lalrpop_lexer::lexer::nfa::NfaConstructionError;
 use std::alloc::{AllocError, Global};
 use tokens_lib::{
-    ModeFile, RuleFile, RuleFileError, RulesError, bad_line_message, rules_message,
+    ModeFile, RuleFile, RuleFileError, RulesError, bad_line_message, rules_message, warnings_json,
     warnings_message,
 };
 
@@ -51,11 +55,31 @@ pub fn said_of_a_rule(
 
 // Nothing is said of a file that means all that it says.
 // Needs tokens_lib::warnings_message: message.
-pub fn said_of_what_is_meant(alloc: Global, file: &RuleFile<'_>) -> Result<String, AllocError>
+pub fn said_of_what_is_meant(
+    alloc: Global,
+    bytes: &[u8],
+    file: &RuleFile<'_>,
+) -> Result<String, AllocError>
     requires no_warning { AreWarnings file.now [] }
     ensures said { IfOk result (λ message. string_bytes message ≡ []) }
 {
-    warnings_message(alloc, "f", file)
+    warnings_message(alloc, "f", bytes, file)
+}
+
+// Where a mode that no rule enters is all that is wrong, its object says where its section begins.
+// Needs tokens_lib::warnings_json: objects.
+pub fn object_of_a_mode(
+    alloc: Global,
+    bytes: &[u8],
+    file: &RuleFile<'_>,
+) -> Result<Vec<u8>, AllocError>
+    requires warning { AreWarnings file.now (ModeNotEntered 0 ∷ []) }
+    ensures object { IfOk result (λ object. (said : List Said)
+        → LinesSay (lines (without_mark bytes.now)) said
+        → object.items ≡ object_line (warning_members (codes "f")
+        (section_place 1 (lines (without_mark bytes.now)) said) file.now (ModeNotEntered 0))) }
+{
+    warnings_json(alloc, "f", bytes, file)
 }
 
 // How many modes a file has.

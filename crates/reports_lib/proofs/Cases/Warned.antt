@@ -1,35 +1,65 @@
 -- Cases of specs/Warned.antt.
 use Rattle.std.proofs.Common.{◌≡◌, ◌≢◌, ℕ, List, [], ◌∷◌, codes, get_or, refl, ap, arith, Bor}
 use Rattle.std.specs.Fmt.{digits}
+use Rattle.json.specs.Print.{print_from, escape_byte}
 use Rattle.bajofeki_rules.specs.declared.position.Position.{Position}
 use Rattle.lalrpop_rule_file.specs.declared.file.RuleFile.{RuleFile}
 use Rattle.lalrpop_rule_file.specs.declared.file_rule.FileRule.{FileRule}
 use Rattle.lalrpop_rule_file.specs.declared.part_line.PartLine.{PartLine}
 use Rattle.lalrpop_rule_file.specs.declared.warning.Warning.TheVariants.{NoRules, PartUnused, ModeNotEntered, LiteralEmpty}
-use Rattle.reports_lib.specs.Warned.{AreWarnings, SaysWarnings, warned_at, warned_of, warning_line}
+use Rattle.reports_lib.specs.ModePlace.{TellsSections}
+use Rattle.reports_lib.specs.Warned.{AreWarnings, SaysWarnings, warned_at, warned_of, warning_text}
+use Rattle.reports_lib.specs.declared.layout.LineForm.{LineForm}
+use Rattle.reports_lib.specs.declared.layout.LineForm.TheVariants.{Plain, Json}
 
 abbrev place : ℕ → ℕ → Position
 place line column = record { line = line; column = column }
 
+-- each mode has its section there
+abbrev there : List ℕ → Position
+there mode = place 4 1
+
 -- ---- the four lines
 
 no_rule : (file : RuleFile)
-    → warning_line (codes "r") file NoRules ≡ codes "tokens: r: warning: there is no rule in this file: a rule is a line NAME = 'TEXT' or NAME = /PATTERN/\n"
+    → warning_text Plain (codes "r") there file NoRules ≡ codes "tokens: r: warning: there is no rule in this file: a rule is a line NAME = 'TEXT' or NAME = /PATTERN/\n"
 no_rule file = refl
 
 unused_part : (file : RuleFile) (p : PartLine) → file.part_lines.items ≡ p ∷ [] → p.name.now ≡ codes "D" → p.place ≡ place 2 1
-    → warning_line (codes "r") file (PartUnused 0) ≡ codes "tokens: r:2:1: warning: no pattern below uses the part {D}\n"
+    → warning_text Plain (codes "r") there file (PartUnused 0) ≡ codes "tokens: r:2:1: warning: no pattern below uses the part {D}\n"
 unfolding digits
 unused_part file p parts name at = rw parts (rw (name, at) refl)
 
 mode_not_entered : (file : RuleFile) (first second : Bor (List ℕ)) → file.modes.items ≡ first ∷ second ∷ [] → second.now ≡ codes "TEXT"
-    → warning_line (codes "r") file (ModeNotEntered 1) ≡ codes "tokens: r: warning: no rule enters the mode TEXT\n"
+    → warning_text Plain (codes "r") there file (ModeNotEntered 1) ≡ codes "tokens: r:4:1: warning: no rule enters the mode TEXT\n"
+unfolding digits
 mode_not_entered file first second modes name = rw modes (rw name refl)
 
 empty_literal : (file : RuleFile) (r : FileRule) → file.rules.items ≡ r ∷ [] → r.place ≡ place 3 6
-    → warning_line (codes "r") file (LiteralEmpty 0) ≡ codes "tokens: r:3:6: warning: this literal is empty, and no token is\n"
+    → warning_text Plain (codes "r") there file (LiteralEmpty 0) ≡ codes "tokens: r:3:6: warning: this literal is empty, and no token is\n"
 unfolding digits
 empty_literal file r rules at = rw rules (rw at refl)
+
+-- ---- the four objects
+
+no_rule_object : (file : RuleFile) → warning_text Json (codes "r") there file NoRules ≡ codes "{\"file\":\"r\",\"kind\":\"no-rules\"}\n"
+unfolding print_from escape_byte
+no_rule_object file = refl
+
+part_object : (file : RuleFile) (p : PartLine) → file.part_lines.items ≡ p ∷ [] → p.name.now ≡ codes "D" → p.place ≡ place 2 1
+    → warning_text Json (codes "r") there file (PartUnused 0) ≡ codes "{\"file\":\"r\",\"line\":2,\"column\":1,\"kind\":\"part-unused\",\"part\":\"D\"}\n"
+unfolding digits print_from escape_byte
+part_object file p parts name at = rw parts (rw (name, at) refl)
+
+mode_object : (file : RuleFile) (m : Bor (List ℕ)) → file.modes.items ≡ m ∷ [] → m.now ≡ codes "M"
+    → warning_text Json (codes "r") there file (ModeNotEntered 0) ≡ codes "{\"file\":\"r\",\"line\":4,\"column\":1,\"kind\":\"mode-not-entered\",\"mode\":\"M\"}\n"
+unfolding digits print_from escape_byte
+mode_object file m modes name = rw modes (rw name refl)
+
+literal_object : (file : RuleFile) (r : FileRule) → file.rules.items ≡ r ∷ [] → r.place ≡ place 3 6 → r.rule.name.now ≡ codes "A"
+    → warning_text Json (codes "r") there file (LiteralEmpty 0) ≡ codes "{\"file\":\"r\",\"line\":3,\"column\":6,\"kind\":\"literal-empty\",\"rule\":\"A\"}\n"
+unfolding digits print_from escape_byte
+literal_object file r rules at name = rw rules (rw (at, name) refl)
 
 -- another line, or none, is another warning
 another_line : warned_at (codes "r") (place 1 1) (codes "a") ≢ warned_at (codes "r") (place 2 1) (codes "a")
@@ -43,5 +73,6 @@ no_line e = let k : 49 ≡ 32 = ap (λ (l : List ℕ). get_or l 10 0) e in omega
 -- ---- what is said
 
 -- nothing, if nothing is wrong
-without_warnings : (file : RuleFile) → AreWarnings file [] → SaysWarnings (codes "r") file []
-without_warnings file are = ([], (are, refl))
+without_warnings : (form : LineForm) (ls : List (List ℕ)) (section : List ℕ → Position) (file : RuleFile) → TellsSections ls section → AreWarnings file []
+    → SaysWarnings form (codes "r") ls file []
+without_warnings form ls section file tells are = (section, (tells, ([], (are, refl))))

@@ -7,11 +7,15 @@ use Rattle.lalrpop_review.specs.declared.whole.Review.{Review}
 use Rattle.reports_lib.specs.Answer.{Answer, silence}
 use Rattle.reports_lib.specs.ReviewLines.{has_findings}
 use Rattle.reports_lib.specs.declared.layout.LineForm.{LineForm}
+use Rattle.reports_lib.specs.declared.layout.LineForm.TheVariants.{Plain, Json}
 use Rattle.tokens_lib.specs.Checked.{finding, clashes_answer, review_answer, ReviewTold}
 
--- what is said counts; nothing said is nothing found
-said_or_not : ((finding (codes "a")).status ≡ 1) × ((finding (codes "a")).err ≡ codes "a") × (finding [] ≡ silence)
-said_or_not = (refl, refl, refl)
+-- what is said counts, and so does what is written; nothing said is nothing found
+said_or_not : ((finding Plain (codes "a")).status ≡ 1) × ((finding Plain (codes "a")).err ≡ codes "a") × ((finding Plain (codes "a")).out ≡ []) × (finding Plain [] ≡ silence)
+said_or_not = (refl, refl, refl, refl)
+
+written_or_not : ((finding Json (codes "a")).status ≡ 1) × ((finding Json (codes "a")).out ≡ codes "a") × ((finding Json (codes "a")).err ≡ []) × (finding Json [] ≡ silence)
+written_or_not = (refl, refl, refl, refl)
 
 -- clashes have status 2
 clashes_count : (form : LineForm) (file : List ℕ) (modes names : List (List ℕ)) (places : List Position) (c : Entry)

@@ -1,10 +1,11 @@
 -- What is listed of a file of rules.
-use Rattle.std.specs.Prelude.{ℕ, Bool, List, if◌then◌else◌}
+use Rattle.std.specs.Prelude.{ℕ, List}
 use Rattle.bajofeki_rules.specs.declared.mode_rule.ModeRule.{ModeRule}
-use Rattle.reports_lib.specs.Answer.{Answer, refusal}
-use Rattle.tokens_lib.specs.Checked.{CheckAnswer}
+use Rattle.reports_lib.specs.Answer.{Answer, remark}
+use Rattle.reports_lib.specs.declared.layout.LineForm.{LineForm}
+use Rattle.reports_lib.specs.declared.layout.LineForm.TheVariants.{Plain}
+use Rattle.tokens_lib.specs.Checked.{CheckAnswer, finding}
 use Rattle.tokens_lib.specs.NamedRules.{ClashesAnswer}
-use Rattle.tokens_lib.specs.WarningsSaid.{is_said}
 use Rattle.tokens_lib.specs.declared.listing.Listing.{Listing}
 use Rattle.tokens_lib.specs.declared.listing.Listing.TheVariants.{Clashes, Review}
 
@@ -13,11 +14,12 @@ abbrev pub ListingAnswer : Listing → List ℕ → List (List ℕ) → List (Li
 ListingAnswer Clashes file ls modes rs answer = ClashesAnswer file ls modes rs answer
 ListingAnswer (Review form) file ls modes rs answer = CheckAnswer form file ls modes rs answer
 
--- the status of what was said of the file, if anything was: in a review it counts as something that was found
-abbrev pub first_status : Listing → Bool → ℕ
-first_status Clashes any = 0
-first_status (Review form) any = if any then 1 else 0
+-- the form of what is said of the file
+abbrev pub form_of : Listing → LineForm
+form_of Clashes = Plain
+form_of (Review form) = form
 
--- what is answered for what is said of the file
+-- what is answered for it: in a review it counts as something that was found
 abbrev pub told_first : Listing → List ℕ → Answer
-told_first listing said = refusal (first_status listing (is_said said)) said
+told_first Clashes said = remark said
+told_first (Review form) said = finding form said

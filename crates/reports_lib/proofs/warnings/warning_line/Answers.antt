@@ -9,8 +9,8 @@ returns-in_ok-words-in-PartUnused c =
 pub returns-in_ok-words-in-ModeNotEntered : goal.returns-in_ok-words-in-ModeNotEntered
 returns-in_ok-words-in-ModeNotEntered c =
     rw c.in-ModeNotEntered.is
-    (rw (c.as_str-in-ModeNotEntered.ensures.value, c.in_ok-words-in-ModeNotEntered.ensures.ok, c.mode_name-mode.ensures, c.deref-in-ModeNotEntered.ensures.value)
-    at c.warned_of-in-ModeNotEntered.ensures)
+    (rw (c.mode_place-place.ensures, c.as_str-in-ModeNotEntered.ensures.value, c.in_ok-words-in-ModeNotEntered.ensures.ok, c.mode_name-mode.ensures, c.deref-in-ModeNotEntered.ensures.value)
+    at c.warned_at-in-ModeNotEntered.ensures)
 
 pub returns-in-LiteralEmpty : goal.returns-in-LiteralEmpty
 returns-in-LiteralEmpty c =

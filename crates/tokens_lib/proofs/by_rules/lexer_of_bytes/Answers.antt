@@ -1,6 +1,7 @@
 use Rattle.std.proofs.Common.{inr, map, string_bytes}
 use Rattle.bajofeki_rules.specs.Lines.{lines}
 use Rattle.lalrpop_rule_file.specs.RuleFile.{without_mark}
+use Rattle.reports_lib.specs.declared.layout.LineForm.TheVariants.{Plain}
 use Rattle.tokens_lib.specs.NamedRules.{AreRulesOf, LinesAnswer, RulesOf, RulesRefused}
 use Rattle.tokens_lib.specs.WarningsSaid.{IsFileOf, Warned}
 use Rattle.tokens_lib.proofs.RuleLaws.{warned_lexer, warned_said, warned_refused}
@@ -17,7 +18,7 @@ returns-in_ok-lexer_of_rules-in-Ok-clause-warned c =
     let are : IsFileOf (lines (without_mark c.args.bytes.now)) file =
     record { rules = c.in-Ok.ensures.rules; places = c.in-Ok.ensures.places; parts = c.in-Ok.ensures.parts; part_lines = c.in-Ok.ensures.part_lines } in
     warned_said c.warned_lexer.result c.in_ok-lexer_of_rules-in-Ok.field-0 (λ w. w.lexer) (λ w. w.said) c.in_ok-said-in-Ok.said c.warned_lexer.ensures.lexer
-    (λ s. Warned c.args.verbosity c.args.name.now (lines (without_mark c.args.bytes.now)) (string_bytes s)) (file, (are, c.in_ok-said-in-Ok.ensures.said))
+    (λ s. Warned Plain c.args.verbosity c.args.name.now (lines (without_mark c.args.bytes.now)) (string_bytes s)) (file, (are, c.in_ok-said-in-Ok.ensures.said))
 
 pub returns-in_ok-lexer_of_rules-in-Ok-clause-refused : goal.returns-in_ok-lexer_of_rules-in-Ok-clause-refused
 returns-in_ok-lexer_of_rules-in-Ok-clause-refused c =

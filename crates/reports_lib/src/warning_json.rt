@@ -1,0 +1,131 @@
+//! The warnings about a file of rules, as JSON objects.
+ghost use Rattle.std.specs.Prelude.{◌≡◌, ◌++◌, codes, map, IfOk, OnOk};
+ghost use Rattle.bajofeki_rules.specs.Lines.{lines};
+ghost use Rattle.lalrpop_rule_file.specs.RuleFile.{without_mark as without_mark_of};
+ghost use Rattle.reports_lib.specs.ItemLines.{name_at};
+ghost use Rattle.reports_lib.specs.ReviewJson.{object_line};
+ghost use Rattle.reports_lib.specs.Warned.{SaysWarnings, warned_members, warning_members};
+ghost use Rattle.reports_lib.specs.Internal.ModePlaces.{section_at};
+ghost use Rattle.reports_lib.specs.declared.layout.LineForm.TheVariants.{Json};
+
+use crate::json_line::{write_number, write_string};
+use crate::mode_place::mode_place;
+use crate::review_json::{begun_object, ended_line};
+use crate::warnings::{mode_name, part_name, part_place, text_place};
+use json::Writer;
+use lalrpop_lexer::Position;
+use lalrpop_rule_file::{FileRule, RuleFile, Warning, without_mark};
+use std::alloc::{AllocError, Global};
+
+// The name of the rule with this index.
+fn rule_name<'text>(rules: &[FileRule<'text>], rule: usize) -> &'text str
+    ensures { result.now ≡ name_at (map (λ r. r.rule.name.now) rules.now) rule }
+{
+    match rules.get(rule) {
+        Some(rule) => rule.rule.name,
+        None => "",
+    }
+}
+
+// The file, a place in it, and the kind of the warning.
+fn write_warned(
+    writer: &mut Writer,
+    name: &str,
+    place: Position,
+    kind: &str,
+) -> Result<(), AllocError>
+    ensures tokens { OnOk result (writer.new.tokens
+        ≡ writer.old.tokens ++ warned_members name.now place kind.now) }
+    ensures before { writer.new.before ≡ writer.old.before }
+{
+    let Position { line, column } = place;
+    write_string(writer, "file", name)?;
+    write_number(writer, "line", line)?;
+    write_number(writer, "column", column)?;
+    write_string(writer, "kind", kind)
+}
+
+// The members of a warning about the file with these lines.
+fn write_warning(
+    writer: &mut Writer,
+    name: &str,
+    bytes: &[u8],
+    file: &RuleFile<'_>,
+    warning: Warning,
+) -> Result<(), AllocError>
+    ensures tokens { OnOk result (writer.new.tokens ≡ writer.old.tokens
+        ++ warning_members name.now (section_at (lines bytes.now)) file.now warning) }
+    ensures before { writer.new.before ≡ writer.old.before }
+{
+    match warning {
+        Warning::NoRules => {
+            write_string(writer, "file", name)?;
+            write_string(writer, "kind", "no-rules")
+        }
+        Warning::PartUnused { part } => {
+            let place = part_place(&file.part_lines, part);
+            write_warned(writer, name, place, "part-unused")?;
+            write_string(writer, "part", part_name(&file.part_lines, part))
+        }
+        Warning::ModeNotEntered { mode } => {
+            let mode = mode_name(&file.modes, mode);
+            write_warned(writer, name, mode_place(bytes, mode), "mode-not-entered")?;
+            write_string(writer, "mode", mode)
+        }
+        Warning::LiteralEmpty { rule } => {
+            let place = text_place(&file.rules, rule);
+            write_warned(writer, name, place, "literal-empty")?;
+            write_string(writer, "rule", rule_name(&file.rules, rule))
+        }
+    }
+}
+
+// The line of a warning about the file with these lines.
+fn warning_object(
+    alloc: Global,
+    name: &str,
+    bytes: &[u8],
+    file: &RuleFile<'_>,
+    warning: Warning,
+) -> Result<Vec<u8>, AllocError>
+    ensures line { IfOk result (λ line. line.items ≡ object_line
+        (warning_members name.now (section_at (lines bytes.now)) file.now warning)) }
+{
+    let mut writer = begun_object(alloc)?;
+    write_warning(&mut writer, name, bytes, file, warning)?;
+    ended_line(writer)
+}
+
+/// The warnings about a file of rules (`RuleFile::warnings`) as JSON: a line for each, with an object whose members are `file`, `line`, `column`, `kind`, and `part`,
+/// `mode` or `rule`; of a warning about the whole file only `file` and `kind`. The kinds are `no-rules`, `part-unused`,
+/// `mode-not-entered` and `literal-empty`.
+///
+/// ```
+/// use tokens_lib::{read_rules, warnings_json};
+///
+/// let bytes = b"A = ''\n";
+/// let file = read_rules(alloc, bytes)?;
+/// let lines = warnings_json(alloc, "c.rules", bytes, &file)?; // {"file":"c.rules","line":1,"column":6,"kind":"literal-empty","rule":"A"}
+/// ```
+///
+/// # Errors
+///
+/// `AllocError` if a request for memory was refused.
+pub fn warnings_json(
+    alloc: Global,
+    name: &str,
+    bytes: &[u8],
+    file: &RuleFile<'_>,
+) -> Result<Vec<u8>, AllocError>
+    ensures objects { IfOk result (λ objects. SaysWarnings Json name.now
+        (lines (without_mark_of bytes.now)) file.now objects.items) }
+{
+    let text = without_mark(bytes);
+    let warnings = file.warnings(alloc)?;
+    let mut objects = Vec::new(alloc);
+    for warning in &warnings {
+        let line = warning_object(alloc, name, text, file, *warning)?;
+        objects.extend_from_slice(&line)?;
+    }
+    Ok(objects)
+}
