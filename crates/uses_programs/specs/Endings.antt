@@ -21,6 +21,7 @@ use Rattle.lalrpop_rules.specs.declared.item.Item.TheVariants.{Fault}
 use Rattle.reports_lib.specs.Answer.{Answer, about, followed, headed, refusal}
 use Rattle.reports_lib.specs.Reasons.{SaysRules, placed, syntax_text}
 use Rattle.reports_lib.specs.declared.layout.LineForm.{LineForm}
+use Rattle.reports_lib.specs.declared.layout.LineForm.TheVariants.{Plain}
 use Rattle.tokens_lib.specs.CutEnds.{IsCutTo, IsTextOf, first_fault}
 use Rattle.tokens_lib.specs.NamedRules.{IsSetOf, SayRules, StandAt, rules_status}
 use Rattle.tokens_lib.specs.OpenModes.{open_behind, open_mode}
@@ -62,7 +63,7 @@ HasBadLine rules answer =
 -- the file says these rules, of modes with these names, and of it these warnings are said
 pub record Says (rules : List ℕ) (modes : List (List ℕ)) (rs : List ModeRule) (warnings : List ℕ) : Type 0 where
   pub rules_are : SayRules (lines_in rules) modes rs
-  pub warned : Warned Warnings (codes "rules") (lines_in rules) warnings
+  pub warned : Warned Plain Warnings (codes "rules") (lines_in rules) warnings
 
 -- its rules make no lexer, and it is said why: a rule's text has no tree, and the status is 3; or a rule can't be compiled, or two
 -- clash, and it is 2. Nothing is written
