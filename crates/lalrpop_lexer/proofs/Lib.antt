@@ -30,6 +30,8 @@ pub use Rattle.bajofeki_rules.proofs.PlaceLaws
 pub mod Hopes
 pub mod Kept
 pub mod Walks
+-- the words that the patterns match
+pub mod MatchedWords
 -- the memory, and how far the matches have been found, ahead or not
 pub mod Marks
 pub mod Standings

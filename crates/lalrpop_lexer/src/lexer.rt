@@ -7,7 +7,8 @@ ghost use Rattle.lalrpop_hir.specs.Clash.{NoClash};
 ghost use Rattle.lalrpop_hir.specs.Report.{NoFault, IsReport};
 ghost use Rattle.lalrpop_hir.specs.Longest.{IsLongest};
 ghost use Rattle.lalrpop_hir.specs.Winners.{IsOnlyStrongest, Matched};
-ghost use Rattle.lalrpop_dfa.specs.Lookahead.{IsLookahead, StaysOpenEver, IsTrim};
+ghost use Rattle.lalrpop_dfa.specs.Lookahead.{IsLookahead, LeavesOpen, StaysOpenEver, IsTrim};
+ghost use Rattle.lalrpop_hir.specs.Word.{IsWord};
 ghost use Rattle.lalrpop_dfa.specs.Witness.{IsOpenMatch, IsWitness};
 ghost use Rattle.lalrpop_lexer.specs.Matching.{open_states};
 ghost use Rattle.lalrpop_lexer.specs.Cutting.{start_of, rest_of};
@@ -56,8 +57,9 @@ pub struct Lexer {
 }
 
 impl Model for Lexer {
-    ghost use Rattle.std.specs.Prelude.{map};
+    ghost use Rattle.std.specs.Prelude.{map, List, ℕ};
     ghost use Rattle.lalrpop_hir.specs.Winners.{Matched};
+    ghost use Rattle.lalrpop_hir.specs.Word.{IsWord};
     ghost use Rattle.lalrpop_dfa.specs.Lookahead.{IsLookahead, IsTrim};
     ghost use Rattle.lalrpop_lexer.specs.Rules.{Rules, IsBuiltFrom};
     ghost use Rattle.lalrpop_lexer.specs.Internal.Code.{rules_code};
@@ -75,7 +77,8 @@ impl Model for Lexer {
 
     ghost invariant = { λ l.
         IsBuiltFrom l.regexs.items (map (λ p. p.0) l.precedences.items) l.dense
-        × IsTrim l.dense × IsLookahead (Matched l.regexs.items) l.lookahead };
+        × IsTrim l.dense × IsLookahead (Matched l.regexs.items) l.lookahead
+        × ((w : List ℕ) → Matched l.regexs.items w → IsWord w) };
 }
 
 impl Lexer {
@@ -113,9 +116,10 @@ impl Lexer {
         })
     }
 
-    /// The patterns, in the order of their indices.
+    /// The patterns, in the order of their indices. All values of the words that they match fit 32 bits.
     pub fn regexs(&self) -> &[Regex]
         ensures trees { result.now ≡ self.now.trees }
+        ensures words { (w : List ℕ) → Matched self.now.trees w → IsWord w }
     {
         &self.regexs
     }
@@ -228,8 +232,13 @@ impl Lexer {
     /// `None` if it is unbounded.
     ///
     /// If it is n, no more than n + 1 characters past the end of a token are read to decide it.
+    ///
+    /// It is the same over words of 32-bit values alone, of which `lookahead_witness` speaks: no other values can be in a match
+    /// that is left open, nor among those that leave it open.
     pub fn lookahead(&self) -> Option<usize>
         ensures answer { IsLookahead (Matched self.now.trees) result }
+        ensures words { (n : ℕ) (v x : List ℕ) → LeavesOpen (Matched self.now.trees) n v x
+            → IsOpenMatch (Matched self.now.trees) n v x }
     {
         self.lookahead
     }
