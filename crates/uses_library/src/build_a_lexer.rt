@@ -1,8 +1,9 @@
 //! A lexer is built from patterns and precedences, and returns its patterns.
-ghost use Rattle.std.specs.Prelude.{◌≡◌, ◌∷◌, [], slice_get, IfOk, OnOk, IfErr};
+ghost use Rattle.std.specs.Prelude.{◌≡◌, ℕ, ◌<◌, List, ◌∷◌, [], length, slice_get, IfOk, OnOk, IfErr};
 ghost use Rattle.std.specs.Option.{option_copied};
 ghost use Rattle.lalrpop_lexer.specs.Clash.{NoClash};
 ghost use Rattle.lalrpop_lexer.specs.Report.{NoFault, IsReport};
+ghost use Rattle.lalrpop_lexer.specs.Winners.{Matched};
 
 use lalrpop_lexer::Lexer;
 use lalrpop_lexer::lexer::dfa::{DfaConstructionError, Precedence};
@@ -37,4 +38,14 @@ pub fn pattern_at(lexer: &Lexer, number: usize) -> Option<&Regex>
     ensures pattern { option_copied result ≡ slice_get lexer.now.trees number }
 {
     lexer.regexs().get(number)
+}
+
+// Needs lalrpop_lexer::Lexer::regexs: trees, words.
+/// How many patterns there are. None of them matches a word that begins with a value beyond 32 bits.
+pub fn number_of_patterns(lexer: &Lexer) -> usize
+    ensures number { result ≡ length lexer.now.trees }
+    ensures no_word { (c : ℕ) (w : List ℕ) → 4294967295 < c
+        → ¬ Matched lexer.now.trees (c ∷ w) }
+{
+    lexer.regexs().len()
 }

@@ -1,12 +1,13 @@
 //! How far a lexer looks ahead.
 
-ghost use Rattle.std.specs.Prelude.{◌≡◌, ◌≢◌, ℕ, ◌+◌, ◌<◌, ◌↔◌, ◌++◌, [], List, Some, None, length, true, false, IfOk, IfSome};
+ghost use Rattle.std.specs.Prelude.{◌≡◌, ◌≢◌, ℕ, ◌+◌, ◌<◌, ◌↔◌, ◌++◌, [], List, Some, None, length, true, false, IfOk, IfSome, IfNone};
 ghost use Rattle.std.specs.Str.{chars};
 ghost use Rattle.lalrpop_lexer.specs.Longest.{IsLongest};
 ghost use Rattle.lalrpop_lexer.specs.Lookahead.{CanStayOpen, LooksAtMost, StaysOpenEver};
 ghost use Rattle.lalrpop_lexer.specs.Winners.{IsOnlyStrongest, Matched};
 ghost use Rattle.lalrpop_lexer.specs.Witness.{IsOpenMatch, IsWitness};
 
+use lalrpop_dfa::Witness;
 use lalrpop_edits::SettledToken;
 use lalrpop_lexer::{Lexer, Token};
 use std::alloc::{AllocError, Global};
@@ -69,6 +70,27 @@ pub fn is_left_open(alloc: Global, lexer: &Lexer, count: usize) -> Result<bool, 
     match lexer.lookahead_witness(alloc, count)? {
         Some(_) => Ok(true),
         None => Ok(false),
+    }
+}
+
+// Needs lalrpop_lexer::Lexer::lookahead: answer, words.
+/// What makes the lexer look ahead as far as it does or, where nothing limits how far, `otherwise` characters. `None` only if no
+/// match is left open by a character after it.
+///
+/// # Errors
+///
+/// `AllocError` if a request for memory was refused.
+pub fn farthest(
+    alloc: Global,
+    lexer: &Lexer,
+    otherwise: usize,
+) -> Result<Option<Witness>, AllocError>
+    ensures none { IfOk result (λ found.
+        IfNone found (LooksAtMost (Matched lexer.now.trees) 0)) }
+{
+    match lexer.lookahead() {
+        Some(number) => lexer.lookahead_witness(alloc, number),
+        None => lexer.lookahead_witness(alloc, otherwise),
     }
 }
 
