@@ -1,6 +1,5 @@
 -- The names of the rules of a file, through the rules of its lexer.
 use Rattle.std.proofs.Common.{◌≡◌, ℕ, List, [], ◌∷◌, map, refl, ap, ◌∙◌}
-use Rattle.bajofeki_rules.specs.declared.rule.Rule.{Rule}
 use Rattle.lalrpop_rules.specs.RuleSet.{names_of}
 use Rattle.lalrpop_rules.specs.ModeSet.{rules_of}
 use Rattle.bajofeki_rules.specs.declared.mode_rule.ModeRule.{ModeRule}

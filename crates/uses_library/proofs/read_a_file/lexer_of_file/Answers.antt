@@ -1,4 +1,4 @@
-use Rattle.std.proofs.Common.{ℕ, List, length, map, ap, sym, ◌∙◌}
+use Rattle.std.proofs.Common.{sym, ◌∙◌}
 use Rattle.std.proofs.lemmas.List.{length-map}
 use Rattle.uses_library.proofs.ReadFiles.{names_of_file}
 use Rattle.uses_library.proofs.read_a_file.lexer_of_file.Goals as goal
