@@ -46,7 +46,7 @@ IsEnd r kinds text after cut d =
     ⊎ (((cut.code ≡ 2) × (cut.count ≡ length after)) × (place_of d < length text))
     ⊎ ((cut.code ≡ 4) × StopsAt r kinds 1024 text false (place_of d) (stack_in d))
 
--- so many pieces are written, up to the place of d
+-- the pieces that are counted are written, up to the place of d
 pub record IsFilled (l : BuiltLexer) (text : List ℕ) (c : ByteCut) (before : List Piece) (cut : Cut) (after : List Piece) (d : ByteCut) : Type 0 where
   pub filled : AreFilled l text c before cut.count after d
   pub end : cut.end ≡ place_of d

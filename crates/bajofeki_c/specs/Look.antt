@@ -25,7 +25,7 @@ look_told None = record { code = 1; count = 0 }
 abbrev pub no_look : Look
 no_look = record { code = 9; count = 0 }
 
--- so many characters after a token of the mode can leave open whether a longer one comes
+-- this is how many characters after a token of the mode can leave open whether a longer one comes
 abbrev pub IsLook : ModeRules → ℕ → Look → Type 0
 IsLook r mode look = (count : Option ℕ) × (IsLookahead (Matched (trees_in r mode)) count × (look ≡ look_told count))
 

@@ -29,9 +29,9 @@ pub struct Cut {
     /// 0: to its end. 2: the array is full, and text is left. 4: the next token would put a mode on top of more than 1024 others.
     /// 9: there is no lexer or no cut.
     pub code: u32,
-    /// So many pieces were written.
+    /// How many pieces were written.
     pub count: usize,
-    /// Behind them the next piece begins, in bytes.
+    /// Where the next piece begins after them, in bytes.
     pub end: usize,
 }
 

@@ -25,7 +25,7 @@ pub enum Markup {
 pub struct Page {
     /// 0: there is a page. 3: the text isn't UTF-8. 7: a request for memory was refused. 9: there is no lexer.
     pub code: u32,
-    /// So many bytes the page has (0).
+    /// The number of bytes of the page (0).
     pub length: usize,
 }
 

@@ -117,7 +117,8 @@ pub(crate) fn blocks_of(
     place: &mut Place,
 ) -> Result<Vec<Block>, AllocError>
     requires fits { place.old.at + sizes pieces.now < 2 ^ 63 }
-    requires boundaries { (n : ℕ) → IsCharBoundary text.now (place.old.at + sizes (take n pieces.now)) }
+    requires boundaries { (n : ℕ)
+        → IsCharBoundary text.now (place.old.at + sizes (take n pieces.now)) }
     ensures marked { IfOk result (λ bs. AreMarked lexer.now place.old.stack bs.items) }
     ensures pieces { IfOk result (λ bs. pieces_in bs.items ≡ pieces.now) }
     ensures counted { IfOk result (λ bs. AreCounted (drop place.old.at text.now) bs.items) }

@@ -98,7 +98,8 @@ impl TextDecoder {
     ///
     /// `AllocError` if a request for memory was refused. Then nothing has changed.
     pub fn decode(&mut self, alloc: Global, bytes: &[u8]) -> Result<String, AllocError>
-        ensures decoded { IfOk result (λ text. Decodes self.old bytes.now (string_bytes text) self.new) }
+        ensures decoded { IfOk result
+            (λ text. Decodes self.old bytes.now (string_bytes text) self.new) }
         ensures refused { OnErr result (self.new ≡ self.old) }
     {
         if self.is_broken {

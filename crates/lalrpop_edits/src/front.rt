@@ -45,7 +45,8 @@ fn front_by(
     requires sound { IsSound walker.now memo.old mode at rest.now }
     ensures front { (d : List Row) (ts : List Tree) (ps : List ℕ) → IsWalkerOf walker.now d
         → RecognizesAll d ts ps → (other : List ℕ) → AreAlike result.reach rest.now other
-        → (slice : List ℕ) × ((length slice ≡ result.size) × IsFront ts ps other result.rule slice) }
+        → (slice : List ℕ)
+        × ((length slice ≡ result.size) × IsFront ts ps other result.rule slice) }
     ensures some { 0 < result.size }
     ensures size { result.size ≤ result.reach }
     ensures within { result.reach ≤ length rest.now + 1 }
@@ -53,14 +54,17 @@ fn front_by(
     ensures held { length rest.now < result.reach → (d : List Row) (ts : List Tree) (ps : List ℕ)
         → IsWalkerOf walker.now d → IsTrim d → RecognizesAll d ts ps → IsOpen ts rest.now }
     ensures sound { IsSound walker.now memo.new mode at rest.now }
-    ensures others { (m p e n : ℕ) → m ≢ mode → IsNoted memo.new m p e n → IsNoted memo.old m p e n }
+    ensures others { (m p e n : ℕ) → m ≢ mode → IsNoted memo.new m p e n
+        → IsNoted memo.old m p e n }
     ensures stays { (m p e : ℕ) → IsKnown memo.old m p e → IsKnown memo.new m p e }
     ensures whole { memo.new.is_whole ≡ true → memo.old.is_whole ≡ true }
-    ensures reads { (d : List Row) (ts : List Tree) (ps : List ℕ) → IsWalkerOf walker.now d → IsTrim d
+    ensures reads { (d : List Row) (ts : List Tree) (ps : List ℕ) → IsWalkerOf walker.now d
+        → IsTrim d
         → RecognizesAll d ts ps → IsReadFor ts rest.now result.rule result.size result.reach }
     ensures paid { memo.new.is_whole ≡ true → (d : List Row) (ts : List Tree) (ps : List ℕ)
         → IsWalkerOf walker.now d → IsTrim d → RecognizesAll d ts ps
-        → (news : List (ℕ × (ℕ × ℕ))) × ((far : ℕ) × IsFrontPaid walker.now ts ps memo.old memo.new mode at
+        → (news : List (ℕ × (ℕ × ℕ)))
+        × ((far : ℕ) × IsFrontPaid walker.now ts ps memo.old memo.new mode at
         rest.now result steps.old steps.new news far) }
     ensures never_falls { steps.old ≤ steps.new }
 {
@@ -115,7 +119,8 @@ pub(crate) fn front_piece(
     ensures boundary { IsCharBoundary rest.now result.size }
     ensures held { length rest.now < result.reach → IsOpen lexer.now.trees rest.now }
     ensures sound { IsSound walker.now memo.new mode at rest.now }
-    ensures others { (m p e n : ℕ) → m ≢ mode → IsNoted memo.new m p e n → IsNoted memo.old m p e n }
+    ensures others { (m p e n : ℕ) → m ≢ mode → IsNoted memo.new m p e n
+        → IsNoted memo.old m p e n }
     ensures stays { (m p e : ℕ) → IsKnown memo.old m p e → IsKnown memo.new m p e }
     ensures whole { memo.new.is_whole ≡ true → memo.old.is_whole ≡ true }
     ensures reads { IsReadFor lexer.now.trees rest.now result.rule result.size result.reach }

@@ -150,7 +150,8 @@ pub(crate) fn cut_to_meet(
     requires count { length (pieces_in blocks.now) < 2 ^ 63 }
     requires size { sizes (pieces_in blocks.now) < 2 ^ 63 }
     requires none { cut.old.pieces.items ≡ [] }
-    requires cutter { IsCutter lexer.now cutter.old cut.old.place.at (drop cut.old.place.at text.now) }
+    requires cutter { IsCutter lexer.now cutter.old cut.old.place.at
+        (drop cut.old.place.at text.now) }
     requires boundary { IsCharBoundary text.now cut.old.place.at }
     requires there { EachMode (λ m. m < lexer.now.modes) cut.old.place.stack }
     ensures old { OnOk result (IsOldPlace lexer.now blocks.now old.new) }

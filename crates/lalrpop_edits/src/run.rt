@@ -69,7 +69,8 @@ fn note_all(
     ensures sound { (begin i : ℕ) (all : List ℕ) → begin + i ≡ at → i ≤ length all
         → drop i all ≡ text.now → IsSound walker.now memo.old mode begin all
         → IsSound walker.now memo.new mode begin all }
-    ensures others { (m p e n : ℕ) → m ≢ mode → IsNoted memo.new m p e n → IsNoted memo.old m p e n }
+    ensures others { (m p e n : ℕ) → m ≢ mode → IsNoted memo.new m p e n
+        → IsNoted memo.old m p e n }
     ensures stays { (m p e : ℕ) → IsKnown memo.old m p e → IsKnown memo.new m p e }
     ensures whole { memo.new.is_whole ≡ true → memo.old.is_whole ≡ true }
     ensures few { until < 64 → steps.new ≡ steps.old }
@@ -79,7 +80,8 @@ fn note_all(
         → length (encode_utf8_all vain) ≤ until → until ≤ length (encode_utf8_all vain) + 4
         → until ≤ length text.now
         → (news : List (ℕ × (ℕ × ℕ)))
-        × (All (IsNew walker.now memo.old memo.new mode at text.now (length (encode_utf8_all vain))) news
+        × (All (IsNew walker.now memo.old memo.new mode at text.now
+        (length (encode_utf8_all vain))) news
         × AreDistinct news × (until ≤ 64 * length news + 67)) }
     ensures never_falls { steps.old ≤ steps.new }
     ensures counted { 64 ≤ until → (vain more : List ℕ) → chars text.now ≡ vain ++ more
@@ -215,16 +217,19 @@ pub(crate) fn longest_settled<'text>(
     ensures prefix { IfSome result.longest (λ m. IsPrefix m.1.now text.now × (m.1.now ≢ [])) }
     ensures size { IfSome result.longest (λ m. length m.1.now ≤ result.reach) }
     ensures within { result.reach ≤ length text.now + 1 }
-    ensures earliest { length text.now < result.reach → (d : List Row) (ts : List Tree) (ps : List ℕ)
+    ensures earliest { length text.now < result.reach
+        → (d : List Row) (ts : List Tree) (ps : List ℕ)
         → IsWalkerOf walker.now d → IsTrim d → RecognizesAll d ts ps
         → (v : List ℕ) × ((v ≢ []) × Matched ts (chars text.now ++ v)) }
     ensures sound { (begin i : ℕ) (all : List ℕ) → begin + i ≡ at → i ≤ length all
         → drop i all ≡ text.now → IsSound walker.now memo.old mode begin all
         → IsSound walker.now memo.new mode begin all }
-    ensures others { (m p e n : ℕ) → m ≢ mode → IsNoted memo.new m p e n → IsNoted memo.old m p e n }
+    ensures others { (m p e n : ℕ) → m ≢ mode → IsNoted memo.new m p e n
+        → IsNoted memo.old m p e n }
     ensures stays { (m p e : ℕ) → IsKnown memo.old m p e → IsKnown memo.new m p e }
     ensures whole { memo.new.is_whole ≡ true → memo.old.is_whole ≡ true }
-    ensures all_open { (n : ℕ) → size_of (option_map (λ m. (m.0, m.1.now)) result.longest) < n → n < result.reach
+    ensures all_open { (n : ℕ) → size_of (option_map (λ m. (m.0, m.1.now)) result.longest) < n
+        → n < result.reach
         → n ≤ length text.now → IsUtf8 (take n text.now)
         → says walker.now (behind walker.now (chars (take n text.now))) ≡ Neither }
     ensures paid { memo.new.is_whole ≡ true → (news : List (ℕ × (ℕ × ℕ))) × ((far : ℕ)

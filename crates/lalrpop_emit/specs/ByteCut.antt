@@ -51,6 +51,7 @@ most_open_rows n = fold (λ most a. max most (open_rows a)) 0 n.ahead
 abbrev pub memo_words : ByteCut → ℕ
 memo_words c = length c.memo
 
--- it has a bit for each mode, each row of so many, and each 64 bytes of a text of this size; but no more words than can be counted
+-- it has a bit for each mode, each of the most open rows of a mode, and each 64 bytes of a text of this size, in no more words than can
+-- be counted
 abbrev pub HasMemoFor : NumberedRules → ℕ → ByteCut → Type 0
 HasMemoFor n size c = memo_words c ≡ min (most_open_rows n * (size / 4096 + 1) * length n.tables) (2 ^ 64 - 1)

@@ -44,7 +44,7 @@ pub record AreToldApart (d : List Row) (cs : List ℕ) : Type 0 where
   pub characters : All (λ c. c < 1114112) cs
   pub apart : (i j : ℕ) → i < j → j < length cs → TellsApart d (slice_index cs i) (slice_index cs j)
 
--- the automaton tells more than 255 characters apart; or so many that a table with a row for each state, of a cell for each such character
+-- the automaton tells more than 255 characters apart; or a table with a row for each state, and in the row a cell for each such character
 -- and 131 more, has more than 2 ^ 27 cells
 pub record IsTooLarge (d : List Row) : Type 0 where
   pub told_apart : List ℕ

@@ -49,7 +49,7 @@ pub record IsTableOfMode (r : ModeRules) (m : ℕ) (t : TableNumbers) : Type 0 w
   pub recognizes : IsBuiltFrom (trees_in r m) r.precedences automaton
   pub right : IsTableFor t automaton
 
--- there is a table that runs ahead for each mode, and it is that of the mode's table
+-- for each mode there is a table that runs ahead, and it belongs to the mode's table
 pub record AreAheadOf (aheads : List AheadNumbers) (tables : List TableNumbers) : Type 0 where
   pub all : length aheads ≡ length tables
   pub each : (m : ℕ) (a : AheadNumbers) (t : TableNumbers) → slice_get aheads m ≡ Some a → slice_get tables m ≡ Some t → IsAheadOf a t

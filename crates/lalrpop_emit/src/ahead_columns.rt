@@ -39,8 +39,10 @@ fn next_column(ahead: &Ahead, table: &Table, text: &[u8], at: usize, left: usize
     requires classes { AreClasses (list_numbers table.now) }
     requires few { ahead.now.width ≤ 2 ^ 16 }
     ensures { (rest : List ℕ)
-        → AreColumns (list_numbers table.now) ahead.now.width result.left (drop (at + 1) text.now) rest
-        → AreColumns (list_numbers table.now) ahead.now.width left (drop at text.now) (result.number ∷ rest) }
+        → AreColumns (list_numbers table.now) ahead.now.width result.left
+        (drop (at + 1) text.now) rest
+        → AreColumns (list_numbers table.now) ahead.now.width left (drop at text.now)
+        (result.number ∷ rest) }
 {
     let within = ahead.width - 2;
     let bad = Column {
@@ -103,7 +105,8 @@ pub(crate) fn columns_of(
     requires classes { AreClasses (list_numbers table.now) }
     requires few { ahead.now.width ≤ 2 ^ 16 }
     requires place { from ≤ length text.now }
-    ensures { AreColumns (list_numbers table.now) ahead.now.width 0 (drop from text.now) columns.new }
+    ensures { AreColumns (list_numbers table.now) ahead.now.width 0 (drop from text.now)
+        columns.new }
 {
     let mut left = 0;
     let mut at = 0;

@@ -22,7 +22,8 @@ const LEAST: usize = 384;
 // Writes a bit for each row: whether it is one of an end. Rows after the last 64 have none.
 fn mark_ends(rows: &[AheadCell], least: usize, ends: &mut [u64])
     requires { length rows.now / 64 ≤ length ends.old }
-    ensures { (w : ℕ) → w < length rows.now / 64 → IsWordOf least rows.now w (slice_index ends.new w) }
+    ensures { (w : ℕ) → w < length rows.now / 64
+        → IsWordOf least rows.now w (slice_index ends.new w) }
 {
     for word in 0..rows.len() / 64 {
         ends[word] = ends_of(&rows[word * 64..word * 64 + 64], least);
@@ -44,7 +45,8 @@ fn run_through(
     requires parts { (words : ℕ) × (0 < words) × (size ≡ 384 * words) }
     requires place { at ≤ length text.now }
     requires room { (size ≤ length columns.old) × (size ≤ length rows.old) }
-    ensures columns { AreColumns (list_numbers table.now) ahead.now.width 0 (drop at text.now) (take size columns.new) }
+    ensures columns { AreColumns (list_numbers table.now) ahead.now.width 0 (drop at text.now)
+        (take size columns.new) }
     ensures rows { (right : IsAheadOf (ahead_numbers ahead.now) (list_numbers table.now))
         → AreStandings (ahead_numbers ahead.now) (list_numbers table.now) right.standings
         (take size columns.new) (take size rows.new) }
@@ -101,8 +103,10 @@ pub(crate) fn fill_block(
 #[inline(always)]
 fn next_end(run: &mut Run) -> Option<usize>
     requires room { HasRoom run.old }
-    requires place { HasNoEnd run.old ⊎ ((least : ℕ) × ((place : ℕ) × IsAtPlace least run.old place)) }
-    ensures place { (least place : ℕ) → IsAtPlace least run.old place → IsAtPlace least run.new place }
+    requires place { HasNoEnd run.old
+        ⊎ ((least : ℕ) × ((place : ℕ) × IsAtPlace least run.old place)) }
+    ensures place { (least place : ℕ) → IsAtPlace least run.old place
+        → IsAtPlace least run.new place }
     ensures end { (least place : ℕ) → IsAtPlace least run.old place
         → MatchOption result (IsLastIn least run.new place) (IsNextEnd least run.new place) }
     ensures none { HasNoEnd run.old → MatchOption result (HasNoEnd run.new) (λ end. ⊥) }

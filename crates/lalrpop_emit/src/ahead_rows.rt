@@ -135,7 +135,8 @@ pub(crate) fn fill(
     requires place { from ≤ length text.now }
     requires parts { (part : ℕ) × (0 < part) × (length columns.old ≡ 6 * part) }
     requires as_many { length rows.old ≡ length columns.old }
-    ensures columns { AreColumns (list_numbers table.now) ahead.now.width 0 (drop from text.now) columns.new }
+    ensures columns { AreColumns (list_numbers table.now) ahead.now.width 0 (drop from text.now)
+        columns.new }
     ensures rows { (is_ahead : IsAheadOf (ahead_numbers ahead.now) (list_numbers table.now))
         → AreStandings (ahead_numbers ahead.now) (list_numbers table.now) is_ahead.standings
         columns.new rows.new }

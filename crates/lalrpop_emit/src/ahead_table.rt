@@ -146,7 +146,8 @@ fn leads_right(
     requires walkable { IsWalkable (list_numbers table.now) }
     requires narrow { ahead.now.width + 1 < 2 ^ 64 }
     ensures { IsTrue result
-        → LeadsRight (ahead_numbers ahead.now) (list_numbers table.now) standings.now row standing ahead.now.width }
+        → LeadsRight (ahead_numbers ahead.now) (list_numbers table.now) standings.now row standing
+        ahead.now.width }
 {
     for column in 0..ahead.width {
         let target = cell(&ahead.cells, row, column) as usize;
@@ -258,7 +259,8 @@ pub(crate) fn ahead_of(alloc: Global, table: &TableLists) -> Result<Option<Ahead
     requires { IsWalkable (list_numbers table.now) }
     ensures right { IfOk result (λ made. IfSome made (λ ahead.
         CanRunAhead (ahead_numbers ahead) (list_numbers table.now))) }
-    ensures storable { IfOk result (λ made. IfSome made (λ ahead. IsStorableAhead (ahead_numbers ahead))) }
+    ensures storable { IfOk result
+        (λ made. IfSome made (λ ahead. IsStorableAhead (ahead_numbers ahead))) }
 {
     let width = column_count(table);
     if width > MOST_COLUMNS {

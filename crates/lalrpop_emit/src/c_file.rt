@@ -53,7 +53,8 @@ fn push_filled(source: &mut String, prefix: &str, text: &str) -> Result<(), Allo
 ///
 /// `AllocError` if a request for memory was refused.
 pub(crate) fn push_listed(source: &mut String, numbers: &[u32]) -> Result<(), AllocError>
-    ensures { OnOk result (string_bytes source.new ≡ string_bytes source.old ++ listed 0 numbers.now) }
+    ensures { OnOk result
+        (string_bytes source.new ≡ string_bytes source.old ++ listed 0 numbers.now) }
 {
     for (place, number) in numbers.iter().enumerate() {
         push_decimal(source, u64::from(*number))?;
@@ -68,7 +69,8 @@ pub(crate) fn push_listed(source: &mut String, numbers: &[u32]) -> Result<(), Al
 
 #[tactic(auto, unfolding(crate::specs::CSource::listing))]
 fn push_listing(source: &mut String, numbers: &[u32]) -> Result<(), AllocError>
-    ensures { OnOk result (string_bytes source.new ≡ string_bytes source.old ++ listing numbers.now) }
+    ensures { OnOk result
+        (string_bytes source.new ≡ string_bytes source.old ++ listing numbers.now) }
 {
     source.push_str("[")?;
     push_decimal(source, numbers.len() as u64)?;

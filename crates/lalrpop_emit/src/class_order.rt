@@ -77,7 +77,7 @@ fn moved_blocks(alloc: Global, blocks: &[u32], numbers: &[u32]) -> Result<Vec<u3
     Ok(moved)
 }
 
-// The cells of each row in the new order, and after them that of the rule, which stays.
+// The cells of each row in the new order, and after them the cell of the rule, which stays.
 fn moved_cells(alloc: Global, table: &TableLists, classes: &[u32]) -> Result<Vec<u32>, AllocError> {
     let mut moved = Vec::new(alloc);
     for row in (0..table.cells.len()).step_by(table.width.saturating_add(1)) {
@@ -164,7 +164,8 @@ fn are_moved_cells(table: &TableLists, cells: &[u32], numbers: &[u32]) -> bool
 
 // Whether the blocks and cells are those of the table, by the new numbers.
 fn is_renumbered(table: &TableLists, blocks: &[u32], cells: &[u32], numbers: &[u32]) -> bool
-    ensures { IsTrue result → IsRenumbered (list_numbers table.now) blocks.now cells.now numbers.now }
+    ensures { IsTrue result
+        → IsRenumbered (list_numbers table.now) blocks.now cells.now numbers.now }
 {
     table.width < usize::MAX
         && is_row_place(table, table.start)

@@ -142,7 +142,8 @@ fn class_for(dfa: &Dfa, firsts: &mut Vec<u32>, value: u32) -> Result<u32, EmitEr
     ensures few { OnOk result (length firsts.new.items ≤ 255) }
     ensures like { IfOk result (λ class. (class < length firsts.new.items)
         × AreAlike dfa.now value (slice_index firsts.new.items class)) }
-    ensures kept { OnOk result ((k : ℕ) → k < length firsts.old.items → (k < length firsts.new.items)
+    ensures kept { OnOk result ((k : ℕ) → k < length firsts.old.items
+        → (k < length firsts.new.items)
         × (slice_index firsts.new.items k ≡ slice_index firsts.old.items k)) }
     ensures error { IfErr result (IsTableError dfa.now) }
 {

@@ -1,5 +1,5 @@
-//! The code of an emitted lexer: that of the Rust source is this text without contracts, and that of the C source says the same
-//! line by line, in functions of the same names. These functions are proved; that the lines of C say the same is trusted. To
+//! The code of an emitted lexer: the Rust source has this text without its contracts, and the C source says the same line by
+//! line, in functions of the same names. These functions are proved; that the lines of C say the same is trusted. To
 //! compare with C:
 //!
 //! - `text: &[u8]` stands for `text` and `length`, and `columns` and `rows` for these and `count`; `table` and `numbers` for static
@@ -224,7 +224,8 @@ pub(crate) fn memo_size(numbers: &Numbers, size: usize) -> usize
     ensures each { All (λ a. (result ≡ usize.MAX)
         ⊎ (a.ends / (a.width + 1) * (size / 4096 + 1) ≤ result / length numbers.now.tables)) numbers.now.ahead }
     ensures size { result
-        ≡ min (most_open_rows numbers.now * (size / 4096 + 1) * length numbers.now.tables) (2 ^ 64 - 1) }
+        ≡ min (most_open_rows numbers.now * (size / 4096 + 1) * length numbers.now.tables)
+        (2 ^ 64 - 1) }
 {
     memo_words(most_rows(numbers), size).saturating_mul(numbers.tables.len())
 }
@@ -282,7 +283,8 @@ fn found(
 #[inline(always)]
 fn has_actions(numbers: &Numbers, rule: usize) -> bool
     requires { rule < length numbers.now.kinds }
-    ensures { IsFalse result → (r : ModeRules) → AreNumbersOf r numbers.now → actions_of r.actions rule ≡ [] }
+    ensures { IsFalse result → (r : ModeRules) → AreNumbersOf r numbers.now
+        → actions_of r.actions rule ≡ [] }
 {
     numbers.actions.len() > numbers.first_actions.len()
         && numbers.actions[numbers.first_actions[rule] as usize] != 0
@@ -293,8 +295,10 @@ fn has_actions(numbers: &Numbers, rule: usize) -> bool
 fn token_piece(numbers: &Numbers, start: usize, token: Match) -> NumberedPiece
     requires rule { token.rule < length numbers.now.kinds }
     requires end { start ≤ token.end }
-    ensures kind { MatchOption result.kind ⊥ (λ kind. slice_get numbers.now.kinds token.rule ≡ Some kind) }
-    ensures rest { (result.rule ≡ token.rule) × (result.start ≡ start) × (result.length ≡ token.end - start) }
+    ensures kind { MatchOption result.kind ⊥
+        (λ kind. slice_get numbers.now.kinds token.rule ≡ Some kind) }
+    ensures rest { (result.rule ≡ token.rule) × (result.start ≡ start)
+        × (result.length ≡ token.end - start) }
 {
     NumberedPiece {
         kind: Some(numbers.kinds[token.rule]),
@@ -346,7 +350,8 @@ fn next_apart(
     requires run { IsRunOf numbers.now state.old.mode state.old.at text.now run.old }
     requires memo { IsMemoOf numbers.now text.now memo.old }
     requires known { IfSome known (λ m. (t : TableNumbers)
-        → slice_get numbers.now.tables state.old.mode ≡ Some t → IsTokenAt t text.now state.old.at m.rule m.end) }
+        → slice_get numbers.now.tables state.old.mode ≡ Some t
+        → IsTokenAt t text.now state.old.at m.rule m.end) }
     ensures next { (r : ModeRules) → AreNumbersOf r numbers.now
         → ComesNext r numbers.now.kinds (length below.old) text.now state.old.at
         (stack_of state.old below.old) result (stack_of state.new below.new) }
@@ -419,7 +424,8 @@ pub(crate) fn next(
 // doesn't follow in a character is a column.
 pub(crate) fn move_on(text: &[u8], position: &mut Position, to: usize)
     requires { position.old ≡ byte_position_of text.now position.old.at }
-    ensures { position.new ≡ byte_position_of text.now (max position.old.at (min to (length text.now))) }
+    ensures { position.new
+        ≡ byte_position_of text.now (max position.old.at (min to (length text.now))) }
 {
     while position.at < to && position.at < text.len() {
         if text[position.at] == b'\n' {

@@ -45,8 +45,8 @@ pub enum EmitError {
     /// The prefix isn't an identifier: ASCII letters, digits and `_`, and no digit first.
     #[error("the prefix isn't an identifier")]
     BadPrefix,
-    /// The automaton of a mode is too large for a table: it tells more than 255 characters apart, or so many that a table with
-    /// a row for each state, of a cell for each such character and 131 more, would have more than 2^27 cells.
+    /// The automaton of a mode is too large for a table: it tells more than 255 characters apart; or a table with a row for
+    /// each state, and in the row a cell for each such character and 131 more, would have more than 2^27 cells.
     #[error("the automaton of a mode has no table")]
     NoTable,
     /// A request for memory was refused.

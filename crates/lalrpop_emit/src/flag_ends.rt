@@ -10,7 +10,8 @@ use crate::run::AheadCell;
 fn flags_of(rows: &[AheadCell], least: AheadCell) -> [u8; 64]
     requires { length rows.now ≡ 64 }
     ensures flags { (k : ℕ) → k < 64 → slice_index result k ≤ 1 }
-    ensures are { (k : ℕ) → k < 64 → ((slice_index result k ≡ 1) ↔ (least ≤ slice_index rows.now k)) }
+    ensures are { (k : ℕ) → k < 64
+        → ((slice_index result k ≡ 1) ↔ (least ≤ slice_index rows.now k)) }
 {
     let mut flags = [0; 64];
     for (k, row) in rows.iter().enumerate() {

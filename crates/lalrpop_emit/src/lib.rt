@@ -1,6 +1,6 @@
 //! A lexer as one source file: the numbers of its table, the names of its rules, and code that is the same for all rules.
 //!
-//! The numbers are proved to be right for the automaton, and the text to be that of these numbers alone. The code that is the
+//! The numbers are proved to be right for the automaton, and the text to depend on these numbers alone. The code that is the
 //! same for all rules is proved in the form that it has in this crate, for texts of any bytes. A source in Rust has its text,
 //! without the contracts. That its lines in C say the same is trusted: both stand function by function in the same order.
 #![tactic(auto)]

@@ -51,7 +51,8 @@ fn column_at(table: &Table, text: &[u8], at: usize) -> Option<CharacterColumn>
     requires place { at < length text.now }
     ensures { MatchOption result ((c : ℕ) → ¬ IsCharacterAt text.now at c)
         (λ r. (c : ℕ) × (IsCharacterAt text.now at c
-        × (r.number ≡ character_column (list_numbers table.now) c) × (r.size ≡ length (encode_utf8 c)))) }
+        × (r.number ≡ character_column (list_numbers table.now) c)
+        × (r.size ≡ length (encode_utf8 c)))) }
 {
     let first = text[at];
     if first < 128 {
@@ -84,7 +85,8 @@ fn walked(ahead: &Ahead, table: &Table, text: &[u8], walk: Walk) -> Option<Walk>
     requires row { IsRowOf (ahead_numbers ahead.now) walk.row }
     ensures step { MatchOption result
         (StopsAt (ahead_numbers ahead.now) (list_numbers table.now) text.now walk.row walk.at)
-        (λ next. IsStep (ahead_numbers ahead.now) (list_numbers table.now) text.now walk.row walk.at next.row next.at) }
+        (λ next. IsStep (ahead_numbers ahead.now) (list_numbers table.now) text.now walk.row walk.at
+        next.row next.at) }
     ensures place { IfSome result (λ next. (walk.at < next.at) × (next.at ≤ length text.now)) }
     ensures row { IfSome result (λ next. IsRowOf (ahead_numbers ahead.now) next.row) }
 {
@@ -124,7 +126,8 @@ fn word_of(ahead: &Ahead, size: usize, walk: Walk, words: usize) -> Option<usize
     requires narrow { ahead.now.width + 1 < 2 ^ 64 }
     requires place { walk.at ≤ size }
     ensures { MatchOption result (words / (size / 4096 + 1) ≤ walk.row / (ahead.now.width + 1))
-        (λ word. (word ≡ memo_word (ahead_numbers ahead.now) size walk.row walk.at) × (word < words)) }
+        (λ word. (word ≡ memo_word (ahead_numbers ahead.now) size walk.row walk.at)
+        × (word < words)) }
 {
     let row_words = size / 4096 + 1;
     let number = walk.row / (ahead.width + 1);
@@ -138,7 +141,8 @@ fn word_of(ahead: &Ahead, size: usize, walk: Walk, words: usize) -> Option<usize
 fn is_noted(ahead: &Ahead, size: usize, walk: Walk, memo: &[u64]) -> bool
     requires narrow { ahead.now.width + 1 < 2 ^ 64 }
     requires place { walk.at ≤ size }
-    ensures noted { IsTrue result → IsNoted memo.now (ahead_numbers ahead.now) size walk.row walk.at }
+    ensures noted { IsTrue result
+        → IsNoted memo.now (ahead_numbers ahead.now) size walk.row walk.at }
     ensures not_noted { IsRowOf (ahead_numbers ahead.now) walk.row → walk.row < ahead.now.ends
         → IsRoomy (ahead_numbers ahead.now) size memo.now
         → IsNoted memo.now (ahead_numbers ahead.now) size walk.row walk.at → IsTrue result }
@@ -165,7 +169,8 @@ fn note(ahead: &Ahead, text: &[u8], walk: Walk, memo: &mut [u64])
     requires place { walk.at ≤ length text.now }
     requires row { IsRowOf (ahead_numbers ahead.now) walk.row }
     requires passed { IsPassed text.now walk.at }
-    ensures right { (t : TableNumbers) → NothingFrom (ahead_numbers ahead.now) t text.now walk.row walk.at
+    ensures right { (t : TableNumbers)
+        → NothingFrom (ahead_numbers ahead.now) t text.now walk.row walk.at
         → IsMemoFor (ahead_numbers ahead.now) t text.now memo.old
         → IsMemoFor (ahead_numbers ahead.now) t text.now memo.new }
     ensures others { (row at : ℕ) → IsRowOf (ahead_numbers ahead.now) row → IsPassed text.now at
@@ -189,11 +194,13 @@ fn note_walk(ahead: &Ahead, table: &Table, text: &[u8], from: Walk, end: usize, 
     requires classes { AreClasses (list_numbers table.now) }
     requires narrow { ahead.now.width + 1 < 2 ^ 64 }
     requires row { IsRowOf (ahead_numbers ahead.now) from.row }
-    requires nothing { NothingFrom (ahead_numbers ahead.now) (list_numbers table.now) text.now from.row from.at }
+    requires nothing { NothingFrom (ahead_numbers ahead.now) (list_numbers table.now) text.now
+        from.row from.at }
     requires memo { IsMemoFor (ahead_numbers ahead.now) (list_numbers table.now) text.now memo.old }
     ensures memo { IsMemoFor (ahead_numbers ahead.now) (list_numbers table.now) text.now memo.new }
     ensures paid { IsRoomy (ahead_numbers ahead.now) (length text.now) memo.old
-        → IsInVain (ahead_numbers ahead.now) (list_numbers table.now) text.now memo.old end from.row from.at
+        → IsInVain (ahead_numbers ahead.now) (list_numbers table.now) text.now memo.old end
+        from.row from.at
         → end / 64 + noted_count memo.old ≤ from.at / 64 + noted_count memo.new + 1 }
 {
     let mut walk = from;
@@ -211,7 +218,8 @@ fn note_walk(ahead: &Ahead, table: &Table, text: &[u8], from: Walk, end: usize, 
 // Where the last match ends: there, if one does, or else where it did before.
 fn last_of(ahead: &Ahead, last: Walk, there: Walk) -> Walk
     requires { IsRowOf (ahead_numbers ahead.now) there.row }
-    ensures { ((slice_index ahead.now.cells.items (there.row + ahead.now.width) ≢ no_rule) × (result ≡ there))
+    ensures { ((slice_index ahead.now.cells.items (there.row + ahead.now.width) ≢ no_rule)
+        × (result ≡ there))
         ⊎ ((slice_index ahead.now.cells.items (there.row + ahead.now.width) ≡ no_rule) × (result ≡ last)) }
 {
     if rule_of(ahead, there.row) != NO_RULE {
@@ -235,8 +243,10 @@ fn read_on(ahead: &Ahead, table: &Table, text: &[u8], start: usize, memo: &[u64]
     requires narrow { ahead.now.width + 1 < 2 ^ 64 }
     requires memo { IsMemoFor (ahead_numbers ahead.now) (list_numbers table.now) text.now memo.now }
     ensures row { IsRowOf (ahead_numbers ahead.now) result.last.row }
-    ensures last { IsLastMatch (ahead_numbers ahead.now) (list_numbers table.now) text.now start result.last.row result.last.at }
-    ensures nothing { NothingFrom (ahead_numbers ahead.now) (list_numbers table.now) text.now result.last.row result.last.at }
+    ensures last { IsLastMatch (ahead_numbers ahead.now) (list_numbers table.now) text.now start
+        result.last.row result.last.at }
+    ensures nothing { NothingFrom (ahead_numbers ahead.now) (list_numbers table.now) text.now
+        result.last.row result.last.at }
     ensures behind { result.last.at ≤ result.end }
     ensures read { IsReadTo (ahead_numbers ahead.now) (list_numbers table.now) text.now memo.now
         result.last.row result.last.at result.end }
@@ -291,15 +301,18 @@ fn read_and_note(
     requires narrow { ahead.now.width + 1 < 2 ^ 64 }
     requires memo { IsMemoFor (ahead_numbers ahead.now) (list_numbers table.now) text.now memo.old }
     ensures row { IsRowOf (ahead_numbers ahead.now) result.last.row }
-    ensures last { IsLastMatch (ahead_numbers ahead.now) (list_numbers table.now) text.now start result.last.row result.last.at }
-    ensures nothing { NothingFrom (ahead_numbers ahead.now) (list_numbers table.now) text.now result.last.row result.last.at }
+    ensures last { IsLastMatch (ahead_numbers ahead.now) (list_numbers table.now) text.now start
+        result.last.row result.last.at }
+    ensures nothing { NothingFrom (ahead_numbers ahead.now) (list_numbers table.now) text.now
+        result.last.row result.last.at }
     ensures behind { result.last.at ≤ result.end }
     ensures read { IsReadTo (ahead_numbers ahead.now) (list_numbers table.now) text.now memo.old
         result.last.row result.last.at result.end }
     ensures memo { IsMemoFor (ahead_numbers ahead.now) (list_numbers table.now) text.now memo.new }
     ensures size { length memo.new ≡ length memo.old }
     ensures paid { IsRoomy (ahead_numbers ahead.now) (length text.now) memo.old
-        → result.end + 64 * noted_count memo.old ≤ result.last.at + 64 * noted_count memo.new + 128 }
+        → result.end + 64 * noted_count memo.old
+        ≤ result.last.at + 64 * noted_count memo.new + 128 }
 {
     let reading = read_on(ahead, table, text, start, memo);
     if !memo.is_empty() && reading.last.at / 64 < reading.end / 64 {
@@ -321,7 +334,8 @@ pub(crate) fn longest(
     requires narrow { ahead.now.width + 1 < 2 ^ 64 }
     requires memo { IsMemoFor (ahead_numbers ahead.now) (list_numbers table.now) text.now memo.old }
     ensures answer { (d : List Row) → IsTableFor (list_numbers table.now) d
-        → (ts : List Tree) (ps : List ℕ) → Recognizes d ts ps → IsLongest ts ps (drop start text.now)
+        → (ts : List Tree) (ps : List ℕ) → Recognizes d ts ps
+        → IsLongest ts ps (drop start text.now)
         (option_map (λ m. (m.rule, take (m.end - start) (drop start text.now))) result) }
     ensures place { IfSome result (λ m. (start < m.end) × (m.end ≤ length text.now)) }
     ensures rule { (count : ℕ) → AreRulesBelow (list_numbers table.now) count

@@ -65,7 +65,8 @@ fn push_row(
     requires within { state < length dfa.now }
     requires below { AreBelow dfa.now 65535 }
     requires few { 3 * length dfa.now * (length firsts.now + 1) < 2 ^ 32 }
-    ensures row { OnOk result (cells.new.items ≡ cells.old.items ++ row_cells dfa.now firsts.now state) }
+    ensures row { OnOk result
+        (cells.new.items ≡ cells.old.items ++ row_cells dfa.now firsts.now state) }
 {
     let stride = firsts.len() + 1;
     for first in firsts {
@@ -79,7 +80,8 @@ fn push_row(
 fn all_rows(alloc: Global, dfa: &Dfa, firsts: &[u32]) -> Result<Vec<u32>, AllocError>
     requires below { AreBelow dfa.now 65535 }
     requires few { 3 * length dfa.now * (length firsts.now + 1) < 2 ^ 32 }
-    ensures rows { IfOk result (λ cells. AreRows dfa.now firsts.now cells.items (3 * length dfa.now)) }
+    ensures rows { IfOk result
+        (λ cells. AreRows dfa.now firsts.now cells.items (3 * length dfa.now)) }
 {
     let count = dfa.states().len();
     let mut cells = Vec::new(alloc);

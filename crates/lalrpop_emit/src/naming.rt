@@ -61,7 +61,8 @@ fn place_of(names: &[String], name: &str) -> usize
 ///
 /// `AllocError` if a request for memory was refused.
 pub(crate) fn distinct_names(alloc: Global, names: &[String]) -> Result<Vec<String>, AllocError>
-    ensures { IfOk result (λ all. map string_bytes all.items ≡ distinct_of (map string_bytes names.now)) }
+    ensures { IfOk result
+        (λ all. map string_bytes all.items ≡ distinct_of (map string_bytes names.now)) }
 {
     let mut distinct = Vec::new(alloc);
     for name in names {

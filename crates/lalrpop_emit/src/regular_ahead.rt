@@ -67,7 +67,8 @@ fn push_again(standings: &mut Vec<Standing>, shape: Shape) -> Result<(), AllocEr
     requires some { 0 < shape.stride }
     requires few { (shape.dead + shape.live) * shape.stride < 2 ^ 32 }
     ensures live { OnOk result (standings.new.items
-        ≡ standings.old.items ++ map (λ k. Again (live_row shape k)) (range_with_len 0 shape.live)) }
+        ≡ standings.old.items ++ map (λ k. Again (live_row shape k))
+        (range_with_len 0 shape.live)) }
 {
     for number in 0..shape.live {
         standings.push(Standing::Again(live_row(shape, number)))?;
@@ -170,7 +171,8 @@ pub(crate) fn regular_ahead(
     requires few { (2 * shape.live + 3) * (table.now.width + 131) ≤ 2 ^ 30 }
     requires small { (shape.dead + shape.live) * shape.stride < 2 ^ 32 }
     requires narrow { table.now.width ≤ 255 }
-    ensures right { IfOk result (λ ahead. CanRunAhead (ahead_numbers ahead) (list_numbers table.now)) }
+    ensures right { IfOk result
+        (λ ahead. CanRunAhead (ahead_numbers ahead) (list_numbers table.now)) }
     ensures storable { IfOk result (λ ahead. IsStorableAhead (ahead_numbers ahead)) }
 {
     let width = table.width + 130;

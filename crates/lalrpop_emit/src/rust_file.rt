@@ -49,7 +49,8 @@ fn push_name_lines(
     names: &[String],
 ) -> Result<(), AllocError>
     ensures { OnOk result (string_bytes source.new
-        ≡ string_bytes source.old ++ name_lines before.now behind.now (map string_bytes names.now)) }
+        ≡ string_bytes source.old ++ name_lines before.now behind.now
+        (map string_bytes names.now)) }
 {
     for name in names {
         source.push_str(before)?;
@@ -204,9 +205,9 @@ fn source_text(alloc: Global, numbers: &LexerNumbers) -> Result<String, AllocErr
 /// alone, has no `unsafe`, and takes no memory.
 ///
 /// `Lexer::new(text.as_bytes())` is an iterator of `Result<Piece, TooDeep>`. A piece has its `kind`, the index of its `rule`,
-/// and its `start` and `length` in bytes; `range()` is where its bytes stand. The kind of the rules named `IF` is `Kind::IF`,
-/// and `Kind::r#if` that of the rules named `if`, as of all names that are words of Rust; that of a fault, which is bytes at
-/// none of which a rule matches, is `None`. `is_skipped` says whether a piece's rule is skipped, and `name` what a kind is
+/// and its `start` and `length` in bytes; `range()` is where its bytes stand. Rules named `IF` have the kind `Kind::IF`, rules
+/// named `if` the kind `Kind::r#if`, like all names that are words of Rust, and a fault, which is bytes at none of which a rule
+/// matches, has the kind `None`. `is_skipped` says whether a piece's rule is skipped, and `name` what a kind is
 /// called. Bytes that aren't UTF-8 match nothing. `TooDeep`, the last item where it comes, means that more than 1024 modes
 /// would lie below the one on top. `LexerNumbers::pieces` has the same pieces.
 ///

@@ -13,7 +13,7 @@ use Rattle.lalrpop_lexer.specs.declared.join_error.JoinError.TheVariants.{NotATo
 abbrev pub plain : Token → ℕ × List ℕ
 plain token = (token.index, token.slice.now)
 
--- the text is that of the tokens, with the separator between those that may not stand side by side, and just these tokens are cut from it
+-- the text spells the tokens, with the separator between those that may not stand side by side, and just these tokens are cut from it
 pub record IsJoined (ts : List Tree) (ps : List ℕ) (sep : ℕ × List ℕ) (xs : List (ℕ × List ℕ)) (text : List ℕ) : Type 0 where
   pub written : List (ℕ × List ℕ)
   pub parted : IsParted ts ps sep xs written

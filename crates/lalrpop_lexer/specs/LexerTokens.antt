@@ -27,7 +27,7 @@ CutsToken old None new = GivesItem old None new
 CutsToken old (Some (Ok token)) new = (token.start ≡ old.at) × GivesItem old (Some (bare (Ok token))) new
 CutsToken old (Some (Err fault)) new = GivesItem old (Some (bare (Err fault))) new
 
--- the steps so far, and so many more for each character that is not cut off yet
+-- the steps so far, and this number for each character that is not cut off yet
 abbrev pub steps_with : ℕ → LexerCutting → ℕ
 steps_with each s = s.steps + each * left_of s.cutting
 

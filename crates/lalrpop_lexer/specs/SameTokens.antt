@@ -15,7 +15,7 @@ AreSameTokens (Ok a ∷ xs) (Ok b ∷ ys) = IsSameToken a b × AreSameTokens xs 
 AreSameTokens (Err a ∷ xs) (Err b ∷ ys) = (a.at ≡ b.at) × AreSameTokens xs ys
 AreSameTokens _ _ = ⊥
 
--- the same token or fault, so many bytes further on
+-- the same token or fault, this number of bytes further on
 abbrev pub moved : ℕ → Result Token TokenFault → Result Token TokenFault
 moved bytes (Ok token) = Ok (record token { start = bytes + token.start })
 moved bytes (Err fault) = Err (record { at = bytes + fault.at })

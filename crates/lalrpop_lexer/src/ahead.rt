@@ -17,10 +17,10 @@ use lalrpop_dfa::NfaIndex;
 use lalrpop_nfa::Steps;
 use std::marker::Model;
 
-/// A block is read if at least so many bytes of it may be read in vain.
+/// A block is read if at least this many of its bytes may be read in vain.
 pub(crate) const LEAST: usize = 32;
 
-// A block has so many bytes at most.
+// A block has at most this many bytes.
 const MOST: usize = 2048;
 
 /// The rest of a text, with the matches that are found ahead in it: those of a block. They are handed out one after another.

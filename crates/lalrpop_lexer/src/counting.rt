@@ -6,7 +6,7 @@ ghost use Rattle.std.specs.Str.{chars};
 use bajofeki_rules::char_count;
 use lalrpop_nfa::Steps;
 
-/// Counts so many steps. The compiler leaves nothing of the loop.
+/// Counts `count` steps. The compiler leaves nothing of the loop.
 #[inline(always)]
 pub(crate) fn count_steps(count: usize, steps: &mut Steps)
     ensures steps { steps.new ≡ steps.old + count }

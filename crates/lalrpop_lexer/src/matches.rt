@@ -7,7 +7,7 @@ use lalrpop_dfa::NfaIndex;
 use lalrpop_nfa::Steps;
 use std::marker::Model;
 
-// So many bytes are read of a block at most: a greater credit isn't needed.
+// At most this many bytes of a block are read: a greater credit isn't needed.
 const BLOCK: usize = 2048;
 
 // Finds the longest matches of a text, each in what the one before it leaves. It takes no memory.
@@ -50,7 +50,8 @@ impl<'text> Matches<'text> {
 
     // All of the text is left, and nothing is prepaid.
     pub(crate) fn new(dense: &'text DenseDfa, text: &'text str) -> Matches<'text>
-        ensures start { result ≡ record { automaton = dense.now; text = text.now; at = 0; spare = 0 } }
+        ensures start { result
+            ≡ record { automaton = dense.now; text = text.now; at = 0; spare = 0 } }
     {
         Matches {
             ahead: Ahead::new(dense, text),

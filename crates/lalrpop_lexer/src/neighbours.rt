@@ -70,7 +70,7 @@ impl<'lexer> Neighbours<'lexer> {
     ghost use Rattle.lalrpop_lexer.specs.Joined.{CanJoin, IsJoinError, IsJoined, plain};
     ghost use Rattle.lalrpop_lexer.specs.Internal.Joining.{IsBetween};
 
-    // The automaton is that of the lexer.
+    // `dfa` is the lexer's automaton.
     pub(crate) fn new(
         alloc: Global,
         lexer: &'lexer Lexer,

@@ -56,7 +56,7 @@ fn text_with<'text>(text: RuleText<'text>, parts: &'text [Part]) -> RuleText<'te
     }
 }
 
-// The first so many of these parts, or all if there are fewer.
+// The first `count` of these parts, or all if there are fewer.
 fn first_parts(parts: &[Part], count: usize) -> &[Part]
     ensures { result.now ≡ take count parts.now }
 {

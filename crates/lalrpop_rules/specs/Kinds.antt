@@ -51,7 +51,7 @@ merged_behind before [] ts = []
 merged_behind before (o ∷ os) [] = []
 merged_behind before (o ∷ os) (t ∷ ts) = one_tree (gathered before o (o ∷ os) (t ∷ ts)) ∷ merged_behind (before ++ o ∷ []) os ts
 
--- the first rule of each kind has all trees of its kind; the others match nothing. So a token's index is that of the first rule of its kind
+-- the first rule of each kind has all trees of its kind; the others match nothing. So the index of a token is the index of the first rule of its kind
 abbrev pub merged : List (Option ℕ) → List Tree → List Tree
 merged os ts = merged_behind [] os ts
 

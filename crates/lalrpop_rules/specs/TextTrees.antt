@@ -17,7 +17,7 @@ use Rattle.lalrpop_lexer.specs.declared.form.Form.TheVariants as forms
 use Rattle.bajofeki_rules.specs.declared.rule_text.RuleText.{RuleText}
 use Rattle.bajofeki_rules.specs.declared.rule_text.RuleText.TheVariants.{Literal, Escaped, AnyCase, Pattern, PatternWith, FromTo}
 
--- the tree is that of the literal which the text says with its escapes
+-- it is the tree of the literal that the text says with its escapes
 pub record IsEscapedTree (inner : List ℕ) (t : Tree) : Type 0 where
   pub literal : List ℕ
   pub utf8 : IsUtf8 literal

@@ -20,8 +20,8 @@ pub(crate) struct Cutter<'text> {
     at: usize,
     // The mode in which the next piece is cut.
     mode: usize,
-    // What cuts the text in each mode. That of the mode goes along. Another is passed on to the rest when the text is cut in its
-    // mode again.
+    // What cuts the text in each mode. The one of the current mode goes along; each other is passed on to the rest when the
+    // text is cut in its mode again.
     cuts: Vec<Items<'text>>,
 }
 

@@ -81,7 +81,8 @@ fn gathered(
 ) -> Result<Vec<Regex>, AllocError>
     requires same_len { length kinds.now ≡ length trees.now }
     requires within { index < length kinds.now }
-    ensures trees { (o : Option ℕ) → slice_get kinds.now index ≡ Some o → IfOk result (λ all. all.items
+    ensures trees { (o : Option ℕ) → slice_get kinds.now index ≡ Some o
+        → IfOk result (λ all. all.items
         ≡ gathered_of (take index kinds.now) o (drop index kinds.now) (drop index trees.now)) }
 {
     let Some(kind) = kinds[index] else {

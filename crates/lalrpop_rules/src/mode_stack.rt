@@ -140,7 +140,7 @@ impl ModeStack {
     ///
     /// # Errors
     ///
-    /// `AllocError` if memory for so many modes more was refused. It is requested first, so that nothing is cut then.
+    /// `AllocError` if memory for these additional modes was refused. It is requested first, so that nothing is cut then.
     #[inline(always)]
     pub(crate) fn cut_piece<'text>(
         &mut self,

@@ -309,7 +309,7 @@ impl RuleLexer {
     /// steps a character; for each mode one a character and one a byte; and for each open state of each mode one a byte and 64
     /// more. A step is counted each time an automaton reads a character.
     ///
-    /// All memory but that of the stack is taken by this call: for each mode a byte for each open state and each 64 bytes of
+    /// This call takes all memory except what the stack needs: for each mode a byte for each open state and each 64 bytes of
     /// the text.
     ///
     /// ```

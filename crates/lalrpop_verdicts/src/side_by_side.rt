@@ -164,7 +164,8 @@ fn least_tail(
     second: NfaIndex,
     cut: Cut,
 ) -> Result<Option<Vec<u32>>, AllocError>
-    ensures least { IfOk result (λ found. IfSome found (λ tail. (p : ℕ) → IsAhead dfa.now p ahead.now
+    ensures least { IfOk result
+        (λ found. IfSome found (λ tail. (p : ℕ) → IsAhead dfa.now p ahead.now
         → IsLeast (IsTail cut dfa.now p second) tail.items)) }
     ensures none { IfOk result (λ found. IfNone found ((p : ℕ) → IsAhead dfa.now p ahead.now
         → (b : List ℕ) → ¬ IsTail cut dfa.now p second b)) }

@@ -85,7 +85,8 @@ fn write_outcome<W: Write>(
 ) -> Result<(), RunError>
     requires writer_good { writer.old.failed ≡ false }
     ensures line { OnOk result
-        (Appends (W.contents writer.old.inner) (W.contents writer.new.inner) (line_of outcome.now)) }
+        (Appends (W.contents writer.old.inner) (W.contents writer.new.inner)
+        (line_of outcome.now)) }
     ensures good { OnOk result (writer.new.failed ≡ false) }
     ensures nothing_written { IfErr result (λ e. e ≢ RunError.Write → writer.new ≡ writer.old) }
     ensures write { IfErr result (λ e. e ≡ RunError.Write → writer.new.failed ≡ true) }

@@ -80,7 +80,8 @@ fn push_clashes(
     found: &[Clash],
 ) -> Result<(), AllocError>
     ensures { OnOk result (string_bytes lines.new ≡ string_bytes lines.old ++ flat_map
-        (named_line (names_of (rules_of rules.now)) (option_map (λ m. m.now) mode.entry)) found.now) }
+        (named_line (names_of (rules_of rules.now)) (option_map (λ m. m.now) mode.entry))
+        found.now) }
 {
     for clash in found {
         push_clash(alloc, lines, rules, mode, clash)?;

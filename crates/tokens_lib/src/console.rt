@@ -81,7 +81,8 @@ impl<O: Sink, E: Sink> Console<O, E> {
     /// `OutOfMemory` if a request for memory was refused: a prefix was said.
     pub(crate) fn say(&mut self, message: &str) -> Result<(), RunError>
         ensures said { OnOk result (Says self.old message.now self.new) }
-        ensures fails { IfErr result (λ e. Fails (λ a. a ≡ remark message.now) self.old e self.new) }
+        ensures fails { IfErr result
+            (λ e. Fails (λ a. a ≡ remark message.now) self.old e self.new) }
     {
         self.err.tell(message)
     }

@@ -278,7 +278,8 @@ pub fn modes_with_lists(
     rules: &[ModeRule],
     modes: usize,
 ) -> Result<usize, RulesError>
-    ensures count { IfOk result (λ n. (r : ModeRules) × (AreModeRules rules.now modes r × (n ≡ r.modes))) }
+    ensures count { IfOk result (λ n. (r : ModeRules)
+        × (AreModeRules rules.now modes r × (n ≡ r.modes))) }
     ensures error { IfErr result (IsModesFault rules.now modes) }
 {
     let found = mode_clashes(alloc, rules, modes)?;

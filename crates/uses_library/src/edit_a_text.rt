@@ -29,7 +29,8 @@ pub fn edited_twice<'rules>(
 ) -> Result<LexedText<'rules>, EditError>
     ensures rules { IfOk result (λ lexed. lexed.rules ≡ lexer.now) }
     ensures both { IfOk result (λ lexed. lexed.text ≡
-        replaced (replaced text.now first.start first.end one.now) second.start second.end other.now) }
+        replaced (replaced text.now first.start first.end one.now) second.start second.end
+        other.now) }
 {
     let mut lexed = LexedText::new(alloc, lexer, text)?;
     lexed.edit(alloc, first, one)?;
@@ -133,7 +134,8 @@ pub fn cut_no_further(
 ) -> Result<Change, EditError>
     ensures none { IfOk result (λ c. (xs ys : List ItemValue) → ArePiecesOf lexed.old xs
         → ArePiecesOf lexed.new ys
-        → MeetAt lexed.old.rules.actions range.start range.end (length new.now) xs ys c.first c.first
+        → MeetAt lexed.old.rules.actions range.start range.end (length new.now) xs ys
+        c.first c.first
         → (c.removed ≡ 0) × (c.inserted ≡ 0)) }
 {
     let change = lexed.edit(alloc, range, new)?;

@@ -18,7 +18,8 @@ use std::alloc::{AllocError, Global};
 ///
 /// `AllocError` if a request for memory was refused.
 pub fn greatest(alloc: Global, dfa: &Dfa) -> Result<Option<usize>, AllocError>
-    ensures matches { IfOk result (λ found. (ts : List Tree) (ps : List ℕ) → RecognizesAll dfa.now ts ps
+    ensures matches { IfOk result (λ found. (ts : List Tree) (ps : List ℕ)
+        → RecognizesAll dfa.now ts ps
         → IsLookahead (Matched ts) found) }
 {
     lookahead(alloc, dfa)

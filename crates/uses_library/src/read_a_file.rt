@@ -40,7 +40,7 @@ pub fn first_bad_line(alloc: Global, bytes: &[u8]) -> Result<Option<usize>, Allo
 }
 
 // Needs lalrpop_rule_file::read_rules: error.
-/// The place of the first part that is wrong: that of the name of a part above, or of what isn't a pattern.
+/// The place of the first part that is wrong: where it has the name of a part above it, or where it is no pattern.
 ///
 /// # Errors
 ///
@@ -88,7 +88,8 @@ pub fn first_missing_mode(alloc: Global, bytes: &[u8]) -> Result<Option<(usize, 
 /// `AllocError` if a request for memory was refused.
 pub fn first_fault(alloc: Global, bytes: &[u8]) -> Result<Option<(usize, LineFault)>, AllocError>
     ensures fault { IfOk result (λ found. IfSome found (λ f. (n : ℕ) × ((line : List ℕ)
-        × ((slice_get (lines (without_mark_of bytes.now)) n ≡ Some line) × IsLineFault line f.0 f.1)))) }
+        × ((slice_get (lines (without_mark_of bytes.now)) n ≡ Some line)
+        × IsLineFault line f.0 f.1)))) }
 {
     match read_rules(alloc, bytes) {
         Err(

@@ -52,7 +52,7 @@ pub fn longest_by_automaton<'text>(
 }
 
 // Needs lalrpop_dense::DenseDfa::longest_counted: answer, prefix, never_falls, cost, looked, read.
-/// The longest match of the second text, after that of the first, with a step for each character that is read.
+/// The longest match of the second text, sought after the first text's, with a step for each character that is read.
 pub fn counted_by_table<'text>(
     dense: &DenseDfa,
     first: &str,
@@ -147,7 +147,7 @@ pub fn none_at_first() -> Option<TokenEnd>
 }
 
 // Needs lalrpop_dense::Matcher::longest_match: answer, prefix, never_falls, cost, looked, read.
-/// The longest match of the second text, after that of the first, whatever finds it.
+/// The longest match of the second text, sought after the first text's, whatever finds it.
 pub fn longest_of_second<'text, M: Matcher>(
     matcher: &M,
     first: &str,

@@ -101,7 +101,8 @@ pub fn two_marked(
     two: &Item<'_>,
 ) -> Result<String, AllocError>
     ensures marked { IfOk result (λ page. string_bytes page
-        ≡ marked (map string_bytes names.now) one.now ++ marked (map string_bytes names.now) two.now) }
+        ≡ marked (map string_bytes names.now) one.now ++ marked (map string_bytes names.now)
+        two.now) }
 {
     let mut page = String::new(alloc);
     push_html(&mut page, names, one)?;
@@ -123,7 +124,8 @@ pub fn two_painted(
     two: &Item<'_>,
 ) -> Result<String, AllocError>
     ensures painted { IfOk result (λ page. string_bytes page
-        ≡ painted (map string_bytes names.now) one.now ++ painted (map string_bytes names.now) two.now) }
+        ≡ painted (map string_bytes names.now) one.now ++ painted (map string_bytes names.now)
+        two.now) }
 {
     let mut painter = Painter::new(alloc, names)?;
     let mut page = String::new(alloc);

@@ -12,9 +12,11 @@ use tokens_lib::{ArgumentsError, Command, command_of, run_program};
 // Needs tokens_lib::command_of: command, error.
 pub fn asked_for(alloc: Global, words: &[String]) -> Result<Command<'_>, ArgumentsError<'_>>
     ensures command { IfOk result (λ command.
-        IsCommand (options (map string_bytes words.now)) (names (map string_bytes words.now)) command) }
+        IsCommand (options (map string_bytes words.now)) (names (map string_bytes words.now))
+        command) }
     ensures error { IfErr result (λ e. e ≢ ArgumentsError.OutOfMemory
-        → IsArgumentsError (options (map string_bytes words.now)) (names (map string_bytes words.now)) e) }
+        → IsArgumentsError (options (map string_bytes words.now))
+        (names (map string_bytes words.now)) e) }
 {
     command_of(alloc, words)
 }

@@ -30,7 +30,7 @@ list_numbers t = record {
 abbrev pub AreBelow : List Row → ℕ → Type 0
 AreBelow d count = (state pattern : ℕ) (row : Row) → slice_get d state ≡ Some row → row.kind ≡ Accepts pattern → pattern < count
 
--- the table is that of the mode, can be stored, and accepts only rules that have a name
+-- it is the mode's table, can be stored, and accepts only rules that have a name
 pub record IsModeTable (r : ModeRules) (m : ℕ) (t : TableNumbers) : Type 0 where
   pub of_mode : IsTableOfMode r m t
   pub storable : IsStorableTable t

@@ -29,7 +29,7 @@ pattern_of _ = 0
 abbrev pub row_cells : List Row → List ℕ → ℕ → List ℕ
 row_cells d firsts p = map (λ c. row_number d (step d p c) * (length firsts + 1)) firsts ++ (pattern_of (kind_at d p) ∷ [])
 
--- so many rows of one length, one after another
+-- `count` rows of one length, one after another
 pub record AreRowsOf (row : ℕ → List ℕ) (width : ℕ) (cells : List ℕ) (count : ℕ) : Type 0 where
   pub size : length cells ≡ count * (width + 1)
   pub each : (j k : ℕ) → j < count → k ≤ width → slice_index cells (j * (width + 1) + k) ≡ slice_index (row j) k

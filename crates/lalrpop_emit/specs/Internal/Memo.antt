@@ -33,7 +33,7 @@ NothingWithin a t text (suc n) row at =
 abbrev pub NothingFrom : AheadNumbers → TableNumbers → List ℕ → ℕ → ℕ → Type 0
 NothingFrom a t text row at = (n : ℕ) → NothingWithin a t text n row at
 
--- so many characters from the start on lead to the row and the place
+-- this number of characters from the start on leads to the row and the place
 abbrev pub LeadTo : AheadNumbers → TableNumbers → List ℕ → ℕ → ℕ → ℕ → ℕ → Type 0
 LeadTo a t text start zero row at = (row ≡ a.start) × (at ≡ start)
 LeadTo a t text start (suc n) row at = (row1 : ℕ) × (at1 : ℕ) × (LeadTo a t text start n row1 at1 × IsStep a t text row1 at1 row at)
@@ -82,7 +82,7 @@ noted_count memo = sum_by set_bits memo
 abbrev pub IsRoomy : AheadNumbers → ℕ → List ℕ → Type 0
 IsRoomy a size memo = (a.ends + a.width) / (a.width + 1) * (size / 4096 + 1) ≤ length memo
 
--- so many characters lead on from the row at the place to another
+-- this number of characters leads on from the row at the place to another
 abbrev pub LeadOn : AheadNumbers → TableNumbers → List ℕ → ℕ → ℕ → ℕ → ℕ → ℕ → Type 0
 LeadOn a t text row at zero row2 at2 = (row2 ≡ row) × (at2 ≡ at)
 LeadOn a t text row at (suc n) row2 at2 = (row1 : ℕ) × (at1 : ℕ) × (LeadOn a t text row at n row1 at1 × IsStep a t text row1 at1 row2 at2)
@@ -94,7 +94,7 @@ pub record IsReadTo (a : AheadNumbers) (t : TableNumbers) (text memo : List ℕ)
   pub lead : LeadOn a t text row at characters row_there end
   pub stop : StopsAt a t text row_there end ⊎ (IsPassed text end × IsNoted memo a (length text) row_there end)
 
--- so many characters lead on from the row at the place to the end; before that none passes where a bit is set
+-- this number of characters leads on from the row at the place to the end; before that none passes where a bit is set
 abbrev pub LeadToEnd : AheadNumbers → TableNumbers → List ℕ → List ℕ → ℕ → ℕ → ℕ → ℕ → Type 0
 LeadToEnd a t text memo end zero row at = at ≡ end
 LeadToEnd a t text memo end (suc n) row at =
@@ -126,7 +126,7 @@ abbrev pub ArePaid : List ℕ → List Call → Type 0
 ArePaid memo [] = Unit {0}
 ArePaid memo (call ∷ calls) = (call.before ≡ memo) × IsPaid call × ArePaid call.after calls
 
--- the part of the mode: each of so many modes has an equal one
+-- the part of the mode: each of the modes has an equal one
 abbrev pub memo_part : ℕ → ℕ → List ℕ → List ℕ
 memo_part modes mode memo = take (length memo / modes) (drop (mode * (length memo / modes)) memo)
 

@@ -2,11 +2,11 @@
 use Rattle.std.specs.Prelude.{◌≡◌, ℕ, ◌+◌, ◌*◌, ◌<◌, ◌≤◌, length, slice_index}
 use Rattle.lalrpop_dense.specs.DenseTable.{AreClasses, TableNumbers}
 
--- one of so many rows begins there
+-- one of the rows begins there
 abbrev pub IsRowStart : TableNumbers → ℕ → ℕ → Type 0
 IsRowStart t rows row = (m : ℕ) × (m < rows) × (row ≡ m * (t.width + 1))
 
--- there are so many rows, all but the first `dead` ones live; each class leads from one to one; the number of a rule is told from that of none
+-- there are `rows` rows, all but the first `dead` ones live; each class leads from one to one; the number of a rule is told from that of none
 pub record IsRegular (t : TableNumbers) (dead rows : ℕ) : Type 0 where
   pub classes : AreClasses t
   pub live : t.live ≡ dead * (t.width + 1)

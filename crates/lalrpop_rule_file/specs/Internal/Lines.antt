@@ -50,7 +50,7 @@ add_names names (name ∷ more) = add_names (add_name names name) more
 abbrev pub HasModes : List (List ℕ) → List (List ℕ) → Type 0
 HasModes ls modes = (said : List Said) × (LinesSay ls said × (modes ≡ modes_of said))
 
--- the error is that of the line with this number
+-- it is the error of the line with this number
 abbrev pub IsErrorOfLine : ℕ → List ℕ → RuleFileError → Type 0
 IsErrorOfLine number line (BadLine n column fault) = (n ≡ number) × ((said : Said) → ¬ LineSays line said) × IsLineFault line column fault
 IsErrorOfLine number line (BadPart n column kind) = ⊥

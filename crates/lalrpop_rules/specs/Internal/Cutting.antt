@@ -28,7 +28,7 @@ abbrev pub unsought_in : Option CutToEnd → ℕ
 unsought_in None = 0
 unsought_in (Some c) = c.memo.unsought
 
--- the memo that they have together: that of the mode says how much of the text it has not sought
+-- the memo that they have together: the mode's memo says how much of the text it has not sought
 abbrev pub memo_in : ℕ → List CutToEnd → Memo
 memo_in mode cs = record { unsought = unsought_in (slice_get cs mode); spare = sum_by spare_of cs }
 
@@ -47,7 +47,7 @@ pub record IsCutIn (r : ModeRules) (text : List ℕ) (at m : ℕ) (c : CutToEnd)
 abbrev pub HasSoughtUpTo : ℕ → CutToEnd → Type 0
 HasSoughtUpTo at c = length (chars (drop at c.text)) ≤ c.memo.unsought
 
--- there is one for each mode; that of the mode in which the text is cut goes along
+-- there is one for each mode; the one of the mode in which the text is cut goes along
 pub record AreCuts (r : ModeRules) (text : List ℕ) (at mode : ℕ) (cs : List CutToEnd) : Type 0 where
   pub all : length cs ≡ r.modes
   pub each : (m : ℕ) (c : CutToEnd) → slice_get cs m ≡ Some c → IsCutIn r text at m c

@@ -17,7 +17,7 @@ abbrev pub of_tree : ℕ → NfaConstructionError → TextError
 of_tree i compile.OutOfMemory = OutOfMemory
 of_tree i e = NotCompiled i e
 
--- the error is that of the first tree that can't be compiled, or memory was refused
+-- it is the error of the first tree that can't be compiled, or memory was refused
 abbrev pub IsFaultError : List Tree → TextError → Type 0
 IsFaultError ts (NotCompiled i e) = FirstFault ts i e
 IsFaultError ts OutOfMemory = Unit {0}

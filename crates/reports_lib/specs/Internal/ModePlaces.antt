@@ -21,7 +21,7 @@ has_word mode line = list_any (λ word. is_word mode word) (slice_split (λ b. n
 abbrev pub opens : List ℕ → List ℕ → Bool
 opens mode line = begins_section line && has_word mode line
 
--- the first line that does so; this number is that of the first of these lines
+-- where the first line is that does so; the first of these lines has the number n
 abbrev pub place_from : ℕ → List (List ℕ) → List ℕ → Position
 place_from n [] mode = record { line = 1; column = 1 }
 place_from n (line ∷ ls) mode = if opens mode line then record { line = n; column = prefix_len is_blank line + 1 } else place_from (n + 1) ls mode
