@@ -17,6 +17,7 @@ pub mod SplitLaws
 pub mod Marks
 pub mod StretchLaws
 pub mod RoundLaws
+pub mod ShortestLaws
 -- the smallest automaton
 pub mod Distinct
 pub mod PushedNumbers

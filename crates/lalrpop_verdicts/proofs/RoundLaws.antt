@@ -170,7 +170,7 @@ room_less n (x ∷ xs) (y ∷ ys) e h most ne =
 abbrev pub stored_row : StoredState → List ℕ
 stored_row s = option_to_list (accepted_by s.kind)
 
-same_map : {X Y : Type 0} (f : X → List ℕ) (g : Y → List ℕ) (xs : List X) (ys : List Y) → length xs ≡ length ys
+pub same_map : {X Y Z : Type 0} (f : X → Z) (g : Y → Z) (xs : List X) (ys : List Y) → length xs ≡ length ys
     → ((k : ℕ) (x : X) (y : Y) → slice_get xs k ≡ Some x → slice_get ys k ≡ Some y → f x ≡ g y) → map f xs ≡ map g ys
 same_map f g [] [] e h = refl
 same_map f g [] (y ∷ ys) e h = absurd (omega arith)

@@ -5,5 +5,6 @@ pub mod WonWords
 pub mod Classes
 pub mod ClassRows
 pub mod StateWalks
+pub mod Shortest
 pub mod Targets
 pub mod Beside

@@ -1,6 +1,7 @@
 //! States that answer alike, in classes: rounds that split them until none does.
 
 mod first_equal;
+mod shortest;
 mod split;
 mod stretches;
 
@@ -16,6 +17,8 @@ ghost use Rattle.lalrpop_verdicts.specs.Internal.StateWalks.{AreAllLeads};
 use crate::answer::accepted_by;
 use first_equal::FirstEqual;
 use lalrpop_dfa::{Dfa, Kind};
+use shortest::shortest_lengths;
+use split::split;
 use std::alloc::{AllocError, Global};
 use stretches::{leads, stretches};
 
@@ -81,7 +84,9 @@ pub(crate) fn lead_table(alloc: Global, dfa: &Dfa) -> Result<Vec<Vec<usize>>, Al
 
 /// The class of each state: the first of the states that answer each word alike. The table says where each state leads.
 ///
-/// Each round goes over all states, and tells those apart that a word of one more value tells apart.
+/// Each round goes over all states, and tells those apart that a word of one more value tells apart. States of which one is
+/// nearer to a match are told apart before the first round: where states stand in a long line, as for a pattern that is counted,
+/// there would else be a round for each.
 ///
 /// # Errors
 ///
@@ -96,6 +101,7 @@ pub(crate) fn classes_by(
     ensures classes { IfOk result (λ found. AreAlikeClasses dfa.now found.items) }
 {
     let mut classes = by_answer(alloc, dfa)?;
+    split(alloc, &mut classes, &shortest_lengths(alloc, dfa, table)?)?;
     loop {
         let next = round(alloc, table, &classes)?;
         if next == classes {
