@@ -8,7 +8,7 @@ use lalrpop_emit::LexerNumbers;
 use lalrpop_lexer::lexer::dfa::{Dfa, NfaIndex, Precedence, build_dfa, clashes};
 use lalrpop_lexer::lexer::nfa::Steps;
 use lalrpop_lexer::lexer::re::Regex;
-use lalrpop_lexer::{Lexer, Terminals, read_terminals, tokens};
+use lalrpop_lexer::{Lexer, Terminals, Tokens, read_terminals, tokens};
 use lalrpop_rules::{Item, RuleLexer};
 use lalrpop_verdicts::{minimized, verdicts};
 use std::alloc::{AllocError, Global};
@@ -165,8 +165,8 @@ impl Work for Cutters {
         match call {
             "interpret" => Ok(by_longest(&self.dfa, text)),
             "longest" => Ok(by_longest(&self.dense, text)),
-            "dfa_tokens" => Ok(by_automaton(&self.dfa, text)),
-            "tokens" => by_tokens(alloc, &self.lexer, text),
+            "dfa_tokens" => Ok(found_in(tokens(&self.dfa, text))),
+            "tokens" => Ok(found_in(self.lexer.tokens(alloc, text)?)),
             _ => made_again(alloc, &self.dfa),
         }
     }
@@ -200,26 +200,15 @@ fn by_longest<M: Matcher>(matcher: &M, text: &str) -> Found {
     found
 }
 
-fn by_automaton(dfa: &Dfa, text: &str) -> Found {
+fn found_in(items: Tokens<'_>) -> Found {
     let mut found = Found::none();
-    for token in tokens(dfa, text) {
-        match token {
+    for item in items {
+        match item {
             Ok((terminal, word)) => found.add(terminal, word.len()),
             Err(_) => found.add_fault(),
         }
     }
     found
-}
-
-fn by_tokens(alloc: Global, lexer: &Lexer, text: &str) -> Result<Found, AllocError> {
-    let mut found = Found::none();
-    for token in lexer.tokens(alloc, text)? {
-        match token {
-            Ok(token) => found.add(token.index, token.slice.len()),
-            Err(_) => found.add_fault(),
-        }
-    }
-    Ok(found)
 }
 
 #[derive(Drop)]

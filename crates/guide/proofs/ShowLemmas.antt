@@ -1,14 +1,12 @@
 -- Marks are taken out of what is shown, token by token.
-use Rattle.std.proofs.Common.{◌≡◌, ℕ, suc, true, false, inl, inr, List, [], ◌∷◌, ◌++◌, refl, sym, ap, ◌∙◌, append_assoc, append-nil, arith}
-use Rattle.std.specs.Prelude.{Some, None, Result, Ok}
+use Rattle.std.proofs.Common.{◌≡◌, ℕ, suc, true, false, inl, inr, List, [], ◌∷◌, ◌++◌, refl, sym, ap, ◌∙◌, append_assoc, append-nil, arith, Bor}
+use Rattle.std.specs.Prelude.{Option, Some, None, Ok}
 use Rattle.std.specs.List.{list_all, AllPass}
 use Rattle.std.proofs.lemmas.Bool.{not-true}
 use Rattle.std.proofs.lemmas.List.Sums.{AllPass-from_list_all}
-use Rattle.lalrpop_lexer.specs.Cutting.{Cutting, rest_of, start_of}
+use Rattle.lalrpop_lexer.specs.Cutting.{Cutting, rest_of, start_of, GivesItem}
 use Rattle.lalrpop_lexer.specs.Dfa.{Row}
-use Rattle.lalrpop_lexer.specs.LexerTokens.{LexerCutting, CutsToken}
-use Rattle.lalrpop_lexer.specs.declared.Token.{Token}
-use Rattle.lalrpop_lexer.specs.declared.TokenFault.{TokenFault}
+use Rattle.lalrpop_lexer.specs.Tokens.{Item}
 use Rattle.lalrpop_lexer.proofs.Cuttings.{rest_behind}
 use Rattle.guide.specs.Marks.{without_marks}
 use Rattle.guide.specs.Internal.Shows.{Shows, is_plain_byte}
@@ -37,29 +35,28 @@ pub record ShowsFront (shown text : List ℕ) (s : Cutting) : Type 0 where
   pub parts : text ≡ front ++ rest_of s
   pub going : s.is_over ≡ false
 
-pub front-start : (shown : List ℕ) (s r : LexerCutting) (d : List Row) (text : List ℕ) → shown ≡ [] → r ≡ s → s.cutting ≡ start_of d text → ShowsFront shown text r.cutting
-front-start shown s r d text none same e = record {
+pub front-start : (shown : List ℕ) (s r : Cutting) (d : List Row) (text : List ℕ) (spare : Option ℕ) → shown ≡ [] → r ≡ s → s ≡ start_of d text spare → ShowsFront shown text r
+front-start shown s r d text spare none same e = record {
   front = [];
   shows = λ rest. ap (λ (l : List ℕ). without_marks (l ++ rest)) none;
-  parts = sym (ap (λ (x : LexerCutting). rest_of x.cutting) same ∙ ap rest_of e);
-  going = ap (λ (x : LexerCutting). x.cutting.is_over) same ∙ ap (λ (x : Cutting). x.is_over) e;
+  parts = sym (ap rest_of same ∙ ap rest_of e);
+  going = ap (λ (x : Cutting). x.is_over) same ∙ ap (λ (x : Cutting). x.is_over) e;
 }
 
-pub front-more : (old new text : List ℕ) (s t : Cutting) (x : Result Token TokenFault) (token : Token) → ShowsFront old text s → x ≡ Ok token → CutsToken s (Some x) t
-    → ((front : List ℕ) → Shows old front → Shows new (front ++ token.slice.now)) → ShowsFront new text t
-front-more old new text s t x token h is gives step =
-    let g : CutsToken s (Some (Ok token)) t = rw is at gives in
-    let slice = token.slice.now in
-    let split : rest_of s ≡ slice ++ rest_of t = rest_behind s t slice g.1.1 g.1.4 in
+pub front-more : (old new text : List ℕ) (s t : Cutting) (x : Item) (m : ℕ × Bor (List ℕ)) → ShowsFront old text s → x ≡ Ok m → GivesItem s (Some x) t
+    → ((front : List ℕ) → Shows old front → Shows new (front ++ m.1.now)) → ShowsFront new text t
+front-more old new text s t x m h is gives step =
+    let g : GivesItem s (Some (Ok m)) t = rw is at gives in
+    let split : rest_of s ≡ m.1.now ++ rest_of t = rest_behind s t m.1.now g.1 g.4 in
     record {
-      front = h.front ++ slice;
+      front = h.front ++ m.1.now;
       shows = step h.front h.shows;
-      parts = h.parts ∙ ap (λ (l : List ℕ). h.front ++ l) split ∙ sym (append_assoc h.front slice (rest_of t));
-      going = ap (λ (x : Cutting). x.is_over) g.1.4 ∙ g.1.0;
+      parts = h.parts ∙ ap (λ (l : List ℕ). h.front ++ l) split ∙ sym (append_assoc h.front m.1.now (rest_of t));
+      going = ap (λ (x : Cutting). x.is_over) g.4 ∙ g.0;
     }
 
 -- where no token follows, that is the whole text
-pub front-whole : (shown text : List ℕ) (s t : Cutting) → ShowsFront shown text s → CutsToken s None t → without_marks shown ≡ text
+pub front-whole : (shown text : List ℕ) (s t : Cutting) → ShowsFront shown text s → GivesItem s None t → without_marks shown ≡ text
 front-whole shown text s t h (same, end) = elim end [
   | inl over ↦ (let going = h.going in absurd (cc (over, going)))
   | inr none ↦ ap without_marks (sym (append-nil shown)) ∙ h.shows [] ∙ sym (ap (λ (l : List ℕ). h.front ++ l) none) ∙ sym h.parts

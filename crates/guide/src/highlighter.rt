@@ -74,7 +74,7 @@ pub fn highlighted(alloc: Global, lexer: &Lexer, text: &str) -> Result<String, S
     let mut shown = String::new(alloc);
     for item in lexer.tokens(alloc, text)? {
         match item {
-            Ok(token) => push_marked(&mut shown, token.index.index(), token.slice)?,
+            Ok((index, slice)) => push_marked(&mut shown, index.index(), slice)?,
             Err(fault) => return Err(ShowError::Fault { at: fault.at }),
         }
     }

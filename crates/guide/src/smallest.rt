@@ -17,7 +17,7 @@ pub fn main(rt: HostRuntime) -> Result<()> {
     let lexer = Lexer::new(alloc, regexs, precedences)?;
     for item in lexer.tokens(alloc, "if iffy!")? {
         match item {
-            Ok(token) => println!(rt; "{} {:?}", token.index.index(), token.slice)?,
+            Ok((index, slice)) => println!(rt; "{} {slice:?}", index.index())?,
             Err(fault) => println!(rt; "{fault}")?,
         }
     }

@@ -217,6 +217,32 @@ alone_some s s2 d rest m before after same e answer prefix goes more looked read
         let e : (n + 2) * suc a ≡ (n + 2) + (n * a + 2 * a) = grind arith in
         omega arith
 
+-- or by a run of the automaton, where nothing is prepaid
+pub run_some : (d : List Row) (text rest : List ℕ) (at : ℕ) (m : ℕ × Bor (List ℕ)) (before after : ℕ) → rest ≡ drop at text
+    → ((ts : List Tree) (ps : List ℕ) → Recognizes d ts ps → IsLongest ts ps rest (Some (m.0, m.1.now))) → IsPrefix m.1.now rest × (m.1.now ≢ [])
+    → ((n : ℕ) → ReadsAtMost d n → after ≤ before + length (chars m.1.now) + n + 1) → before + length (chars m.1.now) ≤ after
+    → IsMatch (record { automaton = d; text = text; at = at; spare = 0 }) (record { automaton = d; text = text; at = at + length m.1.now; spare = 0 }) (Some m) before after
+run_some d text rest at m before after e answer prefix looked read =
+    let some : 0 < length (chars m.1.now) = some_char m.1.now prefix.0.1.1 prefix.1 in (
+      record {
+        answer = λ ts ps r. subst (λ (t : List ℕ). IsLongest ts ps t (Some (m.0, m.1.now))) e (answer ts ps r);
+        prefix = subst (λ (r : List ℕ). IsPrefix m.1.now r × (m.1.now ≢ [])) e prefix;
+        goes_on = refl;
+        stays = tt;
+      },
+      record {
+        never_falls = omega (arith, read);
+        paid = λ n most. enough n (length (chars m.1.now)) before after some (looked n most);
+        cost = tt;
+      },
+    )
+  where
+    enough : (n a before after : ℕ) → 0 < a → after ≤ before + a + n + 1 → after + 0 ≤ before + (n + 2) * a + 0
+    enough n zero before after some all = absurd (omega arith)
+    enough n (suc a) before after some all =
+        let e : (n + 2) * suc a ≡ (n + 2) + (n * a + 2 * a) = grind arith in
+        omega arith
+
 pub alone_none : (s : Matching) (d : List Row) (rest : List ℕ) (before after : ℕ) → d ≡ s.automaton → rest ≡ rest_of s
     → ((ts : List Tree) (ps : List ℕ) → Recognizes d ts ps → IsLongest ts ps rest None) → before ≤ after → after ≤ before + length (chars rest) → IsMatch s s None before after
 alone_none s d rest before after same e answer never cost =

@@ -1,6 +1,5 @@
 -- Small cases of the definitions in specs/: Cases/X.antt has those of specs/X.antt.
 mod Cutting
-mod LexerTokens
 mod LeadingTokens
 mod Rules
 mod LexerErrors

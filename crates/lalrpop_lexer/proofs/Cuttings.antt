@@ -31,11 +31,11 @@ some_char text u some = has (chars text) (encodes-chars text u)
     has (c ∷ cs) e = omega arith
 
 -- what is left after a token
-pub rest_behind : (s j : Cutting) (p : List ℕ) → IsPrefix p (rest_of s) → j ≡ record s { at = s.at + length p } → rest_of s ≡ p ++ rest_of j
+pub rest_behind : (s j : Cutting) (p : List ℕ) → IsPrefix p (rest_of s) → j ≡ record s { at = s.at + length p; spare = j.spare; steps = j.steps } → rest_of s ≡ p ++ rest_of j
 rest_behind s j p b e =
     b.1.0 ∙ ap (λ (r : List ℕ). p ++ r) (after_prefix p (rest_of s) b ∙ drop-drop (length p) s.at s.text ∙ sym (ap (λ (x : Cutting). rest_of x) e))
 
-rest_utf8 : (s j : Cutting) (p : List ℕ) → IsUtf8 (rest_of s) → IsPrefix p (rest_of s) → j ≡ record s { at = s.at + length p } → IsUtf8 (rest_of j)
+rest_utf8 : (s j : Cutting) (p : List ℕ) → IsUtf8 (rest_of s) → IsPrefix p (rest_of s) → j ≡ record s { at = s.at + length p; spare = j.spare; steps = j.steps } → IsUtf8 (rest_of j)
 rest_utf8 s j p u b e =
     subst IsUtf8 (drop-drop (length p) s.at s.text ∙ sym (ap (λ (x : Cutting). rest_of x) e))
     (IsUtf8-drop (rest_of s) (length p) u (cut_behind p (rest_of s) u b))
@@ -48,13 +48,13 @@ left_over s over = rw over
 
 -- each item leaves one fewer
 pub fewer : (s j : Cutting) (x : Item) → IsUtf8 (rest_of s) → GivesItem s (Some x) j → left_of j < left_of s
-fewer s j (Ok m) u (on, b, some, next, e) =
+fewer s j (Ok m) u (on, b, some, next, e, paid) =
     let split : rest_of s ≡ m.1.now ++ rest_of j = rest_behind s j m.1.now b e in
     let count : length (chars (rest_of s)) ≡ length (chars m.1.now) + length (chars (rest_of j)) =
     ap (λ (t : List ℕ). length (chars t)) split ∙ ap length (chars-append m.1.now (rest_of j) b.1.1) ∙ length-append (chars m.1.now) (chars (rest_of j)) in
     let still : j.is_over ≡ false = ap (λ (x : Cutting). x.is_over) e ∙ on in
     omega (arith, count, some_char m.1.now b.1.1 some, left_on s on, left_on j still)
-fewer s j (Err fault) u (on, some, at, next, e) =
+fewer s j (Err fault) u (on, some, at, next, e, paid) =
     let over : j.is_over ≡ true = ap (λ (x : Cutting). x.is_over) e in
     omega (arith, left_on s on, left_over j over, some_char (rest_of s) u some)
 
@@ -112,20 +112,20 @@ none_for_good s t u (Some (Err f)) (same, end) g = elim end [
   | inr none ↦ absurd (g.1 (ap (λ (x : Cutting). rest_of x) same ∙ none))
 ]
 
--- ---- from the start
+-- ---- from the start, whatever is to spare
 
-pub items_from_start : (s : Cutting) (d : List Row) (text : List ℕ) → s ≡ start_of d text → (xs : List Item) → Drains GivesItem s xs
+pub items_from_start : (s : Cutting) (d : List Row) (text : List ℕ) (spare : Option ℕ) → s ≡ start_of d text spare → (xs : List Item) → Drains GivesItem s xs
     → (ts : List Tree) (ps : List ℕ) → Recognizes d ts ps → AreItems ts ps text 0 xs
-items_from_start s d text e =
+items_from_start s d text spare e =
     subst (λ (s : Cutting). (xs : List Item) → Drains GivesItem s xs → (ts : List Tree) (ps : List ℕ) → Recognizes d ts ps → AreItems ts ps text 0 xs) (sym e)
-    (λ xs (u, (t, y, last)) ts ps r. items_of ts ps (start_of d text) t u xs r refl y last)
+    (λ xs (u, (t, y, last)) ts ps r. items_of ts ps (start_of d text spare) t u xs r refl y last)
 
-pub parts_from_start : (s : Cutting) (d : List Row) (text : List ℕ) → s ≡ start_of d text → (xs : List Item) (t : Cutting) → Yields GivesItem s xs t
+pub parts_from_start : (s : Cutting) (d : List Row) (text : List ℕ) (spare : Option ℕ) → s ≡ start_of d text spare → (xs : List Item) (t : Cutting) → Yields GivesItem s xs t
     → text ≡ slices xs ++ rest_of t
-parts_from_start s d text e xs t y = sym (ap (λ (x : Cutting). rest_of x) e) ∙ parts_of s t xs y
+parts_from_start s d text spare e xs t y = sym (ap (λ (x : Cutting). rest_of x) e) ∙ parts_of s t xs y
 
-pub count_from_start : (s : Cutting) (d : List Row) (text : List ℕ) → s ≡ start_of d text → IsUtf8 text → (xs : List Item) (t : Cutting) → Yields GivesItem s xs t
+pub count_from_start : (s : Cutting) (d : List Row) (text : List ℕ) (spare : Option ℕ) → s ≡ start_of d text spare → IsUtf8 text → (xs : List Item) (t : Cutting) → Yields GivesItem s xs t
     → length xs ≤ length (chars text)
-count_from_start s d text e u xs t y =
+count_from_start s d text spare e u xs t y =
     let left : left_of s ≡ length (chars text) = ap (λ (x : Cutting). left_of x) e in
     omega (arith, left, count_of s t xs (subst (λ (x : Cutting). IsUtf8 (rest_of x)) (sym e) u) y)

@@ -1,6 +1,5 @@
 pub mod Matching
 pub mod Cutting
-pub mod LexerTokens
 pub mod LeadingTokens
 pub use Rattle.bajofeki_rules.specs.Position
 pub use Rattle.bajofeki_rules.specs.Quoted

@@ -1,6 +1,6 @@
 //! Cutting a text into tokens.
 
-ghost use Rattle.std.specs.Prelude.{◌≡◌, ℕ, ◌≤◌, ◌++◌, List, None, Option, length};
+ghost use Rattle.std.specs.Prelude.{◌≡◌, ℕ, ◌≤◌, ◌++◌, List, None, length};
 ghost use Rattle.std.specs.Iterator.{Drains, Yields};
 ghost use Rattle.std.specs.Str.{chars};
 ghost use Rattle.lalrpop_hir.specs.Tree.{Tree};
@@ -8,7 +8,8 @@ ghost use Rattle.lalrpop_dfa.specs.Dfa.{Recognizes};
 ghost use Rattle.lalrpop_lexer.specs.Cutting.{Cutting, start_of, rest_of, GivesItem};
 ghost use Rattle.lalrpop_hir.specs.Tokens.{Item, AreItems, slices};
 
-use crate::dfa_tokens::Tokens;
+use crate::cutting::{Finder, Tokens};
+use crate::dfa_matches::DfaMatches;
 use lalrpop_dfa::Dfa;
 
 /// The tokens of the text: each is the longest nonempty prefix of the rest that some pattern matches, with the strongest
@@ -16,8 +17,19 @@ use lalrpop_dfa::Dfa;
 /// matches. After that, every call returns `None`.
 ///
 /// It takes no memory, and there are at most as many tokens and faults as the text has characters.
+///
+/// ```
+/// use lalrpop_lexer::tokens;
+///
+/// for item in tokens(&dfa, "let x") {
+///     match item {
+///         Ok((index, slice)) => println!(rt; "{} {slice}", index.index())?,
+///         Err(fault) => println!(rt; "{fault}")?,
+///     }
+/// }
+/// ```
 pub fn tokens<'text>(dfa: &'text Dfa, text: &'text str) -> Tokens<'text>
-    ensures start { result ≡ start_of dfa.now text.now }
+    ensures start { result ≡ start_of dfa.now text.now None }
     ensures items { (xs : List Item) → Drains GivesItem result xs
         → (ts : List Tree) (ps : List ℕ) → Recognizes dfa.now ts ps → AreItems ts ps text.now 0 xs }
     ensures parts { (xs : List Item) (s : Cutting) → Yields GivesItem result xs s
@@ -25,5 +37,6 @@ pub fn tokens<'text>(dfa: &'text Dfa, text: &'text str) -> Tokens<'text>
     ensures count { (xs : List Item) (s : Cutting) → Yields GivesItem result xs s
         → length xs ≤ length (chars text.now) }
 {
-    Tokens::new(dfa, text)
+    let matches = DfaMatches::new(dfa, text);
+    Tokens::new(text, Finder::Interpreting(matches))
 }

@@ -11,18 +11,15 @@ ghost use Rattle.lalrpop_dfa.specs.Lookahead.{IsLookahead, LeavesOpen, StaysOpen
 ghost use Rattle.lalrpop_hir.specs.Word.{IsWord};
 ghost use Rattle.lalrpop_dfa.specs.Witness.{IsOpenMatch, IsWitness};
 ghost use Rattle.lalrpop_lexer.specs.Matching.{open_states};
-ghost use Rattle.lalrpop_lexer.specs.Cutting.{start_of, rest_of};
-ghost use Rattle.lalrpop_hir.specs.Tokens.{slices, IsToken, AreTokens, bare};
-ghost use Rattle.lalrpop_lexer.specs.LexerTokens.{LexerCutting, GivesToken, most_steps};
+ghost use Rattle.lalrpop_lexer.specs.Cutting.{Cutting, start_of, rest_of, GivesItem, with_places, most_steps};
+ghost use Rattle.lalrpop_hir.specs.Tokens.{Item, slices, IsToken, AreTokens};
 ghost use Rattle.lalrpop_lexer.specs.Rules.{IsBuiltFrom};
-ghost use Rattle.lalrpop_hir.specs.declared.token.Token.{Token as TokenValue};
-ghost use Rattle.lalrpop_hir.specs.declared.token.TokenFault.{TokenFault as FaultValue};
 
 pub mod dfa;
 pub mod nfa;
 pub mod re;
 
-use crate::lexer_tokens::{Finder, LexerTokens};
+use crate::cutting::{Finder, Tokens};
 use crate::linear_matches::LinearMatches;
 use crate::matches::Matches;
 use crate::neighbours::Neighbours;
@@ -169,37 +166,31 @@ impl Lexer {
         &'text self,
         alloc: Global,
         text: &'text str,
-    ) -> Result<LexerTokens<'text>, AllocError>
-        ensures start { IfOk result (λ s.
-            (s.cutting ≡ start_of self.now.automaton text.now) × (s.steps ≡ 0)) }
+    ) -> Result<Tokens<'text>, AllocError>
+        ensures start { IfOk result (λ s. s ≡ start_of self.now.automaton text.now s.spare) }
         ensures memo { IfOk result (λ s.
             IsSome s.spare → IsLookahead (Matched self.now.trees) None) }
         ensures built { IfOk result (λ s.
-            IsBuiltFrom self.now.trees self.now.precedences s.cutting.automaton) }
-        ensures tokens { IfOk result (λ s. (xs : List (Result TokenValue FaultValue))
-            → Drains GivesToken s xs
-            → AreTokens self.now.trees self.now.precedences text.now 0 xs) }
-        ensures parts { IfOk result (λ s.
-            (xs : List (Result TokenValue FaultValue)) (t : LexerCutting)
-            → Yields GivesToken s xs t
-            → text.now ≡ slices (map bare xs) ++ rest_of t.cutting) }
-        ensures count { IfOk result (λ s.
-            (xs : List (Result TokenValue FaultValue)) (t : LexerCutting)
-            → Yields GivesToken s xs t → length xs ≤ length (chars text.now)) }
+            IsBuiltFrom self.now.trees self.now.precedences s.automaton) }
+        ensures tokens { IfOk result (λ s. (xs : List Item) → Drains GivesItem s xs
+            → AreTokens self.now.trees self.now.precedences text.now 0 (with_places 0 xs)) }
+        ensures parts { IfOk result (λ s. (xs : List Item) (t : Cutting)
+            → Yields GivesItem s xs t → text.now ≡ slices xs ++ rest_of t) }
+        ensures count { IfOk result (λ s. (xs : List Item) (t : Cutting)
+            → Yields GivesItem s xs t → length xs ≤ length (chars text.now)) }
         ensures cost { IfOk result (λ s. (found : Option ℕ)
             × (IsLookahead (Matched self.now.trees) found
-            × ((xs : List (Result TokenValue FaultValue)) (t : LexerCutting)
-            → Yields GivesToken s xs t
+            × ((xs : List Item) (t : Cutting) → Yields GivesItem s xs t
             → t.steps ≤ most_steps self.now.automaton text.now found))) }
         ensures refused { OnErr result (IsLookahead (Matched self.now.trees) None) }
         ensures no_clash { NoClash self.now.trees self.now.precedences }
     {
         if self.lookahead.is_some() {
             let plain = Matches::new(&self.dense, text);
-            return Ok(LexerTokens::new(&self.dense, text, Finder::Plain(plain)));
+            return Ok(Tokens::new(text, Finder::Plain(plain)));
         }
         let matches = self.matches(alloc, text)?;
-        Ok(LexerTokens::new(&self.dense, text, Finder::Remembering(matches)))
+        Ok(Tokens::new(text, Finder::Remembering(matches)))
     }
 
     /// The longest matches of the text, one after another, for a caller that goes on where nothing matches. It starts with all

@@ -8,12 +8,12 @@
 mod ahead;
 mod counting;
 mod cut;
-mod dfa_tokens;
+mod cutting;
+mod dfa_matches;
 mod error;
 mod form;
 mod join_error;
 pub mod lexer;
-mod lexer_tokens;
 mod line;
 mod linear_matches;
 mod longest;
@@ -29,14 +29,13 @@ pub use bajofeki_rules::{
     Position, Positions, ShownWord, is_unseen, push_escaped_char, push_quoted, quoted,
 };
 pub use cut::tokens;
-pub use dfa_tokens::Tokens;
+pub use cutting::Tokens;
 pub use error::LexerError;
 pub use form::Form;
 pub use join_error::JoinError;
 pub use lalrpop_dfa::kernel_set;
 pub use lalrpop_hir::{Token, TokenFault};
 pub use lexer::Lexer;
-pub use lexer_tokens::LexerTokens;
 pub use linear_matches::LinearMatches;
 pub use longest::longest_match;
 pub use neighbours::Neighbours;

@@ -1,6 +1,6 @@
 -- What the calls of `next` return for a text, as tokens and as lines.
-use Rattle.std.proofs.Common.{◌≡◌, ℕ, ◌+◌, ◌≤◌, true, inl, List, [], ◌∷◌, ◌++◌, length, drop, map, refl, sym, ap, subst, ◌∙◌, append-nil, arith, length-append}
-use Rattle.std.specs.Prelude.{Option, Some, None, Result, Ok, Err, flat_map}
+use Rattle.std.proofs.Common.{◌≡◌, ℕ, ◌+◌, ◌≤◌, true, inl, List, [], ◌∷◌, ◌++◌, length, map, refl, sym, ap, subst, ◌∙◌, append-nil, arith, length-append}
+use Rattle.std.specs.Prelude.{Option, Some, None, Ok, Err, flat_map}
 use Rattle.std.specs.Iterator.{Yields, Drains}
 use Rattle.std.specs.Str.{chars, IsUtf8}
 use Rattle.std.proofs.lemmas.Grind.{flat_map-append}
@@ -8,15 +8,10 @@ use Rattle.std.proofs.lemmas.List.{length-map, map-append}
 use Rattle.std.proofs.lemmas.Str.{encodes-chars, length-le-encodes}
 use Rattle.std.proofs.iter.Next.{Yields-more}
 use Rattle.lalrpop_hir.specs.Tree.{Tree}
-use Rattle.lalrpop_hir.specs.Tokens.{Item, AreItems, AreTokens, bare}
-use Rattle.lalrpop_hir.specs.declared.token.Token.{Token as Cut}
+use Rattle.lalrpop_hir.specs.Tokens.{Item, AreTokens}
 use Rattle.lalrpop_hir.specs.declared.token.TokenFault.{TokenFault}
-use Rattle.lalrpop_lexer.specs.Cutting.{Cutting, start_of}
-use Rattle.lalrpop_lexer.specs.Dfa.{Row}
-use Rattle.lalrpop_lexer.specs.LexerTokens.{LexerCutting, CutsToken, GivesToken}
-use Rattle.lalrpop_lexer.specs.Rules.{IsBuiltFrom}
-use Rattle.lalrpop_lexer.proofs.LexerCosts.{cut_steps}
-use Rattle.lalrpop_lexer.proofs.LexerCuttings.{tokens_from_start, token_count_from_start}
+use Rattle.lalrpop_lexer.specs.Cutting.{Cutting, GivesItem, with_places}
+use Rattle.lalrpop_lexer.proofs.LexerCuttings.{items_without_places}
 use Rattle.lexdfa_lib.specs.Answer.{IsReported}
 use Rattle.lexdfa_lib.specs.Printed.{line_of}
 use Rattle.lexdfa_lib.specs.Whole.{Token, Cuts, token_line, AreAnswers}
@@ -24,44 +19,38 @@ use Rattle.lexdfa_lib.specs.declared.outcome.Outcome.{Outcome}
 use Rattle.lexdfa_lib.specs.declared.outcome.Outcome.TheVariants.{All, Stopped}
 
 -- one more token or fault
-pub items_more : (s r t u : LexerCutting) (xs : List (Result Cut TokenFault)) (o : Option (Result Cut TokenFault)) (x : Result Cut TokenFault) → r ≡ s
-    → Yields GivesToken r xs t → o ≡ Some x → GivesToken t o u → Yields CutsToken s.cutting (xs ++ x ∷ []) u.cutting
+pub items_more : (s r t u : Cutting) (xs : List Item) (o : Option Item) (x : Item) → r ≡ s → Yields GivesItem r xs t → o ≡ Some x → GivesItem t o u
+    → Yields GivesItem s (xs ++ x ∷ []) u
 items_more s r t u xs o x same y is g =
-    let before = cut_steps s t xs (subst (λ (r : LexerCutting). Yields GivesToken r xs t) same y) in
-    Yields-more CutsToken s.cutting xs t.cutting x u.cutting before (subst (λ (o : Option (Result Cut TokenFault)). GivesToken t o u) is g).0
+    Yields-more GivesItem s xs t x u (subst (λ (r : Cutting). Yields GivesItem r xs t) same y) (subst (λ (o : Option Item). GivesItem t o u) is g)
 
 -- a fault is the last
-pub fault_is_last : (s r t u : LexerCutting) (xs : List (Result Cut TokenFault)) (o : Option (Result Cut TokenFault)) (x : Result Cut TokenFault) (fault : TokenFault) → r ≡ s
-    → Yields GivesToken r xs t → o ≡ Some x → x ≡ Err fault → GivesToken t o u → Drains CutsToken s.cutting (xs ++ x ∷ [])
+pub fault_is_last : (s r t u : Cutting) (xs : List Item) (o : Option Item) (x : Item) (fault : TokenFault) → r ≡ s → Yields GivesItem r xs t → o ≡ Some x
+    → x ≡ Err fault → GivesItem t o u → Drains GivesItem s (xs ++ x ∷ [])
 fault_is_last s r t u xs o x fault same y is failed g =
-    let gives : CutsToken t.cutting (Some (Err fault)) u.cutting =
-    (subst (λ (o : Option (Result Cut TokenFault)). GivesToken t o u) (is ∙ ap Some failed) g).0 in
-    let over : u.cutting.is_over ≡ true = ap (λ (x : Cutting). x.is_over) gives.4 in
-    (u.cutting, (u.cutting, items_more s r t u xs o x same y is g, (refl, inl over)))
+    let gives : GivesItem t (Some (Err fault)) u = subst (λ (o : Option Item). GivesItem t o u) (is ∙ ap Some failed) g in
+    let over : u.is_over ≡ true = ap (λ (x : Cutting). x.is_over) gives.4 in
+    (u, (u, items_more s r t u xs o x same y is g, (refl, inl over)))
 
 -- and where nothing more is given, these are all
-pub these_are_all : (s r t u : LexerCutting) (xs : List (Result Cut TokenFault)) (o : Option (Result Cut TokenFault)) → r ≡ s
-    → Yields GivesToken r xs t → o ≡ None → GivesToken t o u → Drains CutsToken s.cutting xs
+pub these_are_all : (s r t u : Cutting) (xs : List Item) (o : Option Item) → r ≡ s → Yields GivesItem r xs t → o ≡ None → GivesItem t o u → Drains GivesItem s xs
 these_are_all s r t u xs o same y is g =
-    let before = cut_steps s t xs (subst (λ (r : LexerCutting). Yields GivesToken r xs t) same y) in
-    (u.cutting, (t.cutting, before, (subst (λ (o : Option (Result Cut TokenFault)). GivesToken t o u) is g).0))
+    (u, (t, subst (λ (r : Cutting). Yields GivesItem r xs t) same y, subst (λ (o : Option Item). GivesItem t o u) is g))
 
 -- there are fewer of them than bytes if one more comes
-pub one_more : (s : Cutting) (t : Cutting) (d : List Row) (text : List ℕ) (xs : List (Result Cut TokenFault)) (x : Result Cut TokenFault) (n : ℕ) (tokens : List Token) → s ≡ start_of d text
-    → IsUtf8 text → Yields CutsToken s (xs ++ x ∷ []) t → map bare xs ≡ map Ok tokens → n ≡ length tokens → n + 1 ≤ length text
-one_more s t d text xs x n tokens start u y are count =
-    let few : length (xs ++ x ∷ []) ≤ length (chars text) = token_count_from_start s d text start u (xs ++ x ∷ []) t y in
-    let same : length xs ≡ length tokens = sym (length-map xs bare) ∙ ap length are ∙ length-map tokens Ok in
+pub one_more : (text : List ℕ) (tokens : List Token) (x : Item) (n : ℕ) → IsUtf8 text → length (map Ok tokens ++ x ∷ []) ≤ length (chars text) → n ≡ length tokens
+    → n + 1 ≤ length text
+one_more text tokens x n u few count =
+    let xs : List Item = map Ok tokens in
+    let same : length xs ≡ length tokens = length-map tokens Ok in
     omega (arith, few, same, length-append xs (x ∷ []), length-le-encodes (chars text), ap length (encodes-chars text u))
 
--- a token as the index of a terminal and a slice
-abbrev pub pair_of : Cut → Token
-pair_of token = (token.index, token.slice)
-
 -- one more token
-pub tokens_more : (xs : List (Result Cut TokenFault)) (x : Result Cut TokenFault) (tokens : List Token) (token : Cut) → map bare xs ≡ map Ok tokens → x ≡ Ok token
-    → map bare (xs ++ x ∷ []) ≡ map Ok (tokens ++ pair_of token ∷ [])
-tokens_more xs x tokens token are is = rw (map-append, are, is, map-append) refl
+pub tokens_more : (s t : Cutting) (tokens : List Token) (x : Item) (token : Token) → x ≡ Ok token → Yields GivesItem s (map Ok tokens ++ x ∷ []) t
+    → Yields GivesItem s (map Ok (tokens ++ token ∷ [])) t
+tokens_more s t tokens x token is y =
+    let same : map Ok tokens ++ x ∷ [] ≡ map Ok (tokens ++ token ∷ []) = rw (is, map-append) refl in
+    subst (λ (xs : List Item). Yields GivesItem s xs t) same y
 
 pub count_more : (n : ℕ) (tokens : List Token) (token : Token) → n ≡ length tokens → n + 1 ≡ length (tokens ++ token ∷ [])
 count_more n tokens token is = omega (arith, length-append tokens (token ∷ []))
@@ -79,25 +68,18 @@ pub told : (ts : List Tree) (ps text : List ℕ) (tokens : List Token) (a o : Ou
 told ts ps text tokens a o v w same lines before cuts =
     (subst (λ (x : Outcome). Cuts ts ps text tokens x) (sym same) cuts, lines ∙ ap (λ (l : List ℕ). l ++ line_of o) before ∙ ap (λ x. flat_map token_line tokens ++ line_of x) (sym same))
 
--- tokens without their places
-items_of : (ts : List Tree) (ps text : List ℕ) (at : ℕ) (xs : List (Result Cut TokenFault)) → AreTokens ts ps text at xs → AreItems ts ps text at (map bare xs)
-items_of ts ps text at [] are = are
-items_of ts ps text at (Ok token ∷ xs) are = (are.0.1, items_of ts ps text (at + length token.slice.now) xs are.1)
-items_of ts ps text at (Err fault ∷ xs) are = (are.0, items_of ts ps text (at + length (drop fault.at text)) xs are.1)
-
 -- a fault ends the tokens
-pub fault_ends : (s : Cutting) (d : List Row) (ts : List Tree) (ps text : List ℕ) (tokens : List Token) (xs : List (Result Cut TokenFault)) (x : Result Cut TokenFault) (fault : TokenFault) (n : ℕ)
-    → s ≡ start_of d text → IsBuiltFrom ts ps d → Drains CutsToken s (xs ++ x ∷ []) → map bare xs ≡ map Ok tokens → x ≡ Err fault → n ≡ length tokens
-    → Cuts ts ps text tokens (Stopped n fault.at)
-fault_ends s d ts ps text tokens xs x fault n start built all are is count =
-    let parts : map bare (xs ++ x ∷ []) ≡ map Ok tokens ++ Err fault ∷ [] = rw (map-append, are, is) refl in
-    (subst (λ (ys : List Item). AreItems ts ps text 0 ys) parts (items_of ts ps text 0 (xs ++ x ∷ []) (tokens_from_start s ts ps d text start built (xs ++ x ∷ []) all)), count)
+pub fault_ends : (ts : List Tree) (ps text : List ℕ) (tokens : List Token) (x : Item) (fault : TokenFault) (n : ℕ)
+    → AreTokens ts ps text 0 (with_places 0 (map Ok tokens ++ x ∷ [])) → x ≡ Err fault → n ≡ length tokens → Cuts ts ps text tokens (Stopped n fault.at)
+fault_ends ts ps text tokens x fault n are is count =
+    let last : AreTokens ts ps text 0 (with_places 0 (map Ok tokens ++ Err fault ∷ [])) =
+    subst (λ (x : Item). AreTokens ts ps text 0 (with_places 0 (map Ok tokens ++ x ∷ []))) is are in
+    (items_without_places ts ps text 0 (map Ok tokens ++ Err fault ∷ []) last, count)
 
 -- and so does the end of the text
-pub end_ends : (s : Cutting) (d : List Row) (ts : List Tree) (ps text : List ℕ) (tokens : List Token) (xs : List (Result Cut TokenFault)) (n : ℕ)
-    → s ≡ start_of d text → IsBuiltFrom ts ps d → Drains CutsToken s xs → map bare xs ≡ map Ok tokens → n ≡ length tokens → Cuts ts ps text tokens (All n)
-end_ends s d ts ps text tokens xs n start built all are count =
-    (subst (λ (ys : List Item). AreItems ts ps text 0 ys) are (items_of ts ps text 0 xs (tokens_from_start s ts ps d text start built xs all)), count)
+pub end_ends : (ts : List Tree) (ps text : List ℕ) (tokens : List Token) (n : ℕ) → AreTokens ts ps text 0 (with_places 0 (map Ok tokens)) → n ≡ length tokens
+    → Cuts ts ps text tokens (All n)
+end_ends ts ps text tokens n are count = (items_without_places ts ps text 0 (map Ok tokens) are, count)
 
 -- if something is reported, nothing else is written
 pub told_alone : (bytes text : List ℕ) (a o : Outcome) (v w : List ℕ) → a ≡ o → v ≡ w ++ line_of o → w ≡ [] → IsReported bytes o → AreAnswers bytes text a v

@@ -2,18 +2,29 @@
 
 use crate::built::{expect, halves};
 use crate::lookaheads::lexer_of;
-use lalrpop_lexer::{Lexer, LexerTokens, Token, TokenFault};
+use lalrpop_lexer::lexer::dfa::NfaIndex;
+use lalrpop_lexer::{Lexer, TokenFault, Tokens};
 use std::alloc::{AllocError, Global};
 
-fn shown(alloc: Global, item: &Result<Token, TokenFault>) -> Result<String, AllocError> {
+fn shown(
+    alloc: Global,
+    item: Result<(NfaIndex, &str), TokenFault>,
+    start: usize,
+) -> Result<String, AllocError> {
     match item {
-        Ok(token) => {
-            let index = token.index.index();
-            let slice = token.slice;
-            let start = token.start;
+        Ok((index, slice)) => {
+            let index = index.index();
             format!(in alloc; "{index} {slice} {start}, ")
         }
         Err(fault) => format!(in alloc; "{fault}, "),
+    }
+}
+
+// How many bytes of the text the item cuts off.
+fn size_of(item: &Result<(NfaIndex, &str), TokenFault>) -> usize {
+    match item {
+        Ok((_, slice)) => slice.len(),
+        Err(_) => 0,
     }
 }
 
@@ -29,16 +40,19 @@ fn tokens_of<'text>(
     alloc: Global,
     lexer: &'text Lexer,
     text: &'text str,
-) -> Result<LexerTokens<'text>, AllocError> {
+) -> Result<Tokens<'text>, AllocError> {
     lexer.tokens(alloc, text)
 }
 
-// Adds what the calls of `next` return, and whether the one after the first `None` returns it too.
-fn add_all(alloc: Global, line: &mut String, mut items: LexerTokens<'_>) -> Result<(), AllocError> {
+// Adds what the calls of `next` return, and whether the one after the first `None` returns it too. The rest begins after what they cut.
+fn add_all(alloc: Global, line: &mut String, mut items: Tokens<'_>) -> Result<(), AllocError> {
+    let mut start = items.offset();
     for item in items.by_ref() {
-        line.push_str(&shown(alloc, &item)?)?;
+        let size = size_of(&item);
+        line.push_str(&shown(alloc, item, start)?)?;
+        start = start.wrapping_add(size);
     }
-    line.push_str(if items.next().is_none() {
+    line.push_str(if items.next().is_none() && items.offset() == start {
         "None"
     } else {
         "more"
@@ -80,13 +94,13 @@ fn texts_are_cut(rt: HostRuntime) {
 }
 
 // How many tokens of each pattern there are before the fault, and where the fault is, if there is one.
-fn counts(alloc: Global, items: LexerTokens<'_>) -> Result<String, AllocError> {
+fn counts(alloc: Global, items: Tokens<'_>) -> Result<String, AllocError> {
     let mut counts = vec![in alloc; 0usize; 4]?;
     let mut end = String::new(alloc);
     for item in items {
         match item {
-            Ok(token) => {
-                if let Some(count) = counts.get_mut(token.index.index()) {
+            Ok((index, _)) => {
+                if let Some(count) = counts.get_mut(index.index()) {
                     *count = count.wrapping_add(1);
                 }
             }

@@ -389,10 +389,10 @@ fn lexer_for(alloc: Global, rows: &str) -> Result<Lexer, AllocError> {
 fn add_item(
     alloc: Global,
     line: &mut String,
-    item: &Result<Token, TokenFault>,
+    item: Result<(NfaIndex, &str), TokenFault>,
 ) -> Result<(), AllocError> {
     let part = match item {
-        Ok(token) => format!(in alloc; "{}", token.index.index())?,
+        Ok((index, _)) => format!(in alloc; "{}", index.index())?,
         Err(fault) => format!(in alloc; "fault {}", fault.at)?,
     };
     add(line, " ", part.as_str())
@@ -401,7 +401,7 @@ fn add_item(
 fn cut_by(alloc: Global, lexer: &Lexer, text: &str) -> Result<String, AllocError> {
     let mut line = String::new(alloc);
     for item in lexer.tokens(alloc, text)? {
-        add_item(alloc, &mut line, &item)?;
+        add_item(alloc, &mut line, item)?;
     }
     Ok(line)
 }
@@ -464,11 +464,20 @@ fn tokens_by<'text>(
     text: &'text str,
 ) -> Result<Vec<Token<'text>>, AllocError> {
     let mut tokens = Vec::new(alloc);
+    let mut start = 0usize;
     for item in lexer.tokens(alloc, text)? {
-        if let Ok(token) = item
-            && tokens.push(token).is_err()
-        {
-            return Err(AllocError);
+        if let Ok((index, slice)) = item {
+            if tokens
+                .push(Token {
+                    index,
+                    slice,
+                    start,
+                })
+                .is_err()
+            {
+                return Err(AllocError);
+            }
+            start = start.wrapping_add(slice.len());
         }
     }
     Ok(tokens)

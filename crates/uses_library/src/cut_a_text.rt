@@ -1,10 +1,12 @@
 //! A lexer cuts a text into tokens.
 ghost use Rattle.std.specs.Prelude.{◌≡◌, ℕ, ◌++◌, ◌∷◌, [], List, Some, None, Ok, Err, map, length, IfOk, IfErr, IfSome, IfNone, true, false};
+ghost use Rattle.std.specs.Borrow.{Bor};
+ghost use Rattle.lalrpop_lexer.specs.Cutting.{with_places};
 ghost use Rattle.lalrpop_lexer.specs.Tokens.{IsToken, AreTokens};
 ghost use Rattle.lalrpop_lexer.specs.Longest.{IsLongest};
 ghost use Rattle.lalrpop_lexer.specs.declared.Token.{Token as TokenValue};
 
-use lalrpop_lexer::{Lexer, LexerTokens, TokenFault};
+use lalrpop_lexer::{Lexer, TokenFault, Tokens};
 use std::alloc::{AllocError, Global};
 
 // Needs lalrpop_lexer::Lexer::token: token, none.
@@ -22,7 +24,7 @@ pub fn front(lexer: &Lexer, text: &str) -> Option<(usize, usize)>
 }
 
 // Needs lalrpop_lexer::Lexer::tokens: tokens, count.
-// Needs lalrpop_lexer::LexerTokens::next: ghost next_gives, ghost remaining.
+// Needs lalrpop_lexer::Tokens::next: ghost next_gives, ghost remaining.
 /// How many tokens the whole text is, or the first place where no pattern matches.
 ///
 /// # Errors
@@ -33,12 +35,12 @@ pub fn token_count(
     lexer: &Lexer,
     text: &str,
 ) -> Result<Result<usize, TokenFault>, AllocError>
-    ensures all { IfOk result (λ found. IfOk found (λ n. (tokens : List TokenValue)
-        × (AreTokens lexer.now.trees lexer.now.precedences text.now 0 (map Ok tokens)
-        × (n ≡ length tokens)))) }
-    ensures fault { IfOk result (λ found. IfErr found (λ fault. (tokens : List TokenValue)
+    ensures all { IfOk result (λ found. IfOk found (λ n. (tokens : List (ℕ × Bor (List ℕ)))
+        × (AreTokens lexer.now.trees lexer.now.precedences text.now 0
+        (with_places 0 (map Ok tokens)) × (n ≡ length tokens)))) }
+    ensures fault { IfOk result (λ found. IfErr found (λ fault. (tokens : List (ℕ × Bor (List ℕ)))
         × AreTokens lexer.now.trees lexer.now.precedences text.now 0
-        (map Ok tokens ++ Err fault ∷ []))) }
+        (with_places 0 (map Ok tokens ++ Err fault ∷ [])))) }
 {
     let mut count = 0;
     let mut items = lexer.tokens(alloc, text)?;
@@ -52,7 +54,7 @@ pub fn token_count(
 }
 
 // Needs lalrpop_lexer::Lexer::tokens: start.
-// Needs lalrpop_lexer::LexerTokens::rest: rest.
+// Needs lalrpop_lexer::Tokens::rest: rest.
 /// Before the first token the rest is the whole text.
 ///
 /// # Errors
@@ -69,8 +71,25 @@ pub fn rest_at_first<'text>(
     Ok(items.rest())
 }
 
+// Needs lalrpop_lexer::Tokens::offset: offset, boundary.
+/// The rest, cut off the text where it begins.
+///
+/// # Errors
+///
+/// `AllocError` if a request for memory was refused.
+pub fn cut_where_the_rest_begins<'text>(
+    alloc: Global,
+    lexer: &'text Lexer,
+    text: &'text str,
+) -> Result<&'text str, AllocError>
+    ensures whole { IfOk result (λ rest. rest.now ≡ text.now) }
+{
+    let items = lexer.tokens(alloc, text)?;
+    Ok(&text[items.offset()..])
+}
+
 // Needs lalrpop_lexer::Lexer::tokens: parts.
-// Needs lalrpop_lexer::LexerTokens::next: ghost next_gives.
+// Needs lalrpop_lexer::Tokens::next: ghost next_gives.
 /// The first token's slice and what follows it.
 ///
 /// # Errors
@@ -85,7 +104,7 @@ pub fn cut_once<'text>(
 {
     let mut tokens = lexer.tokens(alloc, text)?;
     match tokens.next() {
-        Some(Ok(token)) => Ok(Some((token.slice, tokens.rest()))),
+        Some(Ok(found)) => Ok(Some((found.1, tokens.rest()))),
         _ => Ok(None),
     }
 }
@@ -103,14 +122,14 @@ pub fn first_length(alloc: Global, lexer: &Lexer, text: &str) -> Result<Option<u
 {
     let mut tokens = lexer.tokens(alloc, text)?;
     match tokens.next() {
-        Some(Ok(token)) => Ok(Some(token.slice.len())),
+        Some(Ok(found)) => Ok(Some(found.1.len())),
         _ => Ok(None),
     }
 }
 
-// Needs lalrpop_lexer::LexerTokens::next: ghost next_gives.
+// Needs lalrpop_lexer::Tokens::next: ghost next_gives.
 /// Whether something comes after the end of the tokens: never.
-pub fn comes_after_the_end(tokens: &mut LexerTokens<'_>) -> bool
+pub fn comes_after_the_end(tokens: &mut Tokens<'_>) -> bool
     ensures never { result ≡ false }
 {
     if tokens.next().is_some() {

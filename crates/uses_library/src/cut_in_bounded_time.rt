@@ -8,17 +8,16 @@ ghost use Rattle.lalrpop_hir.specs.Longest.{IsLongest};
 ghost use Rattle.lalrpop_lexer.specs.Matching.{characters_of, open_states};
 ghost use Rattle.lalrpop_lexer.specs.Lookahead.{IsLookahead};
 ghost use Rattle.lalrpop_lexer.specs.Winners.{Matched};
-ghost use Rattle.lalrpop_lexer.specs.Cutting.{rest_of};
-ghost use Rattle.lalrpop_lexer.specs.LexerTokens.{most_steps};
+ghost use Rattle.lalrpop_lexer.specs.Cutting.{rest_of, most_steps};
 ghost use Rattle.lalrpop_lexer.specs.Rules.{IsBuiltFrom};
 
 use lalrpop_dfa::NfaIndex;
-use lalrpop_lexer::{Lexer, LexerTokens};
+use lalrpop_lexer::{Lexer, Tokens};
 use lalrpop_nfa::Steps;
 use std::alloc::{AllocError, Global};
 
 // Needs lalrpop_lexer::Lexer::tokens: cost.
-// Needs lalrpop_lexer::LexerTokens::next: ghost next_gives, ghost remaining.
+// Needs lalrpop_lexer::Tokens::next: ghost next_gives, ghost remaining.
 /// Cuts the whole text.
 ///
 /// # Errors
@@ -28,9 +27,8 @@ pub fn cut_to_the_end<'text>(
     alloc: Global,
     lexer: &'text Lexer,
     text: &'text str,
-) -> Result<LexerTokens<'text>, AllocError>
-    ensures all { IfOk result (λ s.
-        (s.cutting.is_over ≡ true) ⊎ (rest_of s.cutting ≡ [])) }
+) -> Result<Tokens<'text>, AllocError>
+    ensures all { IfOk result (λ s. (s.is_over ≡ true) ⊎ (rest_of s ≡ [])) }
     ensures cost { IfOk result (λ s. (found : Option ℕ)
         × (IsLookahead (Matched lexer.now.trees) found
         × (s.steps ≤ most_steps lexer.now.automaton text.now found))) }
@@ -50,10 +48,10 @@ pub fn begin<'text>(
     alloc: Global,
     lexer: &'text Lexer,
     text: &'text str,
-) -> Result<LexerTokens<'text>, AllocError>
-    ensures whole { IfOk result (λ s. rest_of s.cutting ≡ text.now) }
-    ensures built { IfOk result (λ s. IsBuiltFrom lexer.now.trees lexer.now.precedences
-        s.cutting.automaton) }
+) -> Result<Tokens<'text>, AllocError>
+    ensures whole { IfOk result (λ s. rest_of s ≡ text.now) }
+    ensures built { IfOk result (λ s.
+        IsBuiltFrom lexer.now.trees lexer.now.precedences s.automaton) }
     ensures unread { IfOk result (λ s. s.steps ≡ 0) }
     ensures memo { IfOk result (λ s. IsSome s.spare → IsLookahead (Matched lexer.now.trees) None) }
     ensures refused { OnErr result (IsLookahead (Matched lexer.now.trees) None) }

@@ -8,16 +8,16 @@ ghost use Rattle.lalrpop_dfa.specs.Lookahead.{LooksAtMost};
 ghost use Rattle.lalrpop_lexer.specs.LeadingTokens.{LeadTo};
 ghost use Rattle.lalrpop_lexer.specs.Renumbered.{AreAlike, AreRenumbered, renumbered};
 ghost use Rattle.lalrpop_lexer.specs.SameTokens.{IsSameToken, AreSameTokens, moved};
-ghost use Rattle.lalrpop_hir.specs.Tokens.{IsToken, AreTokens};
+ghost use Rattle.lalrpop_hir.specs.Tokens.{Item, IsToken, AreTokens};
 ghost use Rattle.lalrpop_hir.specs.Tree.{Tree};
 ghost use Rattle.lalrpop_hir.specs.Winners.{TreeMatches, Matched};
 ghost use Rattle.lalrpop_hir.specs.declared.token.Token.{Token as TokenValue};
 ghost use Rattle.lalrpop_hir.specs.declared.token.TokenFault.{TokenFault as FaultValue};
-ghost use Rattle.lalrpop_lexer.specs.LexerTokens.{GivesToken};
+ghost use Rattle.lalrpop_lexer.specs.Cutting.{GivesItem, with_places};
 
 use lalrpop_lexer::lexer::dfa::{Clash, DfaConstructionError, Precedence, clashes};
 use lalrpop_lexer::lexer::re::Regex;
-use lalrpop_lexer::{Lexer, LexerTokens, Token};
+use lalrpop_lexer::{Lexer, Token, Tokens};
 use std::alloc::{AllocError, Global};
 
 /// How strong the pattern of the token at the front of the text is. The pattern of a token is in the list.
@@ -55,9 +55,9 @@ pub fn tokens_at_their_places<'text>(
     alloc: Global,
     lexer: &'text Lexer,
     text: &'text str,
-) -> Result<LexerTokens<'text>, AllocError>
-    ensures each { IfOk result (λ tokens. (xs : List (Result TokenValue FaultValue)) (i : ℕ)
-        (token : TokenValue) → Drains GivesToken tokens xs → slice_get xs i ≡ Some (Ok token)
+) -> Result<Tokens<'text>, AllocError>
+    ensures each { IfOk result (λ tokens. (xs : List Item) (i : ℕ) (token : TokenValue)
+        → Drains GivesItem tokens xs → slice_get (with_places 0 xs) i ≡ Some (Ok token)
         → IsToken lexer.now.trees lexer.now.precedences text.now token.start token) }
 {
     lexer.tokens(alloc, text)
@@ -91,11 +91,10 @@ pub fn the_tokens<'text>(
     alloc: Global,
     lexer: &'text Lexer,
     text: &'text str,
-) -> Result<LexerTokens<'text>, AllocError>
+) -> Result<Tokens<'text>, AllocError>
     ensures one { IfOk result (λ tokens. (all : List (Result TokenValue FaultValue))
         × (AreTokens lexer.now.trees lexer.now.precedences text.now 0 all
-        × ((xs : List (Result TokenValue FaultValue)) → Drains GivesToken tokens xs
-        → AreSameTokens xs all))) }
+        × ((xs : List Item) → Drains GivesItem tokens xs → AreSameTokens (with_places 0 xs) all))) }
 {
     lexer.tokens(alloc, text)
 }
@@ -111,16 +110,16 @@ pub fn tokens_by_both<'text>(
     one: &'text Lexer,
     other: &'text Lexer,
     text: &'text str,
-) -> Result<(LexerTokens<'text>, LexerTokens<'text>), AllocError>
+) -> Result<(Tokens<'text>, Tokens<'text>), AllocError>
     ensures alike { IfOk result (λ both.
         AreAlike one.now.trees one.now.precedences other.now.trees other.now.precedences
-        → (xs ys : List (Result TokenValue FaultValue)) → Drains GivesToken both.0 xs
-        → Drains GivesToken both.1 ys → AreSameTokens xs ys) }
+        → (xs ys : List Item) → Drains GivesItem both.0 xs → Drains GivesItem both.1 ys
+        → AreSameTokens (with_places 0 xs) (with_places 0 ys)) }
     ensures numbers { IfOk result (λ both. (f g : ℕ → ℕ)
         → AreRenumbered f g one.now.trees one.now.precedences
-        other.now.trees other.now.precedences → (xs ys : List (Result TokenValue FaultValue))
-        → Drains GivesToken both.0 xs → Drains GivesToken both.1 ys
-        → AreSameTokens (map (renumbered f) xs) ys) }
+        other.now.trees other.now.precedences → (xs ys : List Item)
+        → Drains GivesItem both.0 xs → Drains GivesItem both.1 ys
+        → AreSameTokens (map (renumbered f) (with_places 0 xs)) (with_places 0 ys)) }
 {
     let first = one.tokens(alloc, text)?;
     let second = other.tokens(alloc, text)?;
@@ -181,10 +180,11 @@ pub fn tokens_of_part<'text>(
     alloc: Global,
     lexer: &'text Lexer,
     part: &'text str,
-) -> Result<LexerTokens<'text>, AllocError>
+) -> Result<Tokens<'text>, AllocError>
     ensures stay { IfOk result (λ tokens.
-        (n : ℕ) (xs : List TokenValue) (ys : List (Result TokenValue FaultValue))
-        → LooksAtMost (Matched lexer.now.trees) n → Drains GivesToken tokens (map Ok xs ++ ys)
+        (n : ℕ) (xs : List TokenValue) (ys : List (Result TokenValue FaultValue)) (all : List Item)
+        → LooksAtMost (Matched lexer.now.trees) n → Drains GivesItem tokens all
+        → with_places 0 all ≡ map Ok xs ++ ys
         → (to : ℕ) × ((n < length (chars (drop to part.now)) → (later : List ℕ)
         → LeadTo lexer.now.trees lexer.now.precedences (part.now ++ later) 0 to xs))) }
 {
@@ -201,11 +201,10 @@ pub fn tokens_of_rest<'text>(
     lexer: &'text Lexer,
     front: &'text str,
     rest: &'text str,
-) -> Result<LexerTokens<'text>, AllocError>
-    ensures moved { IfOk result (λ tokens. (xs : List (Result TokenValue FaultValue))
-        → Drains GivesToken tokens xs
+) -> Result<Tokens<'text>, AllocError>
+    ensures moved { IfOk result (λ tokens. (xs : List Item) → Drains GivesItem tokens xs
         → AreTokens lexer.now.trees lexer.now.precedences (front.now ++ rest.now)
-        (length front.now) (map (moved (length front.now)) xs)) }
+        (length front.now) (map (moved (length front.now)) (with_places 0 xs))) }
 {
     lexer.tokens(alloc, rest)
 }

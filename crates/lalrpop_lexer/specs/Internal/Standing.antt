@@ -2,7 +2,6 @@
 use Rattle.std.specs.Prelude.{◌≡◌, ℕ, ◌+◌, ◌*◌, ◌^◌, ◌<◌, ◌≤◌, List, length, drop}
 use Rattle.std.specs.Str.{chars, IsCharBoundary}
 use Rattle.lalrpop_dfa.specs.Dfa.{Row}
-use Rattle.lalrpop_lexer.specs.Matching.{Matching}
 use Rattle.lalrpop_lexer.specs.Internal.Memory.{Memory, IsFor, room}
 use Rattle.lalrpop_lexer.specs.Internal.Hopeless.{IsSound}
 
@@ -24,7 +23,3 @@ pub record IsReached (d : List Row) (text : List ℕ) (at counted index : ℕ) (
 -- that are still to be counted
 abbrev pub spare_of : List ℕ → ℕ → ℕ → Memory → ℕ
 spare_of text credit counted m = 64 * room m + credit + length (chars (drop counted text))
-
--- the matches of the text are found up to this place
-abbrev pub AreFoundUpTo : List Row → List ℕ → ℕ → Matching → Type 0
-AreFoundUpTo d text at s = s ≡ record { automaton = d; text = text; at = at; spare = s.spare }

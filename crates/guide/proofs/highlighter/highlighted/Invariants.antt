@@ -4,4 +4,4 @@ use Rattle.guide.proofs.highlighter.highlighted.Given as goal
 
 -- what is shown so far is the text in front of the rest
 abbrev pub invariant-loop-item : goal.invariant-loop-item
-invariant-loop-item l = ShowsFront (string_bytes l.shown) l.text l.item-iterator.cutting
+invariant-loop-item l = ShowsFront (string_bytes l.shown) l.text l.item-iterator

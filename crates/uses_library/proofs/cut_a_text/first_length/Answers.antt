@@ -8,15 +8,15 @@ use Rattle.uses_library.proofs.cut_a_text.first_length.Goals as goal
 pub returns-in-Some-Ok : goal.returns-in-Some-Ok
 returns-in-Some-Ok c =
     let rules = c.args.lexer.now in
-    let token = c.in-Some-Ok.token in
+    let token = c.in-Some-Ok.found in
     let step = rw c.in-Some-Ok.field-0-is at c.in-Some-Ok.ensures.steps in
-    let longest = step.0.1.3 rules.trees rules.precedences (on_words _ _ _ c.in_ok-tokens.ensures.built.stands) in
+    let longest = step.3 rules.trees rules.precedences (on_words _ _ _ c.in_ok-tokens.ensures.built.stands) in
     record {
       longest = (
-        token.index,
+        token.0,
         (
-          token.slice.now,
-          (subst (λ (s : Cutting). IsLongest rules.trees rules.precedences (rest_of s) (Some (token.index, token.slice.now))) c.in_ok-tokens.ensures.start.0 longest, refl),
+          token.1.now,
+          (subst (λ (s : Cutting). IsLongest rules.trees rules.precedences (rest_of s) (Some (token.0, token.1.now))) c.in_ok-tokens.ensures.start longest, refl),
         ),
       );
     }

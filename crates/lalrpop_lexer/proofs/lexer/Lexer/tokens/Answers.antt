@@ -1,15 +1,17 @@
-use Rattle.std.proofs.Common.{◌≡◌, ℕ, ◌∙◌, ap, sym, List, true, false}
+use Rattle.std.proofs.Common.{◌≡◌, ℕ, ◌∙◌, ap, sym, refl, subst, List, true, false}
 use Rattle.std.specs.Prelude.{Option, Some, None, Result, Ok, Err, OnErr}
 use Rattle.std.specs.Option.{is_some}
 use Rattle.lalrpop_hir.specs.Winners.{Matched}
+use Rattle.lalrpop_dfa.specs.Dfa.{Row}
 use Rattle.lalrpop_dfa.specs.Lookahead.{Accepted, IsLookahead, IsTrim}
 use Rattle.lalrpop_dfa.proofs.Recognized.{recognized_words}
 use Rattle.lalrpop_dfa.proofs.WitnessLaws.{same_most}
 use Rattle.lalrpop_lexer.specs.Matching.{Matching}
-use Rattle.lalrpop_lexer.specs.Cutting.{start_of}
+use Rattle.lalrpop_lexer.specs.Cutting.{Cutting, start_of}
 use Rattle.lalrpop_lexer.specs.Rules.{Rules, IsBuiltFrom}
-use Rattle.lalrpop_lexer.specs.LexerTokens.{LexerCutting, lexer_start}
-use Rattle.lalrpop_lexer.proofs.LexerCosts.{lexer_tokens, lexer_parts, lexer_count, cost_with, cost_without}
+use Rattle.lalrpop_lexer.proofs.Cuttings.{parts_from_start, count_from_start}
+use Rattle.lalrpop_lexer.proofs.LexerCuttings.{tokens_from_start}
+use Rattle.lalrpop_lexer.proofs.LexerCosts.{cost_with, cost_without}
 use Rattle.lalrpop_lexer.proofs.lexer.Lexer.tokens.Goals as goal
 
 bound_of : (L : List ℕ → Type 0) (o : Option ℕ) → is_some o ≡ true → IsLookahead L o → (n : ℕ) × IsLookahead L (Some n)
@@ -24,26 +26,33 @@ on_err : {A E P : Type 0} (r : Result A E) → P → OnErr r P
 on_err (Ok x) p = tt
 on_err (Err e) p = p
 
--- ---- where something bounds the lookahead
-begins : (c : goal.After-new) → c.new.result ≡ lexer_start c.args.self.now.automaton c.args.text.now None
-begins c =
-    c.new.ensures.start ∙ ap (λ (m : Matching). record { cutting = start_of c.self.inside.dense c.args.text.now; spare = None; steps = m.spare }) c.new-plain.ensures.start
-    ∙ ap (λ (r : Rules). lexer_start r.automaton c.args.text.now None) c.self.view_is
+starts : (s : Cutting) (d : List Row) (text : List ℕ) (spare : Option ℕ) → s ≡ start_of d text spare → s ≡ start_of d text s.spare
+starts s d text spare e = subst (λ (x : Cutting). x ≡ start_of d text x.spare) (sym e) refl
 
-cuts : (c : goal.After-new) → c.new.result.cutting ≡ start_of c.args.self.now.automaton c.args.text.now
-cuts c = ap (λ (s : LexerCutting). s.cutting) (begins c)
+-- ---- where something bounds the lookahead
+begins : (c : goal.After-new) → c.new.result ≡ start_of c.args.self.now.automaton c.args.text.now None
+begins c =
+    c.new.ensures.start ∙ ap (λ (m : Matching). record (start_of m.automaton c.args.text.now None) { steps = m.spare }) c.new-plain.ensures.start
+    ∙ ap (λ (r : Rules). start_of r.automaton c.args.text.now None) c.self.view_is
 
 built : (c : goal.After-new) → IsBuiltFrom c.args.self.now.trees c.args.self.now.precedences c.args.self.now.automaton
 built c = rw (← c.self.view_is) c.self.invariant.0
 
+pub returns-then-is_some-clause-start : goal.returns-then-is_some-clause-start
+returns-then-is_some-clause-start c = starts _ _ _ None (begins c)
+
+pub returns-then-is_some-clause-built : goal.returns-then-is_some-clause-built
+returns-then-is_some-clause-built c =
+    subst (IsBuiltFrom c.args.self.now.trees c.args.self.now.precedences) (sym (ap (λ (s : Cutting). s.automaton) (begins c))) (built c)
+
 pub returns-then-is_some-clause-tokens : goal.returns-then-is_some-clause-tokens
-returns-then-is_some-clause-tokens c = lexer_tokens _ _ _ _ _ (cuts c) (built c)
+returns-then-is_some-clause-tokens c = tokens_from_start _ _ _ _ _ None (begins c) (built c)
 
 pub returns-then-is_some-clause-parts : goal.returns-then-is_some-clause-parts
-returns-then-is_some-clause-parts c = lexer_parts _ _ _ (cuts c)
+returns-then-is_some-clause-parts c = parts_from_start _ _ _ None (begins c)
 
 pub returns-then-is_some-clause-count : goal.returns-then-is_some-clause-count
-returns-then-is_some-clause-count c = lexer_count _ _ _ (cuts c) c.utf8.text
+returns-then-is_some-clause-count c = count_from_start _ _ _ None (begins c) c.utf8.text
 
 pub returns-then-is_some-clause-cost : goal.returns-then-is_some-clause-cost
 returns-then-is_some-clause-cost c =
@@ -70,12 +79,17 @@ unbounded c =
     let is : IsLookahead (Matched c.args.self.now.trees) c.self.inside.lookahead = rw (← c.self.view_is) c.self.invariant.2 in
     no_bound (Matched c.args.self.now.trees) c.self.inside.lookahead (sym c.is_some.ensures ∙ c.if-is_some.false) is
 
-begins_with : (c : goal.After-new-2) → c.new-2.result ≡ lexer_start c.args.self.now.automaton c.args.text.now (Some c.in_ok-matches.matches.spare)
+begins_with : (c : goal.After-new-2) → c.new-2.result ≡ start_of c.args.self.now.automaton c.args.text.now (Some c.in_ok-matches.matches.spare)
 begins_with c =
-    c.new-2.ensures.start ∙ ap (λ (r : Rules). lexer_start r.automaton c.args.text.now (Some c.in_ok-matches.matches.spare)) c.self.view_is
+    c.new-2.ensures.start ∙ ap (λ (m : Matching). start_of m.automaton c.args.text.now (Some c.in_ok-matches.matches.spare)) c.in_ok-matches.ensures.start
 
-cuts_with : (c : goal.After-new-2) → c.new-2.result.cutting ≡ start_of c.args.self.now.automaton c.args.text.now
-cuts_with c = ap (λ (s : LexerCutting). s.cutting) (begins_with c)
+pub returns-clause-start : goal.returns-clause-start
+returns-clause-start c = starts _ _ _ _ (begins_with c)
+
+pub returns-clause-built : goal.returns-clause-built
+returns-clause-built c =
+    let built : IsBuiltFrom c.args.self.now.trees c.args.self.now.precedences c.args.self.now.automaton = rw (← c.self.view_is) c.self.invariant.0 in
+    subst (IsBuiltFrom c.args.self.now.trees c.args.self.now.precedences) (sym (ap (λ (s : Cutting). s.automaton) (begins_with c))) built
 
 pub returns-in_err-matches-clause-refused : goal.returns-in_err-matches-clause-refused
 returns-in_err-matches-clause-refused c =
@@ -88,13 +102,13 @@ returns-clause-memo c = λ _. unbounded c
 pub returns-clause-tokens : goal.returns-clause-tokens
 returns-clause-tokens c =
     let built : IsBuiltFrom c.args.self.now.trees c.args.self.now.precedences c.args.self.now.automaton = rw (← c.self.view_is) c.self.invariant.0 in
-    lexer_tokens _ _ _ _ _ (cuts_with c) built
+    tokens_from_start _ _ _ _ _ _ (begins_with c) built
 
 pub returns-clause-parts : goal.returns-clause-parts
-returns-clause-parts c = lexer_parts _ _ _ (cuts_with c)
+returns-clause-parts c = parts_from_start _ _ _ _ (begins_with c)
 
 pub returns-clause-count : goal.returns-clause-count
-returns-clause-count c = lexer_count _ _ _ (cuts_with c) c.utf8.text
+returns-clause-count c = count_from_start _ _ _ _ (begins_with c) c.utf8.text
 
 pub returns-clause-cost : goal.returns-clause-cost
 returns-clause-cost c = (
