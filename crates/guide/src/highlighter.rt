@@ -74,7 +74,7 @@ pub fn highlighted(alloc: Global, lexer: &Lexer, text: &str) -> Result<String, S
     let mut shown = String::new(alloc);
     for item in lexer.tokens(alloc, text)? {
         match item {
-            Ok((index, slice)) => push_marked(&mut shown, index.index(), slice)?,
+            Ok(token) => push_marked(&mut shown, token.0.index(), token.1)?,
             Err(fault) => return Err(ShowError::Fault { at: fault.at }),
         }
     }

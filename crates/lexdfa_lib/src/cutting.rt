@@ -51,8 +51,8 @@ fn cut(alloc: Global, lexer: &Lexer, text: &str) -> Result<Answers, AllocError>
     let mut items = lexer.tokens(alloc, text)?;
     while let Some(item) = items.next() {
         match item {
-            Ok((index, slice)) => {
-                push_token(&mut lines, index, slice)?;
+            Ok(token) => {
+                push_token(&mut lines, token.0, token.1)?;
                 count += 1;
             }
             Err(fault) => {

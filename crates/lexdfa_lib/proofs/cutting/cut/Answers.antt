@@ -1,7 +1,6 @@
 use Rattle.std.proofs.Common.{◌≡◌, ◌+◌, ◌≤◌, [], ◌∷◌, ◌++◌, length, map, arith, refl, rules}
 use Rattle.std.specs.Prelude.{Ok}
 use Rattle.std.proofs.lemmas.Result.{IfOk-weaker}
-use Rattle.lexdfa_lib.specs.Whole.{Token}
 use Rattle.lexdfa_lib.proofs.CutLemmas.{items_more, fault_is_last, these_are_all, one_more, tokens_more, count_more, lines_more, told, fault_ends, end_ends}
 use Rattle.lexdfa_lib.proofs.cutting.cut.Goals as goal
 
@@ -18,7 +17,7 @@ overflow_add-count c =
 pub loop-item-preserved : goal.loop-item-preserved
 loop-item-preserved c =
     let tokens = c.loop-item.invariant in
-    let token : Token = (c.in-Ok.index, c.in-Ok.slice) in
+    let token = c.in-Ok.token in
     let more = items_more _ _ _ _ (map Ok tokens.0) _ _ refl tokens.1.0 c.in-Some.is c.next.ensures.steps in (
       tokens.0 ++ token ∷ [],
       (
