@@ -7,4 +7,7 @@ mod FileModes
 mod FileParts
 mod RuleFile
 mod PartLines
+mod LeftModes
+mod GoesOn
+mod OutsideClass
 mod Warnings

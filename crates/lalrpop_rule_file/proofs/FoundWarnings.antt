@@ -1,34 +1,44 @@
 -- Warnings, one after another.
 use Rattle.std.proofs.Common.{◌≡◌, ℕ, zero, suc, ◌+◌, ◌<◌, ◌≤◌, ◌⊎◌, ◌↔◌, inl, inr, List, [], ◌∷◌, ◌++◌, length, refl, sym, ap, subst, ◌∙◌, arith, eq-or-lt_of_le, Contains}
-use Rattle.std.specs.Prelude.{Bool, true, false, Some, slice_get}
+use Rattle.std.specs.Prelude.{Bool, true, false, Some, slice_get, IsTrue}
 use Rattle.std.proofs.lemmas.Bool.{false≢true}
 use Rattle.std.proofs.lemmas.List.Elements.{Contains-append_left, Contains-append_right, Contains-append_cases}
 use Rattle.std.proofs.lemmas.Option.{slice_get_within, get_or_from_slice_get}
 use Rattle.lalrpop_rule_file.specs.declared.file.RuleFile.{RuleFile}
 use Rattle.lalrpop_rule_file.specs.declared.file_rule.FileRule.{FileRule}
 use Rattle.lalrpop_rule_file.specs.declared.warning.Warning.{Warning}
-use Rattle.lalrpop_rule_file.specs.declared.warning.Warning.TheVariants.{NoRules, PartUnused, ModeNotEntered, LiteralEmpty}
-use Rattle.lalrpop_rule_file.specs.Warnings.{AreInOrder, ComesBefore, HasEmptyLiteral, IsEmptyLiteral, IsUnused, IsWarning, kind_of, number_of}
+use Rattle.lalrpop_rule_file.specs.declared.warning.Warning.TheVariants.{NoRules, PartUnused, ModeNotEntered, LiteralEmpty, ModeNotLeft, TextGoesOn, ClassOutside}
+use Rattle.lalrpop_rule_file.specs.Warnings.{AreInOrder, ComesBefore, HasText, IsEmptyLiteral, IsEnteredMode, IsNeverLeft, IsUnused, IsWarning, kind_of, number_of}
+use Rattle.lalrpop_rule_file.specs.LeftModes.{CanBeLeft}
+use Rattle.lalrpop_rule_file.specs.GoesOn.{IsGoingOn}
+use Rattle.lalrpop_rule_file.specs.OutsideClass.{HasOutsideClass}
+use Rattle.bajofeki_rules.specs.declared.rule_text.RuleText.{RuleText}
 use Rattle.lalrpop_rule_file.specs.Internal.Found.{HasFound, IsBelow}
 
 -- a warning is its kind and its number
+abbrev warning_of : ℕ → ℕ → Warning
+warning_of zero n = NoRules
+warning_of (suc zero) n = PartUnused n
+warning_of (suc (suc zero)) n = ModeNotEntered n
+warning_of (suc (suc (suc zero))) n = LiteralEmpty n
+warning_of (suc (suc (suc (suc zero)))) n = ModeNotLeft n
+warning_of (suc (suc (suc (suc (suc zero))))) n = TextGoesOn n
+warning_of (suc (suc (suc (suc (suc (suc k)))))) n = ClassOutside n
+
+is_of : (w : Warning) → warning_of (kind_of w) (number_of w) ≡ w
+is_of NoRules = refl
+is_of (PartUnused i) = refl
+is_of (ModeNotEntered m) = refl
+is_of (LiteralEmpty i) = refl
+is_of (ModeNotLeft m) = refl
+is_of (TextGoesOn i) = refl
+is_of (ClassOutside i) = refl
+
+of_kind : (w : Warning) (kind : ℕ) → kind_of w ≡ kind → w ≡ warning_of kind (number_of w)
+of_kind w kind is = sym (is_of w) ∙ ap (λ (k : ℕ). warning_of k (number_of w)) is
+
 same_warning : (v w : Warning) → kind_of v ≡ kind_of w → number_of v ≡ number_of w → v ≡ w
-same_warning NoRules NoRules kind number = refl
-same_warning (PartUnused i) (PartUnused j) kind number = ap PartUnused number
-same_warning (ModeNotEntered i) (ModeNotEntered j) kind number = ap ModeNotEntered number
-same_warning (LiteralEmpty i) (LiteralEmpty j) kind number = ap LiteralEmpty number
-same_warning NoRules (PartUnused j) kind number = absurd (omega arith)
-same_warning NoRules (ModeNotEntered j) kind number = absurd (omega arith)
-same_warning NoRules (LiteralEmpty j) kind number = absurd (omega arith)
-same_warning (PartUnused i) NoRules kind number = absurd (omega arith)
-same_warning (PartUnused i) (ModeNotEntered j) kind number = absurd (omega arith)
-same_warning (PartUnused i) (LiteralEmpty j) kind number = absurd (omega arith)
-same_warning (ModeNotEntered i) NoRules kind number = absurd (omega arith)
-same_warning (ModeNotEntered i) (PartUnused j) kind number = absurd (omega arith)
-same_warning (ModeNotEntered i) (LiteralEmpty j) kind number = absurd (omega arith)
-same_warning (LiteralEmpty i) NoRules kind number = absurd (omega arith)
-same_warning (LiteralEmpty i) (PartUnused j) kind number = absurd (omega arith)
-same_warning (LiteralEmpty i) (ModeNotEntered j) kind number = absurd (omega arith)
+same_warning v w kind number = of_kind v (kind_of w) kind ∙ ap (warning_of (kind_of w)) number ∙ is_of w
 
 -- ---- one more at the end of a list
 
@@ -130,54 +140,67 @@ module _ (file : RuleFile) (kind number : ℕ) (ws : List Warning) (h : HasFound
       back w is (inr (same, less)) = absurd (omega arith)
 
 -- all warnings
-pub found_all : (file : RuleFile) (ws : List Warning) → HasFound file 4 0 ws → (w : Warning) → Contains ws w ↔ IsWarning file w
+pub found_all : (file : RuleFile) (ws : List Warning) → HasFound file 7 0 ws → (w : Warning) → Contains ws w ↔ IsWarning file w
 found_all file ws h w = (λ has. ((h.those w).0 has).0, λ is. (h.those w).1 (is, below w))
   where
-    below : (v : Warning) → IsBelow 4 0 v
+    below : (v : Warning) → IsBelow 7 0 v
     below NoRules = inl (omega arith)
     below (PartUnused i) = inl (omega arith)
     below (ModeNotEntered m) = inl (omega arith)
     below (LiteralEmpty i) = inl (omega arith)
+    below (ModeNotLeft m) = inl (omega arith)
+    below (TextGoesOn i) = inl (omega arith)
+    below (ClassOutside i) = inl (omega arith)
 
 -- ---- where the warnings of a kind end
 
+told : (file : RuleFile) (w : Warning) (kind : ℕ) → kind_of w ≡ kind → IsWarning file w → IsWarning file (warning_of kind (number_of w))
+told file w kind is so = subst (IsWarning file) (of_kind w kind is) so
+
 pub no_rules_end : (file : RuleFile) (w : Warning) → kind_of w ≡ 0 → IsWarning file w → number_of w < 1
-no_rules_end file NoRules kind is = omega arith
-no_rules_end file (PartUnused i) kind is = absurd (omega (arith, kind))
-no_rules_end file (ModeNotEntered m) kind is = absurd (omega (arith, kind))
-no_rules_end file (LiteralEmpty i) kind is = absurd (omega (arith, kind))
+no_rules_end file w kind is = let none : number_of w ≡ 0 = ap number_of (of_kind w 0 kind) in omega (arith, none)
 
 part_within : (file : RuleFile) (i : ℕ) → IsUnused file i → i < length file.part_lines.items
 part_within file i (p, (at, none, none_below)) = slice_get_within file.part_lines.items i p at
 
 pub parts_end : (file : RuleFile) (k : ℕ) → length file.part_lines.items ≤ k → (w : Warning) → kind_of w ≡ 1 → IsWarning file w → number_of w < k
-parts_end file k all NoRules kind is = absurd (omega (arith, kind))
-parts_end file k all (PartUnused i) kind is = omega (arith, part_within file i is)
-parts_end file k all (ModeNotEntered m) kind is = absurd (omega (arith, kind))
-parts_end file k all (LiteralEmpty i) kind is = absurd (omega (arith, kind))
+parts_end file k all w kind is = omega (arith, all, part_within file (number_of w) (told file w 1 kind is))
 
 pub modes_end : (file : RuleFile) (k : ℕ) → length file.modes.items ≤ k → (w : Warning) → kind_of w ≡ 2 → IsWarning file w → number_of w < k
-modes_end file k all NoRules kind is = absurd (omega (arith, kind))
-modes_end file k all (PartUnused i) kind is = absurd (omega (arith, kind))
-modes_end file k all (ModeNotEntered m) kind is = omega (arith, is.0)
-modes_end file k all (LiteralEmpty i) kind is = absurd (omega (arith, kind))
+modes_end file k all w kind is = omega (arith, all, (told file w 2 kind is).0)
 
-rule_within : (file : RuleFile) (i : ℕ) → HasEmptyLiteral file i → i < length file.rules.items
-rule_within file i (r, (at, is)) = slice_get_within file.rules.items i r at
+pub left_modes_end : (file : RuleFile) (k : ℕ) → length file.modes.items ≤ k → (w : Warning) → kind_of w ≡ 4 → IsWarning file w → number_of w < k
+left_modes_end file k all w kind is = omega (arith, all, (told file w 4 kind is).1.0)
 
-pub rules_end : (file : RuleFile) (k : ℕ) → length file.rules.items ≤ k → (w : Warning) → kind_of w ≡ 3 → IsWarning file w → number_of w < k
-rules_end file k all NoRules kind is = absurd (omega (arith, kind))
-rules_end file k all (PartUnused i) kind is = absurd (omega (arith, kind))
-rules_end file k all (ModeNotEntered m) kind is = absurd (omega (arith, kind))
-rules_end file k all (LiteralEmpty i) kind is = omega (arith, rule_within file i is)
+rule_within : (is : RuleText → Type 0) (file : RuleFile) (i : ℕ) → HasText is file i → i < length file.rules.items
+rule_within is file i (r, (at, so)) = slice_get_within file.rules.items i r at
 
--- ---- literals
+pub literals_end : (file : RuleFile) (k : ℕ) → length file.rules.items ≤ k → (w : Warning) → kind_of w ≡ 3 → IsWarning file w → number_of w < k
+literals_end file k all w kind is = omega (arith, all, rule_within IsEmptyLiteral file (number_of w) (told file w 3 kind is))
+
+pub texts_end : (file : RuleFile) (k : ℕ) → length file.rules.items ≤ k → (w : Warning) → kind_of w ≡ 5 → IsWarning file w → number_of w < k
+texts_end file k all w kind is = omega (arith, all, rule_within IsGoingOn file (number_of w) (told file w 5 kind is))
+
+pub classes_end : (file : RuleFile) (k : ℕ) → length file.rules.items ≤ k → (w : Warning) → kind_of w ≡ 6 → IsWarning file w → number_of w < k
+classes_end file k all w kind is = omega (arith, all, rule_within HasOutsideClass file (number_of w) (told file w 6 kind is))
+
+-- ---- modes that are never left
+
+-- whether the mode can be entered is read from a list
+pub never_left : (file : RuleFile) (m : ℕ) (entered : Bool) (marks : List Bool) (found : Bool) → m < length file.modes.items → slice_get marks m ≡ Some entered → (slice_get marks m ≡ Some true) ↔ IsEnteredMode file m
+    → IsTrue found ↔ ((0 < m) × (IsTrue entered × ¬ CanBeLeft file.rules.items m)) → IsTrue found ↔ IsNeverLeft file m
+never_left file m entered marks found within at here is = (
+  λ holds. let so = is.0 holds in (so.0, (within, (here.0 (at ∙ ap Some so.1.0), so.1.1))),
+  λ so. let both : Some entered ≡ Some true = sym at ∙ here.1 so.1.1.0 in let yes : entered ≡ true = cc in is.1 (so.0, (yes, so.1.1.1)),
+)
+
+-- ---- texts
 
 same_rule : (file : RuleFile) (i : ℕ) (r q : FileRule) → slice_get file.rules.items i ≡ Some r → slice_get file.rules.items i ≡ Some q → q ≡ r
 same_rule file i r q at too = let both : Some q ≡ Some r = sym too ∙ at in cc
 
-pub not_empty : (file : RuleFile) (i : ℕ) (r : FileRule) → slice_get file.rules.items i ≡ Some r → ¬ IsEmptyLiteral r.rule.text → ¬ HasEmptyLiteral file i
-not_empty file i r at some (q, (too, is)) = some (subst (λ (x : FileRule). IsEmptyLiteral x.rule.text) (same_rule file i r q at too) is)
+pub lacks_text : (is : RuleText → Type 0) (file : RuleFile) (i : ℕ) (r : FileRule) → slice_get file.rules.items i ≡ Some r → ¬ is r.rule.text → ¬ HasText is file i
+lacks_text is file i r at not (q, (too, so)) = not (subst (λ (x : FileRule). is x.rule.text) (same_rule file i r q at too) so)
 
 -- ---- tests
 

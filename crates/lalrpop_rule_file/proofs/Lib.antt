@@ -32,6 +32,9 @@ pub mod ModeRules
 -- their places, and the warnings about a file
 pub mod PartPlaces
 pub mod UsedParts
+pub mod Elements
+pub mod EarlyEnds
+pub mod ClassLaws
 pub mod FoundWarnings
 -- a file without sections, actions and parts
 pub mod PlainLaws

@@ -6,6 +6,9 @@ pub mod FileModes
 pub mod FileParts
 pub mod RuleFile
 pub mod PartLines
+pub mod LeftModes
+pub mod GoesOn
+pub mod OutsideClass
 pub mod Warnings
 -- used by proofs only
 pub mod Internal

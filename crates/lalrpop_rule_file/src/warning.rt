@@ -20,4 +20,13 @@ pub enum Warning {
     ModeNotEntered { mode: usize },
     /// This rule is a literal without characters, which never has a token.
     LiteralEmpty { rule: usize },
+    /// A text can enter this mode, which isn't the first, and nothing leads out of it: no rule of it pops it or puts another mode
+    /// in its place, and no rule does after a pop.
+    ModeNotLeft { mode: usize },
+    /// The text of this rule goes on after a delimiter that seems to end it: with blanks and a `#`, or with blanks and a name
+    /// before a `=`. A text ends at the last delimiter of its line.
+    TextGoesOn { rule: usize },
+    /// The first bracket in the pattern of this rule is a POSIX class, such as `[:alpha:]`, which is a class only inside of
+    /// another bracket: `[[:alpha:]]`.
+    ClassOutside { rule: usize },
 }

@@ -1,10 +1,14 @@
 //! The warnings about a file.
-ghost use Rattle.std.specs.Prelude.{◌↔◌, ◌<◌, length, Contains, IfOk, IsTrue, OnOk};
-ghost use Rattle.lalrpop_rule_file.specs.Warnings.{AreInOrder, IsEmptyLiteral, IsUnused, IsWarning};
+ghost use Rattle.std.specs.Prelude.{◌≡◌, ◌↔◌, ◌<◌, ℕ, Some, true, length, slice_get, Contains, IfOk, IsTrue, OnOk};
+ghost use Rattle.lalrpop_rule_file.specs.Warnings.{AreInOrder, IsEmptyLiteral, IsEnteredMode, IsUnused, IsWarning};
+ghost use Rattle.lalrpop_rule_file.specs.LeftModes.{CanBeLeft};
 ghost use Rattle.lalrpop_rule_file.specs.Internal.Found.{HasFound};
 ghost use Rattle.lalrpop_rule_file.specs.declared.warning.Warning.{Warning as WarningValue};
 
 use crate::file::RuleFile;
+use crate::goes_on::is_going_on;
+use crate::left_modes::can_be_left;
+use crate::outside_class::has_outside_class;
 use crate::used_parts::{reference, stands_in_part, stands_in_rule};
 use crate::warning::Warning;
 use bajofeki_rules::{RuleText, entered_modes};
@@ -60,6 +64,17 @@ impl<'text> RuleFile<'text> {
         Ok(())
     }
 
+    // For each mode, in order, whether it can be entered.
+    fn entered(&self, alloc: Global) -> Result<Vec<bool>, AllocError>
+        ensures same_length { IfOk result (λ marks.
+            length marks.items ≡ length self.now.modes.items) }
+        ensures each { IfOk result (λ marks. (m : ℕ) → m < length self.now.modes.items
+            → (slice_get marks.items m ≡ Some true) ↔ IsEnteredMode self.now m) }
+    {
+        let rules = self.mode_rules(alloc)?;
+        entered_modes(alloc, &rules, self.modes.len())
+    }
+
     // Adds the modes that can't be entered.
     fn add_modes_not_entered(
         &self,
@@ -69,8 +84,7 @@ impl<'text> RuleFile<'text> {
         ensures { OnOk result (HasFound self.now 2 0 found.old.items
             → HasFound self.now 3 0 found.new.items) }
     {
-        let rules = self.mode_rules(alloc)?;
-        let entered = entered_modes(alloc, &rules, self.modes.len())?;
+        let entered = self.entered(alloc)?;
         for mode in 0..entered.len() {
             if !entered[mode] {
                 found.push(Warning::ModeNotEntered { mode })?;
@@ -87,6 +101,60 @@ impl<'text> RuleFile<'text> {
         for rule in 0..self.rules.len() {
             if is_empty_literal(&self.rules[rule].rule.text) {
                 found.push(Warning::LiteralEmpty { rule })?;
+            }
+        }
+        Ok(())
+    }
+
+    // Whether this mode isn't the first, can be entered, and can't be left.
+    fn is_never_left(&self, mode: usize, is_entered: bool) -> bool
+        ensures { IsTrue result ↔ ((0 < mode) × (IsTrue is_entered
+            × ¬ CanBeLeft self.now.rules.items mode)) }
+    {
+        if !is_entered {
+            return false;
+        }
+        if can_be_left(&self.rules, mode) {
+            return false;
+        }
+        mode > 0
+    }
+
+    // Adds the modes that are never left.
+    fn add_modes_not_left(&self, alloc: Global, found: &mut Vec<Warning>) -> Result<(), AllocError>
+        ensures { OnOk result (HasFound self.now 4 0 found.old.items
+            → HasFound self.now 5 0 found.new.items) }
+    {
+        let entered = self.entered(alloc)?;
+        for mode in 0..entered.len() {
+            if self.is_never_left(mode, entered[mode]) {
+                found.push(Warning::ModeNotLeft { mode })?;
+            }
+        }
+        Ok(())
+    }
+
+    // Adds the texts that go on after they seem to end.
+    fn add_texts_going_on(&self, found: &mut Vec<Warning>) -> Result<(), AllocError>
+        ensures { OnOk result (HasFound self.now 5 0 found.old.items
+            → HasFound self.now 6 0 found.new.items) }
+    {
+        for rule in 0..self.rules.len() {
+            if is_going_on(&self.rules[rule].rule.text) {
+                found.push(Warning::TextGoesOn { rule })?;
+            }
+        }
+        Ok(())
+    }
+
+    // Adds the classes outside of brackets.
+    fn add_classes_outside(&self, found: &mut Vec<Warning>) -> Result<(), AllocError>
+        ensures { OnOk result (HasFound self.now 6 0 found.old.items
+            → HasFound self.now 7 0 found.new.items) }
+    {
+        for rule in 0..self.rules.len() {
+            if has_outside_class(&self.rules[rule].rule.text) {
+                found.push(Warning::ClassOutside { rule })?;
             }
         }
         Ok(())
@@ -115,6 +183,9 @@ impl<'text> RuleFile<'text> {
         self.add_unused_parts(alloc, &mut found)?;
         self.add_modes_not_entered(alloc, &mut found)?;
         self.add_empty_literals(&mut found)?;
+        self.add_modes_not_left(alloc, &mut found)?;
+        self.add_texts_going_on(&mut found)?;
+        self.add_classes_outside(&mut found)?;
         Ok(found)
     }
 }

@@ -7,7 +7,7 @@ use Rattle.bajofeki_rules.specs.EnteredModes.{first_mode}
 use Rattle.lalrpop_rule_file.specs.declared.file.RuleFile.{RuleFile}
 use Rattle.lalrpop_rule_file.specs.declared.file_rule.FileRule.{FileRule}
 use Rattle.lalrpop_rule_file.specs.declared.part_line.PartLine.{PartLine}
-use Rattle.lalrpop_rule_file.specs.declared.warning.Warning.TheVariants.{NoRules, PartUnused, ModeNotEntered, LiteralEmpty}
+use Rattle.lalrpop_rule_file.specs.declared.warning.Warning.TheVariants.{NoRules, PartUnused, ModeNotEntered, LiteralEmpty, ModeNotLeft}
 use Rattle.lalrpop_rule_file.specs.Warnings.{AreInOrder, ComesBefore, IsEmptyLiteral, IsWarning, StandsIn, StandsInPart, StandsInRule, reference}
 
 reference_of_d : reference (codes "D") ≡ codes "{D}"
@@ -46,6 +46,9 @@ no_rules file none = none
 
 first_mode_is_entered : (file : RuleFile) → ¬ IsWarning file (ModeNotEntered 0)
 first_mode_is_entered file is = is.1 first_mode
+
+first_mode_needs_no_end : (file : RuleFile) → ¬ IsWarning file (ModeNotLeft 0)
+first_mode_needs_no_end file is = omega (arith, is.0)
 
 -- ---- the order
 

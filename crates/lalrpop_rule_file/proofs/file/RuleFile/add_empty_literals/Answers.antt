@@ -3,7 +3,8 @@ use Rattle.std.specs.Prelude.{Some, slice_get}
 use Rattle.std.proofs.lemmas.Bool.{false≢true}
 use Rattle.std.proofs.lemmas.Option.{slice_get_read}
 use Rattle.lalrpop_rule_file.specs.declared.warning.Warning.TheVariants.{LiteralEmpty}
-use Rattle.lalrpop_rule_file.proofs.FoundWarnings.{found_aside, found_kind, found_more, not_empty, rules_end}
+use Rattle.lalrpop_rule_file.specs.Warnings.{IsEmptyLiteral}
+use Rattle.lalrpop_rule_file.proofs.FoundWarnings.{found_aside, found_kind, found_more, lacks_text, literals_end}
 use Rattle.lalrpop_rule_file.proofs.file.RuleFile.add_empty_literals.Goals as goal
 use Rattle.lalrpop_rule_file.proofs.file.RuleFile.add_empty_literals.Goals.{then-is_empty_literal+in_ok-push, else-is_empty_literal}
 
@@ -18,11 +19,11 @@ loop-rule-preserved c =
           rw w.found-is (found_more file 3 k c.loop-rule.found.items (c.loop-rule.invariant h) w.push.new.self.items (LiteralEmpty k) refl refl (c.index.result.now, (at, c.is_empty_literal.ensures.0 w.if-is_empty_literal.true)) w.in_ok-push.ensures.items)
       | else-is_empty_literal w ↦
           rw w.found-is (found_aside file 3 k c.loop-rule.found.items (c.loop-rule.invariant h) (LiteralEmpty k) refl refl
-          (not_empty file k c.index.result.now at (λ is. false≢true (sym w.if-is_empty_literal.false ∙ c.is_empty_literal.ensures.1 is))))
+          (lacks_text IsEmptyLiteral file k c.index.result.now at (λ is. false≢true (sym w.if-is_empty_literal.false ∙ c.is_empty_literal.ensures.1 is))))
     ]
 
 pub returns : goal.returns
 returns c =
     let file = c.args.self.now in
     let all : length file.rules.items ≤ c.loop-rule.rule = omega (arith, c.loop-rule-test.false, c.len-rule-end.ensures, file.rules.ok.0) in
-    λ h. found_kind file 3 c.loop-rule.rule c.loop-rule.found.items (c.loop-rule.invariant h) (rules_end file c.loop-rule.rule all)
+    λ h. found_kind file 3 c.loop-rule.rule c.loop-rule.found.items (c.loop-rule.invariant h) (literals_end file c.loop-rule.rule all)

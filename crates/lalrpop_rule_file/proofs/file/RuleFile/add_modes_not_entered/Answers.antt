@@ -12,12 +12,10 @@ loop-mode-preserved c =
     let file = c.args.self.now in
     let m = c.loop-mode.mode in
     let entered = c.in_ok-entered.entered.items in
-    let count : c.len.result ≡ length file.modes.items = omega (arith, c.len.ensures, file.modes.ok.0) in
     let inside : m < length entered = omega (arith, c.loop-mode-test.true, c.len-mode-end.ensures, c.in_ok-entered.entered.ok.0) in
-    let within : m < length file.modes.items = omega (arith, inside, c.in_ok-entered.ensures.same_length, count) in
+    let within : m < length file.modes.items = omega (arith, inside, c.in_ok-entered.ensures.same_length) in
     let at : slice_get entered m ≡ Some c.index.result.now = slice_get_read entered (length entered) m c.index.result.now refl inside c.index.ensures in
-    let each = rw (c.deref.ensures.value, c.in_ok-rules.ensures.modes, c.in_ok-rules.ensures.actions, count) at c.in_ok-entered.ensures.each in
-    let here : (slice_get entered m ≡ Some true) ↔ IsEnteredMode file m = each m within in
+    let here : (slice_get entered m ≡ Some true) ↔ IsEnteredMode file m = c.in_ok-entered.ensures.each m within in
     λ h. elim c.if-not-index.branch [
       | then-not-index+in_ok-push w ↦
           rw w.found-is (found_more file 2 m c.loop-mode.found.items (c.loop-mode.invariant h) w.push.new.self.items (ModeNotEntered m) refl refl
@@ -31,5 +29,5 @@ pub returns : goal.returns
 returns c =
     let file = c.args.self.now in
     let all : length file.modes.items ≤ c.loop-mode.mode =
-    omega (arith, c.loop-mode-test.false, c.len-mode-end.ensures, c.in_ok-entered.entered.ok.0, c.in_ok-entered.ensures.same_length, c.len.ensures, file.modes.ok.0) in
+    omega (arith, c.loop-mode-test.false, c.len-mode-end.ensures, c.in_ok-entered.entered.ok.0, c.in_ok-entered.ensures.same_length) in
     λ h. found_kind file 2 c.loop-mode.mode c.loop-mode.found.items (c.loop-mode.invariant h) (modes_end file c.loop-mode.mode all)
