@@ -2,9 +2,9 @@
 ghost use Rattle.std.specs.Prelude.{◌≡◌, ◌++◌, codes, map, IfOk, OnOk};
 ghost use Rattle.bajofeki_rules.specs.Lines.{lines};
 ghost use Rattle.lalrpop_rule_file.specs.RuleFile.{without_mark as without_mark_of};
-ghost use Rattle.reports_lib.specs.ItemLines.{name_at};
+ghost use Rattle.reports_lib.specs.ItemLines.{name_at, string_member};
 ghost use Rattle.reports_lib.specs.ReviewJson.{object_line};
-ghost use Rattle.reports_lib.specs.Warned.{SaysWarnings, warned_members, warning_members};
+ghost use Rattle.reports_lib.specs.Warned.{SaysWarnings, rule_name as rule_name_of, text_place as text_place_of, warned_members, warning_members};
 ghost use Rattle.reports_lib.specs.Internal.ModePlaces.{section_at};
 ghost use Rattle.reports_lib.specs.declared.layout.LineForm.TheVariants.{Json};
 
@@ -45,6 +45,40 @@ fn write_warned(
     write_string(writer, "kind", kind)
 }
 
+// The members of a warning about the mode.
+fn write_of_mode(
+    writer: &mut Writer,
+    name: &str,
+    bytes: &[u8],
+    mode: &str,
+    kind: &str,
+) -> Result<(), AllocError>
+    ensures tokens { OnOk result (writer.new.tokens ≡ writer.old.tokens
+        ++ (warned_members name.now (section_at (lines bytes.now) mode.now) kind.now
+        ++ string_member (codes "mode") mode.now)) }
+    ensures before { writer.new.before ≡ writer.old.before }
+{
+    write_warned(writer, name, mode_place(bytes, mode), kind)?;
+    write_string(writer, "mode", mode)
+}
+
+// The members of a warning about the text of the rule with this index.
+fn write_of_text(
+    writer: &mut Writer,
+    name: &str,
+    file: &RuleFile<'_>,
+    rule: usize,
+    kind: &str,
+) -> Result<(), AllocError>
+    ensures tokens { OnOk result (writer.new.tokens ≡ writer.old.tokens
+        ++ (warned_members name.now (text_place_of file.now rule) kind.now
+        ++ string_member (codes "rule") (rule_name_of file.now rule))) }
+    ensures before { writer.new.before ≡ writer.old.before }
+{
+    write_warned(writer, name, text_place(&file.rules, rule), kind)?;
+    write_string(writer, "rule", rule_name(&file.rules, rule))
+}
+
 // The members of a warning about the file with these lines.
 fn write_warning(
     writer: &mut Writer,
@@ -69,14 +103,15 @@ fn write_warning(
         }
         Warning::ModeNotEntered { mode } => {
             let mode = mode_name(&file.modes, mode);
-            write_warned(writer, name, mode_place(bytes, mode), "mode-not-entered")?;
-            write_string(writer, "mode", mode)
+            write_of_mode(writer, name, bytes, mode, "mode-not-entered")
         }
-        Warning::LiteralEmpty { rule } => {
-            let place = text_place(&file.rules, rule);
-            write_warned(writer, name, place, "literal-empty")?;
-            write_string(writer, "rule", rule_name(&file.rules, rule))
+        Warning::LiteralEmpty { rule } => write_of_text(writer, name, file, rule, "literal-empty"),
+        Warning::ModeNotLeft { mode } => {
+            let mode = mode_name(&file.modes, mode);
+            write_of_mode(writer, name, bytes, mode, "mode-not-left")
         }
+        Warning::TextGoesOn { rule } => write_of_text(writer, name, file, rule, "text-goes-on"),
+        Warning::ClassOutside { rule } => write_of_text(writer, name, file, rule, "class-outside"),
     }
 }
 
@@ -98,7 +133,7 @@ fn warning_object(
 
 /// The warnings about a file of rules (`RuleFile::warnings`) as JSON: a line for each, with an object whose members are `file`, `line`, `column`, `kind`, and `part`,
 /// `mode` or `rule`; of a warning about the whole file only `file` and `kind`. The kinds are `no-rules`, `part-unused`,
-/// `mode-not-entered` and `literal-empty`.
+/// `mode-not-entered`, `literal-empty`, `mode-not-left`, `text-goes-on` and `class-outside`.
 ///
 /// ```
 /// use tokens_lib::{read_rules, warnings_json};

@@ -4,7 +4,7 @@ ghost use Rattle.bajofeki_rules.specs.Lines.{lines};
 ghost use Rattle.lalrpop_rule_file.specs.RuleFile.{without_mark as without_mark_of};
 ghost use Rattle.reports_lib.specs.ItemLines.{name_at};
 ghost use Rattle.reports_lib.specs.Reasons.{place_at};
-ghost use Rattle.reports_lib.specs.Warned.{SaysWarnings, text_place, warned_at, warned_of, warning_line};
+ghost use Rattle.reports_lib.specs.Warned.{SaysWarnings, text_place as text_place_of, warned_at, warned_of, warning_line};
 ghost use Rattle.reports_lib.specs.Internal.ModePlaces.{section_at};
 ghost use Rattle.reports_lib.specs.declared.layout.LineForm.TheVariants.{Plain};
 
@@ -13,6 +13,15 @@ use crate::reported_file::NO_PLACE;
 use lalrpop_lexer::Position;
 use lalrpop_rule_file::{FileRule, PartLine, RuleFile, Warning, without_mark};
 use std::alloc::{AllocError, Global};
+
+// What is said of texts.
+const LITERAL_EMPTY: &str = "this literal is empty, and no token is";
+
+const TEXT_GOES_ON: &str =
+    "this text goes on to the last delimiter of the line, past one that seems to end it";
+
+const CLASS_OUTSIDE: &str =
+    "the first bracket is a set of the characters in it: a class stands in brackets, as [[:alpha:]]";
 
 // A warning about the whole file.
 fn warned_of(alloc: Global, name: &str, words: &str) -> Result<String, AllocError>
@@ -69,6 +78,36 @@ pub(crate) fn text_place(rules: &[FileRule<'_>], rule: usize) -> Position
     }
 }
 
+// A warning about the mode, where its first section begins.
+fn warned_of_mode(
+    alloc: Global,
+    name: &str,
+    bytes: &[u8],
+    mode: &str,
+    words: &str,
+) -> Result<String, AllocError>
+    ensures { IfOk result (λ line. string_bytes line
+        ≡ warned_at name.now (section_at (lines bytes.now) mode.now) words.now) }
+{
+    let place = mode_place(bytes, mode);
+    warned_at(alloc, name, place, words)
+}
+
+// A warning about the rule with this index, where its text begins.
+fn warned_of_text(
+    alloc: Global,
+    name: &str,
+    file: &RuleFile<'_>,
+    rule: usize,
+    words: &str,
+) -> Result<String, AllocError>
+    ensures { IfOk result (λ line. string_bytes line
+        ≡ warned_at name.now (text_place_of file.now rule) words.now) }
+{
+    let place = text_place(&file.rules, rule);
+    warned_at(alloc, name, place, words)
+}
+
 // The line of a warning about the file with these lines.
 fn warning_line(
     alloc: Global,
@@ -94,14 +133,19 @@ fn warning_line(
         }
         Warning::ModeNotEntered { mode } => {
             let mode = mode_name(&file.modes, mode);
-            let place = mode_place(bytes, mode);
             let words = format!(in alloc; "no rule enters the mode {mode}")?;
-            warned_at(alloc, name, place, words.as_str())
+            warned_of_mode(alloc, name, bytes, mode, words.as_str())
         }
-        Warning::LiteralEmpty { rule } => {
-            let place = text_place(&file.rules, rule);
-            warned_at(alloc, name, place, "this literal is empty, and no token is")
+        Warning::LiteralEmpty { rule } => warned_of_text(alloc, name, file, rule, LITERAL_EMPTY),
+        Warning::ModeNotLeft { mode } => {
+            let mode = mode_name(&file.modes, mode);
+            let words = format!(in alloc;
+                "no rule leaves the mode {mode}: none pops it or puts another mode in its place"
+            )?;
+            warned_of_mode(alloc, name, bytes, mode, words.as_str())
         }
+        Warning::TextGoesOn { rule } => warned_of_text(alloc, name, file, rule, TEXT_GOES_ON),
+        Warning::ClassOutside { rule } => warned_of_text(alloc, name, file, rule, CLASS_OUTSIDE),
     }
 }
 

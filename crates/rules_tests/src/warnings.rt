@@ -7,7 +7,7 @@ use std::alloc::{AllocError, Global};
 // Files, with `;` between their lines, and their warnings.
 const WARNED: &str = r#"
 A = 'a' => []
-D part = /[0-9]/;NUM = /{D}+/;[C];X = 'x';[INITIAL];IN push C = '(' => []
+D part = /[0-9]/;NUM = /{D}+/;[C];X pop = 'x';[INITIAL];IN push C = '(' => []
 # nothing => [NoRules]
 D part = /[0-9]/ => [NoRules, PartUnused { part: 0 }]
 [A B] => [NoRules, ModeNotEntered { mode: 1 }]
@@ -15,11 +15,17 @@ D part = /[0-9]/;E part = /e{D}/;F part = /f/;A = /{E}/ => [PartUnused { part: 2
 A = /{D}/;D part = /d/;E part = /{D}/ => [PartUnused { part: 1 }]
 D part = /d/;A = '{D}' => [PartUnused { part: 0 }]
 A = 'a';[B];C push D = 'c';[D];E = 'e' => [ModeNotEntered { mode: 1 }, ModeNotEntered { mode: 2 }]
-A mode C = 'a';[B];D = 'd';[C];E push B = 'e' => []
+A mode C = 'a';[B];D pop = 'd';[C];E push B = 'e' => [ModeNotLeft { mode: 2 }]
 A = 'a';[B];C push B = 'c' => [ModeNotEntered { mode: 1 }]
 A = 'a';B = '' => [LiteralEmpty { rule: 1 }]
 A = '';B = //;C = '' => [LiteralEmpty { rule: 0 }, LiteralEmpty { rule: 2 }]
 A = "";B = "\n";C = anycase '';D = anycase 'd' => [LiteralEmpty { rule: 0 }, LiteralEmpty { rule: 2 }]
+A mode C = 'a';[B];D pop = 'd';[C];E mode INITIAL = 'e';F push B = 'f' => []
+A push C = 'a';[B];D pop mode C pop = 'd';[C];E push B = 'e' => []
+A push C = 'a';[B];D pop mode C = 'd';[C];E push B mode C = 'e' => [ModeNotLeft { mode: 2 }]
+A = 'a' # 'b';B = 'b#' c';C = 'c' D = 'd' => [TextGoesOn { rule: 0 }, TextGoesOn { rule: 2 }]
+A = "a\" # ";B = "a" # ";C = anycase 'c'  D  = 'd';D = from ' # ' to '' E=' => [TextGoesOn { rule: 1 }, TextGoesOn { rule: 2 }, TextGoesOn { rule: 3 }]
+A = /[:alpha:]+/;B = /[[:alpha:]]+/;C = /a[:^word:]/;D = /\[:word:]/;E = /[:Alpha:]/;F = '[:alpha:]' => [ClassOutside { rule: 0 }, ClassOutside { rule: 2 }]
 D part = /d/;[A];B = '';[C];E pop = 'e' => [PartUnused { part: 0 }, ModeNotEntered { mode: 1 }, LiteralEmpty { rule: 0 }]
 "#;
 

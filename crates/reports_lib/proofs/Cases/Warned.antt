@@ -6,7 +6,7 @@ use Rattle.bajofeki_rules.specs.declared.position.Position.{Position}
 use Rattle.lalrpop_rule_file.specs.declared.file.RuleFile.{RuleFile}
 use Rattle.lalrpop_rule_file.specs.declared.file_rule.FileRule.{FileRule}
 use Rattle.lalrpop_rule_file.specs.declared.part_line.PartLine.{PartLine}
-use Rattle.lalrpop_rule_file.specs.declared.warning.Warning.TheVariants.{NoRules, PartUnused, ModeNotEntered, LiteralEmpty}
+use Rattle.lalrpop_rule_file.specs.declared.warning.Warning.TheVariants.{NoRules, PartUnused, ModeNotEntered, LiteralEmpty, ModeNotLeft, TextGoesOn, ClassOutside}
 use Rattle.reports_lib.specs.ModePlace.{TellsSections}
 use Rattle.reports_lib.specs.Warned.{AreWarnings, SaysWarnings, warned_at, warned_of, warning_text}
 use Rattle.reports_lib.specs.declared.layout.LineForm.{LineForm}
@@ -19,7 +19,7 @@ place line column = record { line = line; column = column }
 abbrev there : List ℕ → Position
 there mode = place 4 1
 
--- ---- the four lines
+-- ---- the lines
 
 no_rule : (file : RuleFile)
     → warning_text Plain (codes "r") there file NoRules ≡ codes "tokens: r: warning: there is no rule in this file: a rule is a line NAME = 'TEXT' or NAME = /PATTERN/\n"
@@ -40,7 +40,22 @@ empty_literal : (file : RuleFile) (r : FileRule) → file.rules.items ≡ r ∷ 
 unfolding digits
 empty_literal file r rules at = rw rules (rw at refl)
 
--- ---- the four objects
+mode_not_left : (file : RuleFile) (first second : Bor (List ℕ)) → file.modes.items ≡ first ∷ second ∷ [] → second.now ≡ codes "TEXT"
+    → warning_text Plain (codes "r") there file (ModeNotLeft 1) ≡ codes "tokens: r:4:1: warning: no rule leaves the mode TEXT: none pops it or puts another mode in its place\n"
+unfolding digits
+mode_not_left file first second modes name = rw modes (rw name refl)
+
+text_going_on : (file : RuleFile) (r : FileRule) → file.rules.items ≡ r ∷ [] → r.place ≡ place 3 6
+    → warning_text Plain (codes "r") there file (TextGoesOn 0) ≡ codes "tokens: r:3:6: warning: this text goes on to the last delimiter of the line, past one that seems to end it\n"
+unfolding digits
+text_going_on file r rules at = rw rules (rw at refl)
+
+class_outside : (file : RuleFile) (r : FileRule) → file.rules.items ≡ r ∷ [] → r.place ≡ place 3 6
+    → warning_text Plain (codes "r") there file (ClassOutside 0) ≡ codes "tokens: r:3:6: warning: the first bracket is a set of the characters in it: a class stands in brackets, as [[:alpha:]]\n"
+unfolding digits
+class_outside file r rules at = rw rules (rw at refl)
+
+-- ---- the objects
 
 no_rule_object : (file : RuleFile) → warning_text Json (codes "r") there file NoRules ≡ codes "{\"file\":\"r\",\"kind\":\"no-rules\"}\n"
 unfolding print_from escape_byte
@@ -60,6 +75,21 @@ literal_object : (file : RuleFile) (r : FileRule) → file.rules.items ≡ r ∷
     → warning_text Json (codes "r") there file (LiteralEmpty 0) ≡ codes "{\"file\":\"r\",\"line\":3,\"column\":6,\"kind\":\"literal-empty\",\"rule\":\"A\"}\n"
 unfolding digits print_from escape_byte
 literal_object file r rules at name = rw rules (rw (at, name) refl)
+
+left_object : (file : RuleFile) (m : Bor (List ℕ)) → file.modes.items ≡ m ∷ [] → m.now ≡ codes "M"
+    → warning_text Json (codes "r") there file (ModeNotLeft 0) ≡ codes "{\"file\":\"r\",\"line\":4,\"column\":1,\"kind\":\"mode-not-left\",\"mode\":\"M\"}\n"
+unfolding digits print_from escape_byte
+left_object file m modes name = rw modes (rw name refl)
+
+text_object : (file : RuleFile) (r : FileRule) → file.rules.items ≡ r ∷ [] → r.place ≡ place 3 6 → r.rule.name.now ≡ codes "A"
+    → warning_text Json (codes "r") there file (TextGoesOn 0) ≡ codes "{\"file\":\"r\",\"line\":3,\"column\":6,\"kind\":\"text-goes-on\",\"rule\":\"A\"}\n"
+unfolding digits print_from escape_byte
+text_object file r rules at name = rw rules (rw (at, name) refl)
+
+class_object : (file : RuleFile) (r : FileRule) → file.rules.items ≡ r ∷ [] → r.place ≡ place 3 6 → r.rule.name.now ≡ codes "A"
+    → warning_text Json (codes "r") there file (ClassOutside 0) ≡ codes "{\"file\":\"r\",\"line\":3,\"column\":6,\"kind\":\"class-outside\",\"rule\":\"A\"}\n"
+unfolding digits print_from escape_byte
+class_object file r rules at name = rw rules (rw (at, name) refl)
 
 -- another line, or none, is another warning
 another_line : warned_at (codes "r") (place 1 1) (codes "a") ≢ warned_at (codes "r") (place 2 1) (codes "a")

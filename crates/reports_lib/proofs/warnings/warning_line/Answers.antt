@@ -9,9 +9,11 @@ returns-in_ok-words-in-PartUnused c =
 pub returns-in_ok-words-in-ModeNotEntered : goal.returns-in_ok-words-in-ModeNotEntered
 returns-in_ok-words-in-ModeNotEntered c =
     rw c.in-ModeNotEntered.is
-    (rw (c.mode_place-place.ensures, c.as_str-in-ModeNotEntered.ensures.value, c.in_ok-words-in-ModeNotEntered.ensures.ok, c.mode_name-mode.ensures, c.deref-in-ModeNotEntered.ensures.value)
-    at c.warned_at-in-ModeNotEntered.ensures)
+    (rw (c.as_str-in-ModeNotEntered.ensures.value, c.in_ok-words-in-ModeNotEntered.ensures.ok, c.mode_name-mode.ensures, c.deref-in-ModeNotEntered.ensures.value)
+    at c.warned_of_mode.ensures)
 
-pub returns-in-LiteralEmpty : goal.returns-in-LiteralEmpty
-returns-in-LiteralEmpty c =
-    rw c.in-LiteralEmpty.is (rw (c.text_place-place.ensures, c.deref-in-LiteralEmpty.ensures.value) at c.warned_at-in-LiteralEmpty.ensures)
+pub returns-in_ok-words-in-ModeNotLeft : goal.returns-in_ok-words-in-ModeNotLeft
+returns-in_ok-words-in-ModeNotLeft c =
+    rw c.in-ModeNotLeft.is
+    (rw (c.as_str-in-ModeNotLeft.ensures.value, c.in_ok-words-in-ModeNotLeft.ensures.ok, c.mode_name-mode-in-ModeNotLeft.ensures, c.deref-in-ModeNotLeft.ensures.value)
+    at c.warned_of_mode-in-ModeNotLeft.ensures)
