@@ -68,8 +68,16 @@ def differences(wanted, found):
     return "\n  ".join(f"{it}: wanted {wanted.get(it)}, found {found.get(it)}" for it in names)
 
 
+def version(path, form):
+    return re.search(form, (HOME / path).read_text(), re.M | re.S)[1]
+
+
 def compared(module):
     """For each language a title, and what is declared otherwise than exported."""
+    exported = version("../crates/bajofeki_c/src/lib.rt", r"fn bajofeki_version\(\).*?≡ (\d+)")
+    found = {"C": version("c/bajofeki.h", r"^#define BAJOFEKI_VERSION (\d+)$"), "Rust": version("rust/Cargo.toml", r'^version = "(\d+)\.')}
+    found["Python"] = str(module.VERSION)
+    yield f"version {exported} in {', '.join(found)}", differences(dict.fromkeys(found, exported), found)
     exported, laid = of_rattle()
     for name, (found, structs_found) in {"C": of_c(), "Rust": of_rust(), "Python": of_python(module)}.items():
         wanted = without_const(exported) if name == "Python" else exported

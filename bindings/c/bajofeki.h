@@ -37,7 +37,8 @@ enum {
     BAJOFEKI_CLASH = 5,         /* two rules match the same word, and neither wins */
     BAJOFEKI_TOO_LARGE = 6,     /* there are no rules, or too many, or they are too large for a table */
     BAJOFEKI_OUT_OF_MEMORY = 7, /* a request for memory was refused */
-    BAJOFEKI_FREED = 8          /* the lexer was freed */
+    BAJOFEKI_FREED = 8,         /* the lexer was freed */
+    BAJOFEKI_OTHER_VERSION = 11 /* by the second part of this file alone: the library isn't of this file's version */
 };
 
 /* How a call of a cut ended: the code of a cut. */
@@ -74,7 +75,7 @@ typedef struct bajofeki_cutter bajofeki_cutter;
 /* What became of the rules. Numbers that a code doesn't have are 0. */
 typedef struct {
     uint32_t code;
-    size_t line; /* where the line is wrong (1), or where the text of the rule begins, behind its first delimiter (2 to 5) */
+    size_t line; /* where the line is wrong (1), or where the text of the rule begins, after its first delimiter (2 to 5) */
     size_t column;
     size_t rule;       /* the rule (2 to 4), or the later of the two (5) */
     size_t other;      /* the earlier one (5) */
@@ -93,7 +94,7 @@ typedef struct {
 typedef struct {
     uint32_t code;
     size_t count; /* so many pieces were written */
-    size_t end;   /* behind them the next piece begins */
+    size_t end;   /* after them the next piece begins */
 } bajofeki_cut_t;
 
 typedef struct {
@@ -139,7 +140,7 @@ size_t bajofeki_word(const bajofeki_lexer *lexer, uint32_t *out, size_t room);
 /* How many rules the file has, if there is a lexer or the code of the report is 2 to 5; else 0. */
 size_t bajofeki_rules(const bajofeki_lexer *lexer);
 
-/* Writes the name of a rule, which is ASCII, as many bytes as the array takes, with no 0 behind it. Gives how many there are, 0 if
+/* Writes the name of a rule, which is ASCII, as many bytes as the array takes, with no 0 after it. Gives how many there are, 0 if
    bajofeki_rules counts no such rule. */
 size_t bajofeki_name(const bajofeki_lexer *lexer, size_t rule, char *out, size_t room);
 
@@ -153,7 +154,7 @@ size_t bajofeki_modes(const bajofeki_lexer *lexer);
 /* How many characters after a token of a mode can leave open whether a longer one comes. */
 bajofeki_look_t bajofeki_lookahead(const bajofeki_lexer *lexer, size_t mode);
 
-/* Writes a whole text as HTML, or in colours for a terminal: as many bytes of the page as the array takes, with no 0 behind it. In HTML
+/* Writes a whole text as HTML, or in colours for a terminal: as many bytes of the page as the array takes, with no 0 after it. In HTML
    a token is a span whose class is its rule's name, a fault is a mark, and a skipped token is neither. Faults are shown, and modes may
    lie deeper than for a cut. */
 bajofeki_page_t bajofeki_html(const bajofeki_lexer *lexer, const char *text, size_t length, char *out, size_t room);
@@ -176,9 +177,9 @@ void bajofeki_end(bajofeki_cutter *cutter);
 /* The line and the column of an offset. It reads the text from its beginning. */
 bajofeki_place_t bajofeki_position(const char *text, size_t length, size_t at);
 
-/* The version of these functions. */
+/* The version of these functions, the first number of a release's. A program works with any later library of the same version. */
 uint32_t bajofeki_version(void);
-enum { BAJOFEKI_VERSION = 2 };
+#define BAJOFEKI_VERSION 2
 
 #ifdef __cplusplus
 }
@@ -192,9 +193,11 @@ static inline bool bajofeki_is_bad(const void *pointer, size_t count, size_t siz
     return count > PTRDIFF_MAX / size || (pointer == NULL && count > 0);
 }
 
-/* A lexer, or what says why there is none, to be deleted by bajofeki_lexer_delete. NULL if the arguments are bad or malloc refused. */
+/* A lexer, or what says why there is none, to be deleted by bajofeki_lexer_delete. NULL if the arguments are bad, malloc refused, or the
+   library has another version. */
 static inline bajofeki_lexer *bajofeki_lexer_new(const char *rules, size_t length) {
-    bajofeki_lexer *lexer = bajofeki_is_bad(rules, length, 1) ? NULL : (bajofeki_lexer *)malloc(bajofeki_lexer_size());
+    bool is_bad = bajofeki_is_bad(rules, length, 1) || bajofeki_version() != BAJOFEKI_VERSION;
+    bajofeki_lexer *lexer = is_bad ? NULL : (bajofeki_lexer *)malloc(bajofeki_lexer_size());
     if (lexer != NULL) {
         bajofeki_build(lexer, length == 0 ? "" : rules, length);
     }
@@ -208,9 +211,10 @@ static inline void bajofeki_lexer_delete(bajofeki_lexer *lexer) {
     }
 }
 
-/* As bajofeki_report; of NULL the code BAJOFEKI_NO_LEXER. */
+/* As bajofeki_report; of NULL the code BAJOFEKI_NO_LEXER or BAJOFEKI_OTHER_VERSION. */
 static inline bajofeki_report_t bajofeki_lexer_report(const bajofeki_lexer *lexer) {
-    bajofeki_report_t none = {BAJOFEKI_NO_LEXER, 0, 0, 0, 0, 0, 0, 0};
+    bajofeki_report_t none = {0, 0, 0, 0, 0, 0, 0, 0};
+    none.code = bajofeki_version() == BAJOFEKI_VERSION ? (uint32_t)BAJOFEKI_NO_LEXER : (uint32_t)BAJOFEKI_OTHER_VERSION;
     return lexer == NULL ? none : bajofeki_report(lexer);
 }
 
@@ -307,11 +311,12 @@ static inline bajofeki_cut_t bajofeki_text_next(bajofeki_text *text, bajofeki_pi
     return bajofeki_cut(text->lexer, text->cutter, text->bytes, text->length, room == 0 ? none : out, room);
 }
 
-/* The line and the column of the beginning or the end of a piece. Asked in their order, all of them are found in one pass. */
+/* The line and the column of the beginning or the end of a piece. Asked in their order, all of them are found in one pass. Both are 0
+   without a text, and once bajofeki_text_end was called. */
 static inline bajofeki_place_t bajofeki_text_place(bajofeki_text *text, size_t at) {
-    bajofeki_place_t place = {0, 1, 1};
+    bajofeki_place_t none = {0, 0, 0}, place = {0, 1, 1};
     if (text == NULL || text->code == BAJOFEKI_NO_LEXER || text->code == BAJOFEKI_BAD_ARGUMENT) {
-        return place;
+        return none;
     }
     if (text->place.at <= at) {
         place = text->place;

@@ -22,7 +22,7 @@ static void check_no_lexer(void) {
     CHECK(bajofeki_lexer_html(NULL, "a", 1, NULL, 0).code == BAJOFEKI_NO_LEXER);
     CHECK(bajofeki_lexer_ansi(NULL, NULL, 0, NULL, 0).code == BAJOFEKI_NO_LEXER);
     CHECK(text.code == BAJOFEKI_NO_LEXER && bajofeki_text_next(&text, &piece, 1).code == BAJOFEKI_NO_LEXER);
-    CHECK(bajofeki_text_place(&text, 1).line == 1 && bajofeki_text_place(NULL, 1).line == 1);
+    CHECK(bajofeki_text_place(&text, 1).line == 0 && bajofeki_text_place(NULL, 1).line == 0);
     CHECK(bajofeki_text_next(NULL, &piece, 1).code == BAJOFEKI_BAD_ARGUMENT);
     bajofeki_text_end(&text);
     bajofeki_text_end(NULL);
@@ -85,7 +85,7 @@ static void check_arguments(const bajofeki_lexer *lexer) {
     bajofeki_text_end(&none);
     bajofeki_text_end(&empty);
     bajofeki_text_end(&text);
-    CHECK(bajofeki_text_next(&text, &piece, 1).code == BAJOFEKI_NO_LEXER);
+    CHECK(bajofeki_text_next(&text, &piece, 1).code == BAJOFEKI_NO_LEXER && bajofeki_text_place(&text, 1).line == 0);
     bajofeki_text_end(&text);
 }
 

@@ -8,7 +8,7 @@
 enum { ROOM = 256 };
 
 typedef struct {
-    char *bytes; /* with a 0 behind them */
+    char *bytes; /* with a 0 after them */
     size_t length;
 } file;
 
@@ -70,8 +70,9 @@ static void say_word(const bajofeki_lexer *lexer) {
 static int say_report(const char *path, const bajofeki_lexer *lexer) {
     static const char *const reasons[] = {"", "this is no line of a file of rules", "the text of this rule doesn't parse",
         "the end of this rule is empty or has more than 64 characters", "this rule can't be compiled", "",
-        "there are no rules, or too many, or they are too large for a table", "out of memory", "", "out of memory"};
-    static const int statuses[] = {0, 3, 3, 3, 2, 2, 2, 5, 5, 5};
+        "there are no rules, or too many, or they are too large for a table", "out of memory", "", "out of memory", "",
+        "the library and its header have two versions"};
+    static const int statuses[] = {0, 3, 3, 3, 2, 2, 2, 5, 5, 5, 5, 5};
     bajofeki_report_t report = bajofeki_lexer_report(lexer);
     fprintf(stderr, "cut: %s: ", path);
     if (report.line > 0) {

@@ -1,4 +1,4 @@
-//! Links libbajofeki.a, which `bindings/build.sh` makes. `BAJOFEKI_LIB_DIR` is its folder, if that isn't `../out/lib`.
+//! Links libbajofeki.a, which lies in the folder `native` of a release's crate, or in that which `BAJOFEKI_LIB_DIR` names.
 
 use std::env;
 use std::path::PathBuf;
@@ -7,13 +7,12 @@ fn main() {
     println!("cargo:rerun-if-env-changed=BAJOFEKI_LIB_DIR");
     let folder = match env::var_os("BAJOFEKI_LIB_DIR") {
         Some(folder) => PathBuf::from(folder),
-        None => PathBuf::from(env::var_os("CARGO_MANIFEST_DIR").expect("cargo sets it"))
-            .join("../out/lib"),
+        None => PathBuf::from(env::var_os("CARGO_MANIFEST_DIR").expect("cargo sets it")).join("native"),
     };
     let archive = folder.join("libbajofeki.a");
     assert!(
         archive.is_file(),
-        "{} is missing: run bindings/build.sh, or set BAJOFEKI_LIB_DIR to its folder",
+        "{} is missing: take the crate of a release, or set BAJOFEKI_LIB_DIR to the folder of its lib/libbajofeki.a",
         archive.display()
     );
     println!("cargo:rerun-if-changed={}", archive.display());

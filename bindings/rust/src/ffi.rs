@@ -106,7 +106,7 @@ pub enum Markup {
 
 /// Room of this many bytes at a multiple of 8.
 fn room(bytes: usize) -> Box<[u64]> {
-    vec![0; bytes.div_ceil(8)].into_boxed_slice()
+    vec![0; (bytes + 7) / 8].into_boxed_slice()
 }
 
 /// A lexer, or why there is none. It owns the room that it lies in. Threads may share it, since all calls but the drop only read it.

@@ -1,6 +1,7 @@
 //! The items of a text.
 
-use std::alloc::{handle_alloc_error, Layout};
+use std::error::Error;
+use std::fmt::{self, Display, Formatter};
 use std::iter::FusedIterator;
 use std::ops::Range;
 
@@ -35,6 +36,8 @@ pub struct Item<'a> {
     pub kind: Kind,
     /// The name of its rule; empty if it isn't a token.
     pub rule: &'a str,
+    /// The number of its rule in [`Lexer::rules`]; `None` if it isn't a token. Of rules that are one kind it is the first.
+    pub number: Option<usize>,
     /// What stands there.
     pub text: &'a str,
     /// Where it begins, in bytes.
@@ -63,33 +66,49 @@ pub struct Items<'a> {
     code: u32,
 }
 
+/// A request for memory was refused.
+#[derive(Clone, Copy, Debug, PartialEq, Eq)]
+pub struct OutOfMemory;
+
+impl Display for OutOfMemory {
+    fn fmt(&self, f: &mut Formatter<'_>) -> fmt::Result {
+        f.write_str("out of memory")
+    }
+}
+
+impl Error for OutOfMemory {}
+
 impl<'a> Items<'a> {
-    pub(crate) fn new(lexer: &'a Lexer, text: &'a str) -> Items<'a> {
+    pub(crate) fn new(lexer: &'a Lexer, text: &'a str) -> Result<Items<'a>, OutOfMemory> {
         let cutting = Cutting::begin(&lexer.held, text.as_bytes());
-        if cutting.code() != DONE {
-            handle_alloc_error(Layout::for_value(text));
+        let mut pieces = Vec::new();
+        let room = ROOM.min(text.len());
+        if cutting.code() != DONE || pieces.try_reserve_exact(room).is_err() {
+            return Err(OutOfMemory);
         }
-        Items {
+        pieces.resize(room, Piece::default());
+        Ok(Items {
             lexer,
             text,
             cutting,
-            pieces: vec![Piece::default(); ROOM.min(text.len())],
+            pieces,
             next: 0,
             count: 0,
             end: 0,
             code: FULL,
-        }
+        })
     }
 
     fn item(&self, piece: Piece) -> Item<'a> {
-        let (kind, rule) = match piece.kind {
-            0 => (Kind::Token, self.lexer.rules[piece.rule].name.as_str()),
-            1 => (Kind::Skipped, self.lexer.rules[piece.rule].name.as_str()),
-            _ => (Kind::Fault, ""),
+        let (kind, number) = match piece.kind {
+            0 => (Kind::Token, Some(piece.rule)),
+            1 => (Kind::Skipped, Some(piece.rule)),
+            _ => (Kind::Fault, None),
         };
         Item {
             kind,
-            rule,
+            rule: number.map_or("", |it| self.lexer.rules[it].name.as_str()),
+            number,
             text: &self.text[piece.start..piece.start + piece.length],
             start: piece.start,
         }
@@ -115,6 +134,7 @@ impl<'a> Iterator for Items<'a> {
         Some(Item {
             kind: Kind::TooDeep,
             rule: "",
+            number: None,
             text: &self.text[self.end..],
             start: self.end,
         })

@@ -20,7 +20,7 @@
 //! All `unsafe` code is in the module `ffi`, which calls the library.
 
 #![deny(unsafe_code)]
-#![warn(missing_docs)]
+#![deny(missing_docs)]
 
 #[allow(unsafe_code)]
 mod ffi;
@@ -28,7 +28,7 @@ mod items;
 mod places;
 mod rules_error;
 
-pub use items::{Item, Items, Kind};
+pub use items::{Item, Items, Kind, OutOfMemory};
 pub use places::{Place, Places};
 pub use rules_error::{RulesError, RulesErrorKind};
 
@@ -91,6 +91,9 @@ impl Lexer {
     /// );
     /// ```
     pub fn new(rules: impl AsRef<[u8]>) -> Result<Lexer, RulesError> {
+        if version().to_string() != env!("CARGO_PKG_VERSION_MAJOR") {
+            return Err(RulesError::of_other_version());
+        }
         let held = ffi::Held::build(rules.as_ref());
         let report = held.report();
         if report.code != 0 {
@@ -122,6 +125,25 @@ impl Lexer {
     /// By its code it takes time linear in the text, and some memory for each byte of it. If that is refused, it ends the process
     /// as `Vec` does.
     pub fn items<'a>(&'a self, text: &'a str) -> Items<'a> {
+        match self.try_items(text) {
+            Ok(items) => items,
+            Err(OutOfMemory) => handle_alloc_error(Layout::for_value(text)),
+        }
+    }
+
+    /// As [`Lexer::items`], where refused memory is an error.
+    ///
+    /// # Errors
+    ///
+    /// [`OutOfMemory`], if the cut gets no memory.
+    ///
+    /// ```
+    /// let lexer = bajofeki::Lexer::new("A = 'a'\nB = 'b'\n")?;
+    /// let numbers: Vec<_> = lexer.try_items("ba?")?.map(|item| item.number).collect();
+    /// assert_eq!(numbers, [Some(1), Some(0), None]);
+    /// # Ok::<(), Box<dyn std::error::Error>>(())
+    /// ```
+    pub fn try_items<'a>(&'a self, text: &'a str) -> Result<Items<'a>, OutOfMemory> {
         Items::new(self, text)
     }
 
@@ -188,7 +210,7 @@ impl fmt::Debug for Lexer {
     }
 }
 
-/// The version of the library's functions: 2.
+/// The version of the library's functions, which is the first number of the crate's.
 pub fn version() -> u32 {
     ffi::version()
 }

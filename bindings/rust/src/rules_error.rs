@@ -23,6 +23,8 @@ pub enum RulesErrorKind {
     TooLarge,
     /// A request for memory was refused.
     OutOfMemory,
+    /// The library that was linked isn't of this crate's version.
+    OtherVersion,
 }
 
 /// Why there is no lexer. What a kind doesn't have is 0 or empty.
@@ -50,6 +52,20 @@ pub struct RulesError {
 }
 
 impl RulesError {
+    pub(crate) fn of_other_version() -> RulesError {
+        RulesError {
+            kind: RulesErrorKind::OtherVersion,
+            line: 0,
+            column: 0,
+            rule: String::new(),
+            other: String::new(),
+            other_line: 0,
+            other_column: 0,
+            word: Vec::new(),
+            position: 0,
+        }
+    }
+
     pub(crate) fn new(report: Report, held: &Held) -> RulesError {
         let kind = match report.code {
             1 => RulesErrorKind::BadLine,
@@ -125,6 +141,7 @@ impl Display for RulesError {
                 "there are no rules, or too many, or they are too large for a table"
             ),
             RulesErrorKind::OutOfMemory => write!(f, "out of memory"),
+            RulesErrorKind::OtherVersion => write!(f, "the linked library has another version"),
         }
     }
 }

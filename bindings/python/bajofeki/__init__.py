@@ -11,7 +11,7 @@ import struct
 import weakref
 from ctypes import CDLL, POINTER, Structure, byref, c_bool, c_char_p, c_size_t, c_uint32, c_uint64, c_void_p, create_string_buffer
 from pathlib import Path
-from typing import NamedTuple, Optional
+from typing import Any, Iterator, NamedTuple, Optional, Tuple, Union
 
 __all__ = ["Item", "Kind", "Lexer", "Rule", "RulesError", "RulesErrorKind"]
 
@@ -64,16 +64,24 @@ FUNCTIONS = {
 }
 
 
+# The version of the functions, and so the number in the library's name.
+VERSION = 2
+
+
 def _library():
-    """The library that BAJOFEKI_LIBRARY names, or that lies beside this file or where bindings/build.sh makes it, or the system's."""
-    here = Path(__file__).resolve().parent
-    places = [here / "libbajofeki.so", here.parent / "out/lib/libbajofeki.so"]
-    library = CDLL(os.environ.get("BAJOFEKI_LIBRARY") or next((str(it) for it in places if it.is_file()), "libbajofeki.so"))
-    for name, (result, arguments) in FUNCTIONS.items():
-        function = getattr(library, name)
-        function.restype, function.argtypes = result, arguments
-    if library.bajofeki_version() != 2:
-        raise ImportError("libbajofeki.so has another version")
+    """The library that BAJOFEKI_LIBRARY names, or that lies beside this file, or the system's."""
+    name = f"libbajofeki.so.{VERSION}"
+    beside = Path(__file__).resolve().with_name(name)
+    path = os.environ.get("BAJOFEKI_LIBRARY") or (str(beside) if beside.is_file() else name)
+    try:
+        library = CDLL(path)
+        for name, (result, arguments) in FUNCTIONS.items():
+            function = getattr(library, name)
+            function.restype, function.argtypes = result, arguments
+    except (OSError, AttributeError) as error:
+        raise ImportError(f"bajofeki has no library for this system: {error}") from error
+    if library.bajofeki_version() != VERSION:
+        raise ImportError(f"{path} has version {library.bajofeki_version()}, not {VERSION}")
     return library
 
 
@@ -98,20 +106,20 @@ class RulesErrorKind(enum.Enum):
 class RulesError(ValueError):
     """Why there is no lexer. What a kind doesn't have is 0, None or empty.
 
-    kind          a RulesErrorKind
-    line          where the line is wrong, or where the text of the rule begins, from 1
-    column        the column there, from 1, in characters
-    rule          the name of the rule; in a clash, of the later one
-    other         the name of the earlier rule of a clash
-    other_line    where the text of that one begins, from 1
-    other_column  the column there, from 1, in characters
-    word          the least word on which they clash; it may have surrogates
-    position      where in the rule's text it stops to parse, in bytes
-
     >>> Lexer("IF = /if/\\nNAME = /[a-z]+/\\n")
     Traceback (most recent call last):
     bajofeki.RulesError: line 2, column 9: NAME and IF (line 1, column 7) clash: both match "if", and neither wins
     """
+
+    kind: RulesErrorKind
+    line: int  # where the line is wrong, or where the text of the rule begins, from 1
+    column: int  # the column there, from 1, in characters
+    rule: Optional[str]  # the name of the rule; in a clash, of the later one
+    other: Optional[str]  # the name of the earlier rule of a clash
+    other_line: int  # where the text of that one begins, from 1
+    other_column: int  # the column there, from 1, in characters
+    word: str  # the least word on which they clash; it may have surrogates
+    position: int  # where in the rule's text it stops to parse, in bytes
 
 
 def _rules_error(report, word, name):
@@ -171,16 +179,29 @@ class Item(NamedTuple):
     column: int
     start_byte: int  # in the UTF-8 of the text
     end_byte: int
+    number: Optional[int]  # of its rule in the lexer's rules, None if it isn't a token; of rules that are one kind the first
 
 
 class Lexer:
     """A lexer of a file of rules, which is a str or bytes. Threads may share it. `rules` are its rules, in the order of their lines.
 
-    >>> Lexer("A = 'a'\\nSPACE skip = ' '\\n").rules
+    >>> lexer = Lexer("A = 'a'\\nSPACE skip = ' '\\n")
+    >>> lexer.rules
     (Rule(name='A', is_skipped=False), Rule(name='SPACE', is_skipped=True))
+
+    Copies and pickles of a lexer, and of one of a subclass, are built of its rules.
+
+    >>> class Named(Lexer):
+    ...     def __init__(self, name, rules):
+    ...         super().__init__(rules)
+    ...         self.name = name
+    >>> import copy
+    >>> named = copy.copy(Named("mine", "B = 'b'\\nA = 'a'\\n"))
+    >>> named.name, [item.number for item in named.items("ab?")], named
+    ('mine', [1, 0, None], <Named of 2 rules>)
     """
 
-    def __init__(self, rules):
+    def __init__(self, rules: Union[str, bytes, bytearray, memoryview]) -> None:
         if hasattr(self, "_room"):
             raise TypeError("a lexer is built once")
         rules = rules.encode("utf-8", "surrogatepass") if isinstance(rules, str) else bytes(memoryview(rules))
@@ -193,13 +214,17 @@ class Lexer:
             raise _rules_error(report, _word(room), lambda rule: _name(room, rule))
         numbers = range(_LIBRARY.bajofeki_rules(room))
         self._file, self._room = rules, room
-        self.rules = tuple(Rule(_name(room, rule), _LIBRARY.bajofeki_skips(room, rule)) for rule in numbers)
+        self.rules: Tuple[Rule, ...] = tuple(Rule(_name(room, rule), _LIBRARY.bajofeki_skips(room, rule)) for rule in numbers)
 
-    def __reduce__(self):
-        # A copy, or one from a pickle, is built anew: a lexer stays in its room.
-        return type(self), (self._file,)
+    def __reduce__(self) -> Tuple[Any, ...]:
+        # A copy, or one from a pickle, is built anew, without a subclass's own `__init__`: a lexer stays in its room.
+        more = {name: it for name, it in vars(self).items() if name not in ("_file", "_room", "rules")}
+        return _rebuilt, (type(self), self._file), more or None
 
-    def items(self, text):
+    def __repr__(self) -> str:
+        return f"<{type(self).__name__} of {len(self.rules)} rules>"
+
+    def items(self, text: str) -> Iterator[Item]:
         """Cuts a str to its end, by its code in time linear in it: its Items, skipped tokens and faults too."""
         if not isinstance(text, str):
             raise TypeError(f"a text is a str, not {type(text).__name__}")
@@ -210,11 +235,12 @@ class Lexer:
         for kind, rule, at, length in self._pieces(data):
             slice_ = data[at : at + length].decode("utf-8", "surrogatepass")
             end = start + len(slice_)
-            yield Item(_KINDS[kind], names[rule] if kind < 2 else None, slice_, start, end, line, column, at, at + length)
+            name, number = (names[rule], rule) if kind < 2 else (None, None)
+            yield Item(_KINDS[kind], name, slice_, start, end, line, column, at, at + length, number)
             start, feeds = end, slice_.count("\n")
             line, column = line + feeds, len(slice_) - slice_.rfind("\n") if feeds else column + len(slice_)
 
-    def html(self, text):
+    def html(self, text: str) -> str:
         """The text as HTML: tokens in a span whose class is the rule's name, faults in a mark. UnicodeEncodeError of surrogates.
 
         >>> Lexer("A = 'a'\\nLESS skip = '<'\\n").html("a<?")
@@ -222,7 +248,7 @@ class Lexer:
         """
         return self._page(_LIBRARY.bajofeki_html, text.encode())
 
-    def ansi(self, text):
+    def ansi(self, text: str) -> str:
         """The text in colours for a terminal, which it can't control. UnicodeEncodeError of surrogates."""
         return self._page(_LIBRARY.bajofeki_ansi, text.encode())
 
@@ -237,11 +263,11 @@ class Lexer:
         return page.raw[: told.length].decode()
 
     @property
-    def modes(self):
+    def modes(self) -> int:
         """How many modes there are. They are numbered from 0, in the order in which the file first names them."""
         return _LIBRARY.bajofeki_modes(self._room)
 
-    def lookahead(self, mode):
+    def lookahead(self, mode: int) -> Union[int, float]:
         """How many characters after a token of the mode can leave open whether a longer one comes, or math.inf.
 
         >>> Lexer("A = /a(bc)?/\\n").lookahead(0)
@@ -271,6 +297,13 @@ class Lexer:
                 raise RuntimeError("the lexer was freed before the text was cut to its end")
         finally:
             _LIBRARY.bajofeki_end(cutter)
+
+
+def _rebuilt(kind, rules):
+    """A lexer of this class, of a pickle or a copy."""
+    lexer = kind.__new__(kind)
+    Lexer.__init__(lexer, rules)
+    return lexer
 
 
 def _room(size):
