@@ -18,6 +18,7 @@ pub mod Marks
 pub mod StretchLaws
 pub mod RoundLaws
 pub mod ShortestLaws
+pub mod LongestLaws
 -- the smallest automaton
 pub mod Distinct
 pub mod PushedNumbers

@@ -14,15 +14,9 @@ use Rattle.lalrpop_dfa.specs.Dfa.{Row, StoredState, AreStored, step, IsWellForme
 use Rattle.lalrpop_dfa.proofs.EdgeTargets.{step_within}
 use Rattle.lalrpop_verdicts.specs.Answers.{accepted_at, accepted_by, answer_from}
 use Rattle.lalrpop_verdicts.specs.Internal.Classes.{AlikeFrom, AreAlikeClasses, AreClassesOf, AreLeads, AreTried, AreWithin, answer_row, leads_of, leads_row, other_at, row_at}
+use Rattle.lalrpop_verdicts.specs.Internal.Rounds.{IsRound}
 use Rattle.lalrpop_verdicts.proofs.FirstLaws.{same_class, same_row}
 use Rattle.lalrpop_verdicts.proofs.StretchLaws.{contains_cases}
-
--- the classes after some rounds: those of states that answer alike are equal, and states of one class accept alike
-pub record IsRound (d : List Row) (classes : List ℕ) : Type 0 where
-  pub same_length : length classes ≡ length d
-  pub least : (p : ℕ) → p < length d → get_or classes p 0 ≤ p
-  pub answers : (p q : ℕ) → p < length d → q < length d → get_or classes p 0 ≡ get_or classes q 0 → answer_from d p [] ≡ answer_from d q []
-  pub kept : (p q : ℕ) → p < length d → q < length d → AlikeFrom d p q → get_or classes p 0 ≡ get_or classes q 0
 
 -- ---- the first round
 answer_at : (d : List Row) (p : ℕ) → row_at (map answer_row d) p ≡ option_to_list (accepted_at (slice_get d p))

@@ -11,10 +11,11 @@ use Rattle.lalrpop_dfa.specs.Dfa.{Row, StoredState, AreStored, step, IsWellForme
 use Rattle.lalrpop_dfa.proofs.EdgeTargets.{step_within}
 use Rattle.lalrpop_verdicts.specs.Answers.{answer_from}
 use Rattle.lalrpop_verdicts.specs.Internal.Classes.{AlikeFrom, AreLeads, AreSplit, AreFirstPlaces, AreTried, AreWithin, AreClassesOf, leads_of, other_at, row_at}
+use Rattle.lalrpop_verdicts.specs.Internal.Rounds.{IsRound}
 use Rattle.lalrpop_verdicts.specs.Internal.Shortest.{AreKept, AreShortened, AreShortest, AreWalks, IsShorter, IsWalk, ends, goes, start_of, start_with, target_at, targets_at}
 use Rattle.lalrpop_verdicts.specs.Internal.StateWalks.{AreAllLeads}
 use Rattle.lalrpop_verdicts.proofs.FirstLaws.{same_class}
-use Rattle.lalrpop_verdicts.proofs.RoundLaws.{IsRound, leads_within, same_map}
+use Rattle.lalrpop_verdicts.proofs.RoundLaws.{leads_within, same_map}
 
 -- ---- where states that answer alike lead
 module _ (d : List Row) (p q : ℕ) (alike : AlikeFrom d p q) where
@@ -37,14 +38,13 @@ targets_are d vs table leads p l = elim (slice_get_cases table p).1 [
 pub read_targets : (table : List (Vec ℕ Global)) (p : ℕ) (v : Vec ℕ Global) → p < length table → v ≡ get_or table p v → targets_at table p ≡ v.items
 read_targets table p v l e = let at : slice_get table p ≡ Some v = slice_get-get_or table p v l ∙ ap (λ (x : Vec ℕ Global). Some x) (sym e) in rw at refl
 
--- ---- lengths of states that answer alike
-module _ (d : List Row) (vs : List ℕ) (table : List (Vec ℕ Global)) (starts lengths : List ℕ) (formed : IsWellFormed d) (tried : AreTried d vs) (leads : AreLeads d vs table)
-    (same : AreKept d starts) (h : AreShortest table starts lengths) where
-  same_count : (p q : ℕ) → p < length d → q < length d → length (targets_at table p) ≡ length (targets_at table q)
+-- ---- where a state leads, and where one that answers alike does
+module _ (d : List Row) (vs : List ℕ) (table : List (Vec ℕ Global)) (formed : IsWellFormed d) (tried : AreTried d vs) (leads : AreLeads d vs table) where
+  pub same_count : (p q : ℕ) → p < length d → q < length d → length (targets_at table p) ≡ length (targets_at table q)
   same_count p q a b =
       ap length (targets_are d vs table leads p a) ∙ (let g : length (leads_of d vs p) ≡ length (leads_of d vs q) = omega (arith, length-map vs (step d p), length-map vs (step d q)) in g) ∙ sym (ap length (targets_are d vs table leads q b))
 
-  target_within : (p k : ℕ) → p < length d → k < length (targets_at table p) → target_at table p k < length d
+  pub target_within : (p k : ℕ) → p < length d → k < length (targets_at table p) → target_at table p k < length d
   target_within p k a l = elim (slice_get_cases table p).1 [
     | inl x ↦
         (let in_table : p < length table = omega (arith, a, leads.same_length) in
@@ -55,15 +55,21 @@ module _ (d : List Row) (vs : List ℕ) (table : List (Vec ℕ Global)) (starts 
     | inr past ↦ absurd (omega (arith, past.0, leads.same_length, a))
   ]
 
+  pub targets_alike : (p q : ℕ) → p < length d → q < length d → AlikeFrom d p q → (k : ℕ) → k < length (targets_at table p) → AlikeFrom d (target_at table p k) (target_at table q k)
+  targets_alike p q a b alike k l =
+      rw (targets_are d vs table leads p a, targets_are d vs table leads q b)
+      (leads_alike_at d p q alike vs tried a b k (omega (arith, l, ap length (targets_are d vs table leads p a))))
+
+-- ---- lengths of states that answer alike
+module _ (d : List Row) (vs : List ℕ) (table : List (Vec ℕ Global)) (starts lengths : List ℕ) (formed : IsWellFormed d) (tried : AreTried d vs) (leads : AreLeads d vs table)
+    (same : AreKept d starts) (h : AreShortest table starts lengths) where
   -- no walk from a state is shorter than the length of a state that answers alike
   walk_bound : (p x : ℕ) → IsWalk table starts p x → (q : ℕ) → p < length d → q < length d → AlikeFrom d p q → get_or lengths q 0 ≤ x
   walk_bound p x (ends l) q a b alike = omega (arith, l, h.most q (omega (arith, b, same.same_length)), same.kept p q a b alike)
   walk_bound p x (goes k y l way less) q a b alike =
-      let m : k < length (targets_at table q) = omega (arith, l, same_count p q a b) in
-      let on : AlikeFrom d (target_at table p k) (target_at table q k) =
-      rw (targets_are d vs table leads p a, targets_are d vs table leads q b)
-      (leads_alike_at d p q alike vs tried a b k (omega (arith, l, ap length (targets_are d vs table leads p a)))) in
-      let later = walk_bound (target_at table p k) y way (target_at table q k) (target_within p k a l) (target_within q k b m) on in
+      let m : k < length (targets_at table q) = omega (arith, l, same_count d vs table formed tried leads p q a b) in
+      let on = targets_alike d vs table formed tried leads p q a b alike k l in
+      let later = walk_bound (target_at table p k) y way (target_at table q k) (target_within d vs table formed tried leads p k a l) (target_within d vs table formed tried leads q k b m) on in
       omega (arith, later, less, h.least q k (omega (arith, b, same.same_length)) m)
 
   pub lengths_kept : AreKept d lengths
@@ -108,7 +114,7 @@ shortening_first table old = record {
   walks = λ starts all. all;
 }
 
-same_or_other : (p q : ℕ) → (p ≡ q) ⊎ (p ≢ q)
+pub same_or_other : (p q : ℕ) → (p ≡ q) ⊎ (p ≢ q)
 same_or_other p q =
     ⊎_elim (λ (l : p < q). inr (λ e. absurd (omega (arith, l, e))))
     (λ (l : q ≤ p). ⊎_elim (λ (m : q < p). inr (λ e. absurd (omega (arith, m, e)))) (λ (m : p ≤ q). inl (omega (arith, l, m))) (cases_lt q p))

@@ -6,5 +6,7 @@ pub mod Classes
 pub mod ClassRows
 pub mod StateWalks
 pub mod Shortest
+pub mod Longest
+pub mod Rounds
 pub mod Targets
 pub mod Beside

@@ -1,6 +1,7 @@
 //! States that answer alike, in classes: rounds that split them until none does.
 
 mod first_equal;
+mod longest;
 mod shortest;
 mod split;
 mod stretches;
@@ -12,11 +13,13 @@ ghost use Rattle.std.specs.Option.{option_to_list};
 ghost use Rattle.lalrpop_dfa.specs.Dfa.{IsWellFormed};
 ghost use Rattle.lalrpop_verdicts.specs.Answers.{accepted_by};
 ghost use Rattle.lalrpop_verdicts.specs.Internal.Classes.{AreAlikeClasses, AreClassesOf, AreWithin, answer_row, leads_row};
+ghost use Rattle.lalrpop_verdicts.specs.Internal.Rounds.{IsRound};
 ghost use Rattle.lalrpop_verdicts.specs.Internal.StateWalks.{AreAllLeads};
 
 use crate::answer::accepted_by;
 use first_equal::FirstEqual;
 use lalrpop_dfa::{Dfa, Kind};
+use longest::longest_lengths;
 use shortest::shortest_lengths;
 use split::split;
 use std::alloc::{AllocError, Global};
@@ -82,11 +85,28 @@ pub(crate) fn lead_table(alloc: Global, dfa: &Dfa) -> Result<Vec<Vec<usize>>, Al
     leads(alloc, dfa, &values)
 }
 
+// The classes before the first round: states of one class accept the same pattern, or none, and the shortest words that lead from
+// them to a match are of one length, as are the longest, where these have a bound. Where states stand in a long line, as for a
+// pattern that is counted, the lengths tell them apart at once; by answers alone there would be a round for each.
+fn first_classes(alloc: Global, dfa: &Dfa, table: &[Vec<usize>]) -> Result<Vec<usize>, AllocError>
+    requires leads { AreAllLeads dfa.now table.now }
+    requires well_formed { IsWellFormed dfa.now }
+    ensures { IfOk result (λ found. IsRound dfa.now found.items) }
+{
+    let mut classes = by_answer(alloc, dfa)?;
+    let shortest = shortest_lengths(alloc, dfa, table)?;
+    split(alloc, &mut classes, &shortest)?;
+    split(
+        alloc,
+        &mut classes,
+        &longest_lengths(alloc, table, &shortest)?,
+    )?;
+    Ok(classes)
+}
+
 /// The class of each state: the first of the states that answer each word alike. The table says where each state leads.
 ///
-/// Each round goes over all states, and tells those apart that a word of one more value tells apart. States of which one is
-/// nearer to a match are told apart before the first round: where states stand in a long line, as for a pattern that is counted,
-/// there would else be a round for each.
+/// Each round goes over all states, and tells those apart that a word of one more value tells apart.
 ///
 /// # Errors
 ///
@@ -100,8 +120,7 @@ pub(crate) fn classes_by(
     requires well_formed { IsWellFormed dfa.now }
     ensures classes { IfOk result (λ found. AreAlikeClasses dfa.now found.items) }
 {
-    let mut classes = by_answer(alloc, dfa)?;
-    split(alloc, &mut classes, &shortest_lengths(alloc, dfa, table)?)?;
+    let mut classes = first_classes(alloc, dfa, table)?;
     loop {
         let next = round(alloc, table, &classes)?;
         if next == classes {

@@ -1,5 +1,6 @@
 use Rattle.std.proofs.Common.{length}
-use Rattle.lalrpop_verdicts.proofs.RoundLaws.{IsRound, room}
+use Rattle.lalrpop_verdicts.specs.Internal.Rounds.{IsRound}
+use Rattle.lalrpop_verdicts.proofs.RoundLaws.{room}
 use Rattle.lalrpop_verdicts.proofs.classes.classes_by.Given as goal
 
 abbrev pub invariant-loop-classes : goal.invariant-loop-classes
