@@ -8,12 +8,13 @@ use std::alloc::{AllocError, Global};
 
 fn shown(
     alloc: Global,
-    item: Result<(NfaIndex, &str), TokenFault>,
+    item: &Result<(NfaIndex, &str), TokenFault>,
     start: usize,
 ) -> Result<String, AllocError> {
     match item {
-        Ok((index, slice)) => {
-            let index = index.index();
+        Ok(token) => {
+            let index = token.0.index();
+            let slice = token.1;
             format!(in alloc; "{index} {slice} {start}, ")
         }
         Err(fault) => format!(in alloc; "{fault}, "),
@@ -23,7 +24,7 @@ fn shown(
 // How many bytes of the text the item cuts off.
 fn size_of(item: &Result<(NfaIndex, &str), TokenFault>) -> usize {
     match item {
-        Ok((_, slice)) => slice.len(),
+        Ok(token) => token.1.len(),
         Err(_) => 0,
     }
 }
@@ -46,13 +47,14 @@ fn tokens_of<'text>(
 
 // Adds what the calls of `next` return, and whether the one after the first `None` returns it too. The rest begins after what they cut.
 fn add_all(alloc: Global, line: &mut String, mut items: Tokens<'_>) -> Result<(), AllocError> {
-    let mut start = items.offset();
+    let mut start = 0usize;
     for item in items.by_ref() {
-        let size = size_of(&item);
-        line.push_str(&shown(alloc, item, start)?)?;
-        start = start.wrapping_add(size);
+        line.push_str(&shown(alloc, &item, start)?)?;
+        start = start.wrapping_add(size_of(&item));
     }
-    line.push_str(if items.next().is_none() && items.offset() == start {
+    let is_over = items.next().is_none();
+    let end = items.offset();
+    line.push_str(if is_over && end == start {
         "None"
     } else {
         "more"
