@@ -7,7 +7,9 @@ fn main() {
     println!("cargo:rerun-if-env-changed=BAJOFEKI_LIB_DIR");
     let folder = match env::var_os("BAJOFEKI_LIB_DIR") {
         Some(folder) => PathBuf::from(folder),
-        None => PathBuf::from(env::var_os("CARGO_MANIFEST_DIR").expect("cargo sets it")).join("native"),
+        None => {
+            PathBuf::from(env::var_os("CARGO_MANIFEST_DIR").expect("cargo sets it")).join("native")
+        }
     };
     let archive = folder.join("libbajofeki.a");
     assert!(
