@@ -24,7 +24,8 @@ pub fn item_count(dfa: &Dfa, text: &str) -> Result<usize, TokenFault>
         × AreItems ts ps text.now 0 (map Ok tokens ++ Err fault ∷ [])) }
 {
     let mut count = 0;
-    for item in tokens(dfa, text) {
+    let mut items = tokens(dfa, text);
+    while let Some(item) = items.next() {
         match item {
             Ok(_) => count += 1,
             Err(fault) => return Err(fault),
