@@ -389,19 +389,23 @@ fn lexer_for(alloc: Global, rows: &str) -> Result<Lexer, AllocError> {
 fn add_item(
     alloc: Global,
     line: &mut String,
-    item: Result<(NfaIndex, &str), TokenFault>,
+    item: &Result<(NfaIndex, &str), TokenFault>,
 ) -> Result<(), AllocError> {
     let part = match item {
-        Ok((index, _)) => format!(in alloc; "{}", index.index())?,
+        Ok(token) => format!(in alloc; "{}", token.0.index())?,
         Err(fault) => format!(in alloc; "fault {}", fault.at)?,
     };
     add(line, " ", part.as_str())
 }
 
-fn cut_by(alloc: Global, lexer: &Lexer, text: &str) -> Result<String, AllocError> {
+fn cut_by<'text>(
+    alloc: Global,
+    lexer: &'text Lexer,
+    text: &'text str,
+) -> Result<String, AllocError> {
     let mut line = String::new(alloc);
     for item in lexer.tokens(alloc, text)? {
-        add_item(alloc, &mut line, item)?;
+        add_item(alloc, &mut line, &item)?;
     }
     Ok(line)
 }
