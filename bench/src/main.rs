@@ -256,7 +256,10 @@ fn add_pieces(found: &mut Found, chunks: &mut Chunks<'_>) -> Result<(), AllocErr
     // A piece has one byte at least.
     for _ in 0..chunks.rest().len() {
         match chunks.next_piece() {
-            Ok(Some(piece)) => add_item(found, &piece.item(chunks.slice())),
+            Ok(Some(piece)) => match piece.rule {
+                Some(rule) => found.add(NfaIndex::new(rule), chunks.slice().len()),
+                None => found.add_fault(),
+            },
             Ok(None) => break,
             Err(_) => return Err(AllocError),
         }
