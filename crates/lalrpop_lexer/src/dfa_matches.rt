@@ -41,7 +41,7 @@ impl<'text> DfaMatches<'text> {
     // The longest nonempty prefix of the rest that some pattern matches, with the strongest pattern that matches it. From then
     // on the rest begins after it. `None` if no pattern matches any; then the rest stays. A step is counted for each character
     // read.
-    #[inline(never)]
+    #[inline(always)]
     pub(crate) fn next_match(&mut self, steps: &mut Steps) -> Option<(NfaIndex, &'text str)>
         ensures next { IsNextMatch self.old self.new result }
         ensures paid { IsPrepaid self.old self.new result steps.old steps.new }
