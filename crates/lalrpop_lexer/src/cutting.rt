@@ -15,7 +15,7 @@ use std::marker::Model;
 /// its pattern and a slice of the text.
 ///
 /// A lexer reads the text a block ahead. A step is counted for each character that is read, as often as it is: for those of a token
-/// that is found ahead when it is handed out. Without a memo, more steps are counted than are taken: they pay for what may be read
+/// that is found ahead when `next` returns it. Without a memo, more steps are counted than are taken: they pay for what may be read
 /// in vain. Only contracts see the steps.
 ///
 /// ```

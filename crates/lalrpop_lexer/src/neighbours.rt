@@ -90,8 +90,8 @@ impl<'lexer> Neighbours<'lexer> {
         })
     }
 
-    /// Whether a token of the second pattern may stand right after one of the first. An index that is no pattern has no
-    /// tokens, so it may follow and be followed.
+    /// Whether a token of the second pattern may stand right after one of the first. An index that no
+    /// pattern has has no tokens, so it may follow and be followed.
     ///
     /// ```
     /// let stays_two = neighbours.can_follow(NfaIndex::new(0), NfaIndex::new(1));

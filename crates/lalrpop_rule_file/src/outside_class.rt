@@ -73,7 +73,7 @@ fn has_class_outside(pattern: &str) -> bool
     begins_class(here)
 }
 
-/// Whether that of the text of a rule is.
+/// Whether the text of a rule is a pattern with a class outside brackets.
 pub(crate) fn has_outside_class(text: &RuleText<'_>) -> bool
     ensures { IsTrue result ↔ HasOutsideClass text.now }
 {

@@ -40,7 +40,7 @@ pub fn first_bad_line(alloc: Global, bytes: &[u8]) -> Result<Option<usize>, Allo
 }
 
 // Needs lalrpop_rule_file::read_rules: error.
-/// The place of the first part that is wrong: where it has the name of a part above it, or where it is no pattern.
+/// The place of the first part that is wrong: where it has the name of a part above it, or where it can't be read as a pattern.
 ///
 /// # Errors
 ///
