@@ -27,6 +27,8 @@ pub mod LeastValues
 pub mod Greedy
 -- depths and distances of states, and the words that they lead to
 pub mod Ranked
+pub mod Totals
+pub mod Distances
 pub mod Walks
 -- laws for callers
 pub mod WitnessLaws

@@ -14,7 +14,7 @@ use Rattle.lalrpop_dfa.specs.Lookahead.{IsAccepting}
 use Rattle.lalrpop_dfa.specs.Internal.Marks.{IsWaiting, WaitsAlong, WaitsFor, Marked, AreWaitingFor}
 use Rattle.lalrpop_dfa.proofs.Lookaheads.{waits_none}
 use Rattle.lalrpop_dfa.proofs.EdgeTargets.{step_within}
-use Rattle.lalrpop_dfa.specs.Internal.Ranks.{IsLeastInto, IsWanted, StaysFor, IsGoal, IsNear, IsDepth, AreDepths, AreDeep, IsDistance, AreDistances, AreNearest, AreSpread, unknown, unknown_count}
+use Rattle.lalrpop_dfa.specs.Internal.Ranks.{IsLeastInto, IsWanted, StaysFor, IsGoal, IsNear, IsDepth, AreDepths, AreDeep}
 
 module _ (d : List Row) where
   -- ---- how long a state stays open
@@ -64,12 +64,6 @@ module _ (d : List Row) where
   pub near_by : (n m p : ℕ) → IsNear d n (m + 1) p → IsNear d n m p ⊎ ((c : ℕ) × ((c ≤ 4294967295) × IsNear d n m (step d p c)))
   near_by n m p ([], (f, g, h)) = inl ([], (f, g, omega arith))
   near_by n m p (c ∷ w, (f, g, h)) = inr (c, (f.0, (w, (f.1, g, omega arith))))
-
-  -- if no state is nearer by one more value, none is by any more
-  pub near_end : (n m : ℕ) → ((p : ℕ) → p < length d → IsNear d n (m + 1) p → IsNear d n m p) → ((p c : ℕ) → p < length d → step d p c < length d)
-      → (w : List ℕ) (p : ℕ) → p < length d → IsWord w → IsGoal d n (run d p w) → IsNear d n m p
-  near_end n m none within [] p l f g = ([], (tt, g, omega arith))
-  near_end n m none within (c ∷ w) p l f g = none p l (near_on n m p c f.0 (near_end n m none within w (step d p c) (within p c l) f.1 g))
 
   -- ---- the depth of a state in one more round
   module _ (m p k : ℕ) (h : IsDepth d m p k) (most : k ≤ m) (some : 0 < m) where
@@ -278,140 +272,6 @@ depths_enough d m most depths h none = record {
 pub depths_within : (d : List Row) (m most : ℕ) (depths : List ℕ) → most ≤ m → AreDeep d m depths → AreDepths d most depths
 depths_within d m most depths low h = record { same_length = h.are.same_length; each = λ p l j b. h.are.each p l j (omega arith); fits = h.are.fits }
 
--- ---- the distance of a state in one more round
-module _ (d : List Row) (n m p k : ℕ) (h : IsDistance d n m p k) where
-  pub distance_known : k ≤ m → IsDistance d n (m + 1) p k
-  distance_known low j l =
-      ⊎_elim
-      (λ (a : m < j). (λ b. near_more d n k j p (omega arith) ((h k low).0 (omega arith)), λ s. omega arith))
-      (λ (a : j ≤ m). h j a)
-      (cases_lt m j)
-
-  not_near : m < unknown → k ≡ unknown → (j : ℕ) → j ≤ m → ¬ IsNear d n j p
-  not_near room e j l s = let b : k ≤ j = (h j l).1 s in omega arith
-
-  pub distance_unknown : m + 1 < unknown → k ≡ unknown → ¬ IsNear d n (m + 1) p → IsDistance d n (m + 1) p k
-  distance_unknown room e far j l = (
-    λ b. absurd (omega arith),
-    λ s. absurd (far (near_more d n j (m + 1) p l s)),
-  )
-
-  pub distance_found : m + 1 < unknown → k ≡ unknown → IsNear d n (m + 1) p → IsDistance d n (m + 1) p (m + 1)
-  distance_found room e near j l =
-      ⊎_elim
-      (λ (a : m < j). let f : m + 1 ≡ j = omega arith in (λ b. subst (λ i. IsNear d n i p) f near, λ s. omega arith))
-      (λ (a : j ≤ m). (λ b. absurd (omega arith), λ s. absurd (not_near (omega arith) e j a s)))
-      (cases_lt m j)
-
--- ---- the distances of all states in one more round: those before the place are done, the others not yet
-module _ (d : List Row) (n m : ℕ) where
-  pub record IsSpreading (distances : List ℕ) (place : ℕ) (is_any : Bool) : Type 0 where
-    pub are : AreDistances d n m distances
-    pub done : (p : ℕ) → p < place → IsDistance d n (m + 1) p (get_or distances p 0) × ((get_or distances p 0 ≤ m + 1) ⊎ (get_or distances p 0 ≡ unknown))
-    pub left : (p : ℕ) → place ≤ p → p < length d → (get_or distances p 0 ≤ m) ⊎ (get_or distances p 0 ≡ unknown)
-    pub none : is_any ≡ false → (p : ℕ) → p < place → IsNear d n (m + 1) p → IsNear d n m p
-
-  pub spreading_first : (distances : List ℕ) → AreSpread d n m distances → IsSpreading distances 0 false
-  spreading_first distances h = record {
-    are = h.are;
-    done = λ p l. absurd (omega arith);
-    left = λ p a l. h.known p l;
-    none = λ e p l. absurd (omega arith);
-  }
-
-  pub spreading_end : (distances : List ℕ) (is_any : Bool) → IsSpreading distances (length d) is_any → AreSpread d n (m + 1) distances
-  spreading_end distances is_any h = record {
-    are = record { same_length = h.are.same_length; each = λ p l. (h.done p l).0 };
-    known = λ p l. (h.done p l).1;
-  }
-
-  module _ (distances : List ℕ) (place : ℕ) (is_any : Bool) (h : IsSpreading distances place is_any) (l : place < length d) where
-    -- this state stays as it is
-    passing : IsDistance d n (m + 1) place (get_or distances place 0) → (IsNear d n (m + 1) place → IsNear d n m place) → IsSpreading distances (place + 1) is_any
-    passing is same = record {
-      are = h.are;
-      done = λ p b.
-          ⊎_elim (λ (x : p < place). h.done p x)
-          (λ (x : place ≤ p).
-          let e : place ≡ p = omega arith in
-          subst (λ q. IsDistance d n (m + 1) q (get_or distances q 0) × ((get_or distances q 0 ≤ m + 1) ⊎ (get_or distances q 0 ≡ unknown))) e
-          (is, ⊎_elim (λ (y : get_or distances place 0 ≤ m). inl (omega arith)) (λ (y : get_or distances place 0 ≡ unknown). inr y) (h.left place (omega arith) l)))
-          (cases_lt p place);
-      left = λ p b c. h.left p (omega arith) c;
-      none = λ e p b.
-          ⊎_elim (λ (x : p < place). h.none e p x)
-          (λ (x : place ≤ p). let f : place ≡ p = omega arith in subst (λ q. IsNear d n (m + 1) q → IsNear d n m q) f same)
-          (cases_lt p place);
-    }
-
-    pub spreading_known : get_or distances place 0 ≢ unknown → IsSpreading distances (place + 1) is_any
-    spreading_known known =
-        let low : get_or distances place 0 ≤ m =
-        ⊎_elim (λ (y : get_or distances place 0 ≤ m). y) (λ (y : get_or distances place 0 ≡ unknown). absurd (known y)) (h.left place (omega arith) l) in
-        passing (distance_known d n m place (get_or distances place 0) (h.are.each place l) low) (λ s.
-        near_more d n (get_or distances place 0) m place low ((h.are.each place l (get_or distances place 0) low).0 (omega arith)))
-
-    module _ (within : (p c : ℕ) → p < length d → step d p c < length d) (here : get_or distances place 0 ≡ unknown) (room : m + 1 < unknown) where
-      pub spreading_none : IsLeastInto d (IsWanted distances 0 m) place None → IsSpreading distances (place + 1) is_any
-      spreading_none none =
-          passing (distance_unknown d n m place (get_or distances place 0) (h.are.each place l) room here far) (λ s. absurd (far s))
-        where
-          far : ¬ IsNear d n (m + 1) place
-          far s =
-              ⊎_elim (λ (a : IsNear d n m place). not_near d n m place (get_or distances place 0) (h.are.each place l) (omega arith) here m (omega arith) a)
-              (λ (a : (c : ℕ) × ((c ≤ 4294967295) × IsNear d n m (step d place c))).
-              none a.0 a.1.0 (omega arith, (h.are.each (step d place a.0) (within place a.0 l) m (omega arith)).1 a.1.1))
-              (near_by d n m place s)
-
-      pub spreading_some : (c : ℕ) → IsLeastInto d (IsWanted distances 0 m) place (Some c) → IsSpreading (set distances place (m + 1)) (place + 1) true
-      spreading_some c (fits, w, low) = record {
-        are = record {
-          same_length = length-set distances place (m + 1) ∙ h.are.same_length;
-          each = λ p b. at (λ q k. IsDistance d n m q k) (λ j i. found j (omega arith)) (λ q o e. h.are.each q e) p b;
-        };
-        done = λ p b. at (λ q k. q < place + 1 → IsDistance d n (m + 1) q k × ((k ≤ m + 1) ⊎ (k ≡ unknown))) (λ i. (found, inl (omega arith))) (λ q o e i. h.done q (omega (arith, o))) p (omega arith) b;
-        left = λ p b e. at (λ q k. place + 1 ≤ q → (k ≤ m) ⊎ (k ≡ unknown)) (λ i. absurd (omega arith)) (λ q o f i. h.left q (omega arith) f) p e b;
-        none = λ e. absurd (cc);
-      }
-        where
-          found : IsDistance d n (m + 1) place (m + 1)
-          found =
-              distance_found d n m place (get_or distances place 0) (h.are.each place l) room here
-              (near_on d n m place c fits ((h.are.each (step d place c) (within place c l) m (omega arith)).0 w.1))
-
-          at : (P : ℕ → ℕ → Type 0) → P place (m + 1) → ((q : ℕ) → q ≢ place → q < length d → P q (get_or distances q 0)) → (q : ℕ) → q < length d → P q (get_or (set distances place (m + 1)) q 0)
-          at = at_set d distances place (m + 1) (h.are.same_length) l
-
-  -- the same, by what the search for a value says
-  module _ (distances : List ℕ) (place : ℕ) (is_any : Bool) (h : IsSpreading distances place is_any) (l : place < length d) (well : IsWellFormed d) (here : get_or distances place 0 ≡ unknown)
-      (room : m + 1 < unknown) (o : Option ℕ) (least : IsLeastInto d (IsWanted distances 0 m) place o) where
-    pub spread_on : is_some o ≡ true → IsSpreading (set distances place (m + 1)) (place + 1) true
-    spread_on found = at o least found
-      where
-        at : (o : Option ℕ) → IsLeastInto d (IsWanted distances 0 m) place o → is_some o ≡ true → IsSpreading (set distances place (m + 1)) (place + 1) true
-        at None least found = cc
-        at (Some v) least found = spreading_some distances place is_any h l (λ q c b. step_within d q c well b) here room v least
-
-    pub not_spread : is_some o ≡ false → IsSpreading distances (place + 1) is_any
-    not_spread none = at o least none
-      where
-        at : (o : Option ℕ) → IsLeastInto d (IsWanted distances 0 m) place o → is_some o ≡ false → IsSpreading distances (place + 1) is_any
-        at None least none = spreading_none distances place is_any h l (λ q c b. step_within d q c well b) here room least
-        at (Some v) least none = cc
-
--- one distance less is unknown
-pub fewer_unknown : (distances : List ℕ) (place v : ℕ) → place < length distances → get_or distances place 0 ≡ unknown → v ≢ unknown
-    → unknown_count (set distances place v) < unknown_count distances
-fewer_unknown distances place v l here differ =
-    let f : ℕ → ℕ = λ k. cond (k == unknown) 1 0 in
-    let sums : sum_by f (set distances place v) + f (get_or distances place 0) ≡ sum_by f distances + f v = sum_by-set f distances place v 0 l in
-    let old : f (get_or distances place 0) ≡ 1 = ap f here in
-    let new : f v ≡ 0 = rw (ne_eqb v unknown differ) in
-    omega (arith, sums, old, new)
-
-pub some_unknown : (distances : List ℕ) (place : ℕ) → place < length distances → get_or distances place 0 ≡ unknown → 0 < unknown_count distances
-some_unknown distances place l here = omega (arith, fewer_unknown distances place 0 l here (λ e. cc))
-
 -- ---- whether a state is a goal
 module _ (d : List Row) (n p : ℕ) (depths : List ℕ) (h : AreDepths d n depths) (l : p < length d) where
   pub goal_at_once : n ≡ 0 → IsAccepting d p → IsGoal d n p
@@ -451,62 +311,6 @@ accepting_read d p r kind at same i e = rw at (i, sym same ∙ e)
 
 pub read_accepting : (d : List Row) (p : ℕ) (r : Row) (kind : Kind) → slice_get d p ≡ Some r → kind ≡ r.kind → IsAccepting d p → (i : ℕ) × (kind ≡ Accepts i)
 read_accepting d p r kind at same a = let b : (i : ℕ) × (r.kind ≡ Accepts i) = rw at at a in (b.0, same ∙ b.1)
-
--- ---- the distances at first
--- the distance of a state by whether it is a goal
-abbrev pub FirstDistance : List Row → ℕ → ℕ → ℕ → Type 0
-FirstDistance d n p k = ((k ≡ 0) × IsGoal d n p) ⊎ ((k ≡ unknown) × ¬ IsGoal d n p)
-
-first_distance : (d : List Row) (n p k : ℕ) → FirstDistance d n p k → IsDistance d n 0 p k
-first_distance d n p k (inl (e, g)) j l = (λ b. near_more d n 0 j p (omega arith) (near_none d n p g), λ s. omega arith)
-first_distance d n p k (inr (e, not)) j l =
-    let f : j ≡ 0 = omega arith in
-    (λ b. absurd (omega arith), λ s. absurd (not (none_near d n p (subst (λ i. IsNear d n i p) f s))))
-
-known_first : (d : List Row) (n p k : ℕ) → FirstDistance d n p k → (k ≤ 0) ⊎ (k ≡ unknown)
-known_first d n p k (inl (e, g)) = inl (omega arith)
-known_first d n p k (inr (e, not)) = inr e
-
-pub distances_at_first : (d : List Row) (n : ℕ) (distances : List ℕ) → length distances ≡ length d → ((p : ℕ) → p < length d → FirstDistance d n p (get_or distances p 0)) → AreSpread d n 0 distances
-distances_at_first d n distances same h = record {
-  are = record { same_length = same; each = λ p l. first_distance d n p (get_or distances p 0) (h p l) };
-  known = λ p l. known_first d n p (get_or distances p 0) (h p l);
-}
-
--- ---- the distances at the end
--- the states after START: none is near yet
-abbrev pub NoneNear : List Row → ℕ → ℕ → Type 0
-NoneNear d n m = (c : ℕ) → c ≤ 4294967295 → ¬ IsNear d n m (step d 0 c)
-
-module _ (d : List Row) (well : IsWellFormed d) (n m : ℕ) (distances : List ℕ) (h : AreSpread d n m distances) (o : Option ℕ) (least : IsLeastInto d (IsWanted distances 0 m) 0 o) where
-  pub none_near_yet : is_some o ≡ false → NoneNear d n m
-  none_near_yet none = at o least none
-    where
-      at : (o : Option ℕ) → IsLeastInto d (IsWanted distances 0 m) 0 o → is_some o ≡ false → NoneNear d n m
-      at (Some v) least none = cc
-      at None least none = λ c fits near. least c fits (omega arith, (h.are.each (step d 0 c) (step_within d 0 c well well.some) m (omega arith)).1 near)
-
-  pub nearest_found : is_some o ≡ true → m < unknown → ((j : ℕ) → j < m → NoneNear d n j) → AreNearest d n m distances
-  nearest_found some fits far = record {
-    well_formed = well;
-    fits = fits;
-    are = h.are;
-    near = at o least some;
-    least = λ j c l near. ⊎_elim (λ (a : j < m). absurd (far j a c l near)) (λ (a : m ≤ j). a) (cases_lt j m);
-  }
-    where
-      at : (o : Option ℕ) → IsLeastInto d (IsWanted distances 0 m) 0 o → is_some o ≡ true → (c : ℕ) × ((c ≤ 4294967295) × IsNear d n m (step d 0 c))
-      at None least some = cc
-      at (Some v) least some = (v, (least.0, (h.are.each (step d 0 v) (step_within d 0 v well well.some) m (omega arith)).0 least.1.1))
-
-  -- if one more round finds none, no nonempty word leads to a goal
-  pub none_near_ever : is_some o ≡ false → ((p : ℕ) → p < length d → IsNear d n (m + 1) p → IsNear d n m p) → (k : ℕ) → NoneNear d n k
-  none_near_ever none far k c fits (w, (f, g, l)) =
-      none_near_yet none c fits (near_end d n m far (λ p b a. step_within d p b well a) w (step d 0 c) (step_within d 0 c well well.some) f g)
-
-pub none_near_more : (d : List Row) (n m : ℕ) → ((j : ℕ) → j < m → NoneNear d n j) → NoneNear d n m → (j : ℕ) → j < m + 1 → NoneNear d n j
-none_near_more d n m far none j l =
-    ⊎_elim (λ (a : j < m). far j a) (λ (a : m ≤ j). let e : m ≡ j = omega arith in subst (NoneNear d n) e none) (cases_lt j m)
 
 pub written : {A : Type 0} (xs ys : List A) (n : ℕ) → length xs ≡ length ys → n ≡ length ys → take n (xs ++ drop (length xs) ys) ≡ xs
 written xs ys n long is = ap (λ k. take k (xs ++ drop (length xs) ys)) (is ∙ sym long) ∙ take-append_seam xs (drop (length xs) ys)

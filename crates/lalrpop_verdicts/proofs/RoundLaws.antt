@@ -1,13 +1,11 @@
 -- Rounds that split classes of states.
 use Rattle.std.proofs.Common.{◌≡◌, ◌≢◌, ℕ, zero, suc, Bool, true, false, ◌+◌, ◌-◌, ◌<◌, ◌≤◌, List, [], ◌∷◌, map, length, get_or, refl, sym, ap, ◌∙◌, subst, ⊎_elim, inl, inr, arith}
-use Rattle.std.specs.Prelude.{slice_get, nat_eq, Option, Some, None, Vec}
-use Rattle.std.specs.Cmp.Lexicographic.{pointwise}
+use Rattle.std.specs.Prelude.{slice_get, Option, Some, None, Vec}
 use Rattle.std.specs.Global.{Global}
 use Rattle.std.specs.List.{Contains}
 use Rattle.std.specs.Option.{option_to_list}
 use Rattle.std.proofs.lemmas.Bool.{cases_lt}
 use Rattle.std.proofs.lemmas.Bool.Decides.{Decides-eqb}
-use Rattle.std.proofs.lemmas.Slice.Eq.{slice_eq-Decides}
 use Rattle.std.proofs.lemmas.List.{get_or-map, length-map}
 use Rattle.std.proofs.lemmas.Option.{slice_get-get_or, slice_get_cases}
 use Rattle.lalrpop_dfa.specs.Dfa.{Row, StoredState, AreStored, step, IsWellFormed}
@@ -196,12 +194,6 @@ leads_within d vs table formed tried leads v (k, l, e) t m =
         ⊎_elim (λ (x : step d k u ≡ t). omega (arith, step_within d k u formed here, x)) (λ (x : Contains (map (step d k) us) t). mapped d k us t formed here x) (contains_cases (step d k u) (map (step d k) us) t m)
 
 -- the lists are the same just if the test says so
-pub told_same : (xs ys : List ℕ) (r : Bool) → r ≡ pointwise nat_eq xs ys → r ≡ true → xs ≡ ys
-told_same xs ys r e = (slice_eq-Decides Decides-eqb xs ys r e).0
-
-pub told_apart : (xs ys : List ℕ) (r : Bool) → r ≡ pointwise nat_eq xs ys → r ≡ false → xs ≢ ys
-told_apart xs ys r e f same = let told : r ≡ true = (slice_eq-Decides Decides-eqb xs ys r e).1 same in cc
-
 -- a round that changes the classes leaves less room
 pub room_shrinks : (d : List Row) (vs : List ℕ) (table : List (Vec ℕ Global)) (classes next : List ℕ) → IsWellFormed d → AreTried d vs → AreLeads d vs table → IsRound d classes
     → AreClassesOf (map (leads_row classes) table) next → next ≢ classes → room (length d) next < room (length d) classes

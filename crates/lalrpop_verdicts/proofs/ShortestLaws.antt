@@ -207,34 +207,6 @@ passes_end table starts lengths h on = record {
   walks = h.walks;
 }
 
-pub copied : (xs ys : List ℕ) → AllZip (λ x y. y ≡ x) xs ys → ys ≡ xs
-copied [] [] h = refl
-copied [] (y ∷ ys) h = absurd h
-copied (x ∷ xs) [] h = absurd h
-copied (x ∷ xs) (y ∷ ys) h = let first = h.0 in let later = copied xs ys h.1 in cc
-
--- the measure: all lengths together
-abbrev pub total : List ℕ → ℕ
-total [] = 0
-total (x ∷ xs) = x + total xs
-
-total_le : (xs ys : List ℕ) → length ys ≡ length xs → ((p : ℕ) → p < length xs → get_or ys p 0 ≤ get_or xs p 0) → total ys ≤ total xs
-total_le [] [] e h = omega arith
-total_le [] (y ∷ ys) e h = absurd (omega (arith, e))
-total_le (x ∷ xs) [] e h = absurd (omega (arith, e))
-total_le (x ∷ xs) (y ∷ ys) e h = omega (arith, h 0 (omega arith), total_le xs ys (omega (arith, e)) (λ p l. h (suc p) (omega (arith, l))))
-
-pub total_less : (xs ys : List ℕ) → length ys ≡ length xs → ((p : ℕ) → p < length xs → get_or ys p 0 ≤ get_or xs p 0) → ys ≢ xs → total ys < total xs
-total_less [] [] e h ne = absurd (ne refl)
-total_less [] (y ∷ ys) e h ne = absurd (omega (arith, e))
-total_less (x ∷ xs) [] e h ne = absurd (omega (arith, e))
-total_less (x ∷ xs) (y ∷ ys) e h ne =
-    ⊎_elim (λ (l : y < x). omega (arith, l, total_le xs ys (omega (arith, e)) (λ p k. h (suc p) (omega (arith, k)))))
-    (λ (l : x ≤ y). let same : y ≡ x = omega (arith, l, h 0 (omega arith)) in
-    let later = total_less xs ys (omega (arith, e)) (λ p k. h (suc p) (omega (arith, k))) (λ t. ne (let u = t in let v = same in cc)) in
-    omega (arith, later, same))
-    (cases_lt y x)
-
 -- ---- the least of the targets, one after another
 pub record IsShorterOf (lengths targets : List ℕ) (old new n : ℕ) : Type 0 where
   pub most : new ≤ old

@@ -1,5 +1,5 @@
 -- States with ranks, and the least values and words that lead to states of some ranks.
-use Rattle.std.specs.Prelude.{◌≡◌, ℕ, ◌<◌, ◌≤◌, ◌⊎◌, ◌↔◌, List, [], ◌∷◌, length, slice_index, count_by, ◌==◌, Option, Some, None}
+use Rattle.std.specs.Prelude.{◌≡◌, ℕ, ◌+◌, ◌<◌, ◌≤◌, ◌⊎◌, ◌↔◌, List, [], ◌∷◌, length, slice_index, count_by, ◌==◌, Option, Some, None}
 use Rattle.std.proofs.Common.{zero, suc}
 use Rattle.lalrpop_hir.specs.Word.{IsWord}
 use Rattle.lalrpop_dfa.specs.Dfa.{Row, step, run, IsWellFormed}
@@ -63,14 +63,34 @@ pub record AreNearest (d : List Row) (n k : ℕ) (distances : List ℕ) : Type 0
   pub near : (c : ℕ) × ((c ≤ 4294967295) × IsNear d n k (step d 0 c))
   pub least : (j c : ℕ) → c ≤ 4294967295 → IsNear d n j (step d 0 c) → k ≤ j
 
--- they are those distances, and greater ones are unknown
-pub record AreSpread (d : List Row) (n most : ℕ) (distances : List ℕ) : Type 0 where
-  pub are : AreDistances d n most distances
-  pub known : (p : ℕ) → p < length d → (slice_index distances p ≤ most) ⊎ (slice_index distances p ≡ unknown)
-
 -- how many distances aren't known
 abbrev pub unknown_count : List ℕ → ℕ
 unknown_count distances = count_by (λ k. k == unknown) distances
+
+-- from each state whose distance is known, so many values or fewer lead to a goal; they are fewer than there are states whose distance is known; that
+-- of a goal is 0
+pub record AreWays (d : List Row) (n : ℕ) (distances : List ℕ) : Type 0 where
+  pub same_length : length distances ≡ length d
+  pub near : (p : ℕ) → p < length d → slice_index distances p < unknown → IsNear d n (slice_index distances p) p
+  pub few : (p : ℕ) → p < length d → slice_index distances p < unknown → slice_index distances p + unknown_count distances < length d
+  pub goals : (p : ℕ) → p < length d → IsGoal d n p → slice_index distances p ≡ 0
+
+-- the state's own distance, or one more than that of a state that some value leads to; none of these is less
+pub record IsNearer (d : List Row) (distances : List ℕ) (p own new : ℕ) : Type 0 where
+  pub most : new ≤ own
+  pub least : (c : ℕ) → c ≤ 4294967295 → new ≤ slice_index distances (step d p c) + 1
+  pub reached : (new ≡ own) ⊎ ((c : ℕ) × ((c ≤ 4294967295) × (slice_index distances (step d p c) + 1 ≡ new)))
+
+-- no distance is greater than it was, nor more than one more than those that its values lead to were
+pub record AreNearer (d : List Row) (old new : List ℕ) : Type 0 where
+  pub same_length : length new ≡ length old
+  pub most : (p : ℕ) → p < length d → slice_index new p ≤ slice_index old p
+  pub least : (p c : ℕ) → p < length d → c ≤ 4294967295 → slice_index new p ≤ slice_index old (step d p c) + 1
+  pub ways : (n : ℕ) → AreWays d n old → AreWays d n new
+
+-- none is more than one more than those that its values lead to
+abbrev pub AreStill : List Row → List ℕ → Type 0
+AreStill d distances = (p c : ℕ) → p < length d → c ≤ 4294967295 → slice_index distances p ≤ slice_index distances (step d p c) + 1
 
 -- from the state p on, each value is the least that leads to a state with the property for the number of values left
 abbrev pub IsGreedy : List Row → (ℕ → ℕ → Type 0) → ℕ → ℕ → List ℕ → Type 0

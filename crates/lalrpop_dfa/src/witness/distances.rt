@@ -1,8 +1,8 @@
 //! How far each state is from a match that some values leave open.
 
-ghost use Rattle.std.specs.Prelude.{◌≡◌, ℕ, ◌+◌, ◌<◌, ◌≤◌, ◌↔◌, length, true, false, IsTrue, IfOk, OnOk, IfSome, IfNone};
+ghost use Rattle.std.specs.Prelude.{◌≡◌, ℕ, ◌<◌, ◌≤◌, ◌↔◌, length, IsTrue, IfOk, OnOk, IfSome, IfNone};
 ghost use Rattle.lalrpop_dfa.specs.Dfa.{step, IsWellFormed};
-ghost use Rattle.lalrpop_dfa.specs.Internal.Ranks.{AreDepths, AreNearest, AreSpread, IsGoal, IsNear, unknown_count};
+ghost use Rattle.lalrpop_dfa.specs.Internal.Ranks.{AreDepths, AreNearer, AreNearest, AreStill, AreWays, IsGoal, IsNear, IsNearer};
 
 use crate::witness::least::least_value;
 use crate::{Dfa, DfaStateIndex, Kind, START};
@@ -30,7 +30,7 @@ fn first_distances(
     count: usize,
 ) -> Result<Vec<usize>, AllocError>
     requires depths { AreDepths dfa.now count depths.now }
-    ensures spread { IfOk result (λ distances. AreSpread dfa.now count 0 distances.items) }
+    ensures ways { IfOk result (λ distances. AreWays dfa.now count distances.items) }
     ensures well_formed { OnOk result (IsWellFormed dfa.now) }
 {
     let mut distances = Vec::new(alloc);
@@ -46,29 +46,52 @@ fn first_distances(
     Ok(distances)
 }
 
-// One more round: each state whose distance isn't known, and that leads to one at most `distance` away, is one further away.
-// Returns whether there was one.
-fn spread(dfa: &Dfa, distances: &mut [usize], distance: usize) -> bool
-    requires fits { distance + 1 < usize.MAX }
-    requires same_length { length distances.old ≡ length dfa.now }
-    ensures distances { (n : ℕ) → AreSpread dfa.now n distance distances.old
-        → AreSpread dfa.now n (distance + 1) distances.new }
-    ensures fewer { result ≡ true → unknown_count distances.new < unknown_count distances.old }
-    ensures none { result ≡ false → (n : ℕ) → AreSpread dfa.now n distance distances.old
-        → (p : ℕ) → p < length dfa.now → IsNear dfa.now n (distance + 1) p
-        → IsNear dfa.now n distance p }
+// The state's own distance, or one more than the least of those that its values lead to, if that is less.
+fn nearer(dfa: &Dfa, state: DfaStateIndex, distances: &[usize], own: usize) -> usize
+    requires within { state < length dfa.now }
+    requires same_length { length distances.now ≡ length dfa.now }
+    ensures nearer { IsNearer dfa.now distances.now state own result }
+    ensures fits { own ≤ usize.MAX }
 {
-    let mut is_any = false;
-    for number in 0..dfa.states().len() {
-        if distances[number] == usize::MAX {
-            let state = DfaStateIndex::new(number);
-            if least_value(dfa, state, distances, 0, distance).is_some() {
-                distances[number] = distance + 1;
-                is_any = true;
-            }
+    let mut least = own;
+    while least > 1 {
+        match least_value(dfa, state, distances, 0, least - 2) {
+            Some(value) => least = distances[dfa.step(state, value).index()] + 1,
+            None => return least,
         }
     }
-    is_any
+    least
+}
+
+// Makes each distance at most one more than those that the state's values lead to were. The last states come first, since most
+// edges lead to later ones, whose distances are then right already.
+fn spread(dfa: &Dfa, distances: &mut [usize])
+    requires same_length { length distances.old ≡ length dfa.now }
+    ensures { AreNearer dfa.now distances.old distances.new }
+{
+    let count = dfa.states().len();
+    for back in 0..count {
+        let number = count - 1 - back;
+        let state = DfaStateIndex::new(number);
+        distances[number] = nearer(dfa, state, distances, distances[number]);
+    }
+}
+
+// Spreads the distances until they stay.
+fn spread_all(dfa: &Dfa, first: Vec<usize>) -> Result<Vec<usize>, AllocError>
+    requires same_length { length first.items ≡ length dfa.now }
+    ensures ways { IfOk result (λ distances. (n : ℕ) → AreWays dfa.now n first.items
+        → AreWays dfa.now n distances.items) }
+    ensures still { IfOk result (λ distances. AreStill dfa.now distances.items) }
+{
+    let mut distances = first;
+    loop {
+        let before = distances.clone()?;
+        spread(dfa, &mut distances);
+        if distances == before {
+            return Ok(distances);
+        }
+    }
 }
 
 /// How far each state is from a goal, and how far the nearest one that a value leads to from START.
@@ -78,7 +101,7 @@ pub(crate) struct GoalDistances {
     pub(crate) nearest: usize,
 }
 
-// The distances of the states up to that of the nearest one after START; `None` if no nonempty word leads from START to a goal.
+// The distances of the states, and that of the nearest one after START; `None` if no nonempty word leads from START to a goal.
 pub(crate) fn distances(
     alloc: Global,
     dfa: &Dfa,
@@ -92,13 +115,13 @@ pub(crate) fn distances(
         ((m c : ℕ) → c ≤ 4294967295 → ¬ IsNear dfa.now count m (step dfa.now 0 c))) }
     ensures well_formed { OnOk result (IsWellFormed dfa.now) }
 {
-    let mut states = first_distances(alloc, dfa, depths, count)?;
-    let mut nearest = 0;
-    while least_value(dfa, START, &states, 0, nearest).is_none() {
-        if !spread(dfa, &mut states, nearest) {
-            return Ok(None);
-        }
-        nearest += 1;
+    let states = spread_all(dfa, first_distances(alloc, dfa, depths, count)?)?;
+    let one_more = nearer(dfa, START, &states, usize::MAX);
+    if one_more == usize::MAX {
+        return Ok(None);
     }
-    Ok(Some(GoalDistances { states, nearest }))
+    Ok(Some(GoalDistances {
+        states,
+        nearest: one_more - 1,
+    }))
 }

@@ -1,6 +1,7 @@
 use Rattle.std.proofs.Common.{◌≡◌, List, ℕ, ◌∙◌, ap, length, map, subst, sym}
 use Rattle.lalrpop_verdicts.specs.Internal.Classes.{AreClassesOf, AreWithin, leads_row}
-use Rattle.lalrpop_verdicts.proofs.RoundLaws.{last_round, leads_within, next_round, room_shrinks, told_apart, told_same}
+use Rattle.lalrpop_verdicts.proofs.RoundLaws.{last_round, leads_within, next_round, room_shrinks}
+use Rattle.lalrpop_dfa.proofs.Totals.{told_apart, told_same}
 use Rattle.lalrpop_verdicts.proofs.classes.classes_by.Goals as goal
 
 pub loop-classes-init : goal.loop-classes-init

@@ -1,5 +1,5 @@
 use Rattle.std.proofs.Common.{◌≡◌, ℕ, ◌<◌, length, get_or}
-use Rattle.lalrpop_dfa.proofs.Ranked.{FirstDistance}
+use Rattle.lalrpop_dfa.proofs.Distances.{FirstDistance}
 use Rattle.lalrpop_dfa.proofs.witness.distances.first_distances.Given as goal
 
 abbrev pub invariant-loop-number : goal.invariant-loop-number

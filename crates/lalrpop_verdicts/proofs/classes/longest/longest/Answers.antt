@@ -1,10 +1,9 @@
 use Rattle.std.proofs.Common.{◌≡◌, ◌∙◌, ap, length, subst, arith}
 use Rattle.lalrpop_dfa.proofs.Ranked.{written}
+use Rattle.lalrpop_dfa.proofs.Totals.{copied, told_apart, told_same, total_less}
 use Rattle.lalrpop_verdicts.specs.Internal.Classes.{AreWithin}
 use Rattle.lalrpop_verdicts.specs.Internal.Longest.{AreLowered}
-use Rattle.lalrpop_verdicts.proofs.RoundLaws.{told_apart, told_same}
 use Rattle.lalrpop_verdicts.proofs.LongestLaws.{lower_end, lower_first, lower_more}
-use Rattle.lalrpop_verdicts.proofs.ShortestLaws.{copied, total_less}
 use Rattle.lalrpop_verdicts.proofs.classes.longest.longest.Goals as goal
 
 pub loop-lengths-init : goal.loop-lengths-init

@@ -1,5 +1,5 @@
+use Rattle.lalrpop_dfa.proofs.Totals.{total}
 use Rattle.lalrpop_verdicts.proofs.LongestLaws.{AreLowering}
-use Rattle.lalrpop_verdicts.proofs.ShortestLaws.{total}
 use Rattle.lalrpop_verdicts.proofs.classes.longest.longest.Given as goal
 
 abbrev pub invariant-loop-lengths : goal.invariant-loop-lengths

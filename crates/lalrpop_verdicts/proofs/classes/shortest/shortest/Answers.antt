@@ -1,9 +1,9 @@
 use Rattle.std.proofs.Common.{◌≡◌, ◌∙◌, ap, length, subst, arith}
 use Rattle.lalrpop_dfa.proofs.Ranked.{written}
+use Rattle.lalrpop_dfa.proofs.Totals.{copied, told_apart, told_same, total_less}
 use Rattle.lalrpop_verdicts.specs.Internal.Classes.{AreWithin}
 use Rattle.lalrpop_verdicts.specs.Internal.Shortest.{AreShortened}
-use Rattle.lalrpop_verdicts.proofs.RoundLaws.{told_apart, told_same}
-use Rattle.lalrpop_verdicts.proofs.ShortestLaws.{copied, passes_end, passes_first, passes_more, total_less}
+use Rattle.lalrpop_verdicts.proofs.ShortestLaws.{passes_end, passes_first, passes_more}
 use Rattle.lalrpop_verdicts.proofs.classes.shortest.shortest.Goals as goal
 
 pub loop-lengths-init : goal.loop-lengths-init

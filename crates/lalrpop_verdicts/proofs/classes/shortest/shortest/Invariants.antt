@@ -1,4 +1,5 @@
-use Rattle.lalrpop_verdicts.proofs.ShortestLaws.{AreShortening, total}
+use Rattle.lalrpop_dfa.proofs.Totals.{total}
+use Rattle.lalrpop_verdicts.proofs.ShortestLaws.{AreShortening}
 use Rattle.lalrpop_verdicts.proofs.classes.shortest.shortest.Given as goal
 
 abbrev pub invariant-loop-lengths : goal.invariant-loop-lengths
