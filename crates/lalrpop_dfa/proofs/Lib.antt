@@ -29,6 +29,9 @@ pub mod Greedy
 pub mod Ranked
 pub mod Totals
 pub mod Distances
+-- states that wait: those that do forever, and for how many values the others do
+pub mod LeftOut
+pub mod Waiting
 pub mod Walks
 -- laws for callers
 pub mod WitnessLaws

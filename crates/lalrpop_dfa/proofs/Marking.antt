@@ -1,4 +1,4 @@
--- Marked states: where edges lead, and the iterations of `lookahead`.
+-- Marked states: where edges lead, and states that wait.
 use Rattle.std.proofs.Common.{◌≡◌, ℕ, zero, suc, ◌+◌, ◌<◌, ◌≤◌, ◌↔◌, ◌⊎◌, inl, inr, ⊎_elim, List, [], ◌∷◌, ◌++◌, length, refl, sym, ap, ◌∙◌, subst, arith, Bool, true, false, get_or, length-append}
 use Rattle.std.specs.Prelude.{slice_get, Option, Some, None, IsSomeAnd, if◌then◌else◌}
 use Rattle.std.proofs.lemmas.Option.{slice_get_within, slice_get_cases, slice_get-get_or}
@@ -65,28 +65,7 @@ module _ (d : List Row) (marks : List Bool) (p : ℕ) (r : Row) (at : slice_get 
 pub row_tests : (d : List Row) (p : ℕ) (ts : List (Range × ℕ)) → IsSomeAnd (slice_get d p) (λ x. ts ≡ x.tests) → (r : Row) × ((slice_get d p ≡ Some r) × (ts ≡ r.tests))
 row_tests d p ts h = the_some (slice_get d p) (λ x. ts ≡ x.tests) h
 
--- ---- the iterations
--- of the marked states, those that lead into a marked one
-pub record AreStaying (d : List Row) (marks : List Bool) (n : ℕ) (next : List Bool) : Type 0 where
-  pub same_length : length next ≡ n
-  pub each : (p : ℕ) → p < n → Marked next p ↔ (Marked marks p × LeadsInto d marks p)
-
--- they can wait for one more value
-pub staying_waits : (d : List Row) (marks next : List Bool) (n : ℕ) → ((p c : ℕ) → p < length d → step d p c < length d) → AreWaitingFor d n marks → AreStaying d marks (length d) next → AreWaitingFor d (n + 1) next
-staying_waits d marks next n within h s = record {
-  same_length = s.same_length;
-  each = λ p l. (
-    λ m. (let (mine, (c, led)) = (s.each p l).0 m in
-        rw add_one (waits_before d n p c ((h.each p l).0 mine).0 ((h.each (step d p c) (within p c l)).0 led))),
-    λ o. (let up : WaitsFor d (suc n) p = rw add_one at o in
-        let (c, next_waits) = waits_next d n p up in
-        (s.each p l).1 ((h.each p l).1 (waits_fewer d n p up), (c, (h.each (step d p c) (within p c l)).1 next_waits))),
-  );
-}
-  where
-    add_one : n + 1 ≡ suc n
-    add_one = omega arith
-
+-- ---- states that accept
 pub accepting_within : (d : List Row) (p : ℕ) → IsAccepting d p → p < length d
 accepting_within d p a = elim (slice_get_cases d p).1 [
   | inl x ↦ slice_get_within d p x.0 x.2
@@ -195,47 +174,21 @@ kind_read K d states p s kind b are l is same told = elim (slice_get_cases d p).
   | inr past ↦ absurd (omega (arith, past.0, are.same_length))
 ]
 
--- ---- one iteration of `lookahead`
-module _ (d : List Row) (marks next : List Bool) (n : ℕ) (stay : AreWaitingFor d n marks) (after : AreWaitingFor d (n + 1) next) where
-  add_one : n + 1 ≡ suc n
-  add_one = omega arith
-
-  -- fewer are marked after it, or the same ones are
-  pub round_fewer : (next ≡ marks) ⊎ (marked_count next < marked_count marks)
-  round_fewer = fewer_marks next marks (omega (arith, stay.same_length, after.same_length)) (λ k m.
-      let l : k < length d = (let w : k < length next = slice_get_within next k true m in omega (arith, after.same_length)) in
-      let up : WaitsFor d (suc n) k = rw add_one at ((after.each k l).0 m) in
-      (stay.each k l).1 (waits_fewer d n k up))
-
-  -- if the same ones are, each state that waits for n values waits for one more
-  pub round_more : next ≡ marks → (p : ℕ) → WaitsFor d n p → WaitsFor d (suc n) p
-  round_more same p o =
-      let l : p < length d = o.0.0 in
-      let m : Marked next p = subst (λ (bs : List Bool). Marked bs p) (sym same) ((stay.each p l).1 o) in
-      rw add_one at ((after.each p l).0 m)
+-- ---- states that can wait forever
+module _ (d : List Row) (marks : List Bool) (n : ℕ) (stay : AreWaitingFor d n marks) (more : AreWaitingFor d (n + 1) marks) where
+  -- each state that waits for n values waits for one more
+  pub ever_more : (p : ℕ) → WaitsFor d n p → WaitsFor d (suc n) p
+  ever_more p o = subst (λ k. WaitsFor d k p) (omega arith) ((more.each p o.0.0).0 ((stay.each p o.0.0).1 o))
 
 -- a nonempty match leads to the state
 abbrev pub Ends : List Row → ℕ → Type 0
 Ends d = EndsMatch d (IsAccepting d) (λ p a. a)
 
-module _ (d : List Row) (well : IsWellFormed d) (reached : List Bool) (are : AreReached d reached) where
-  pub round_ever : (marks next : List Bool) (n : ℕ) → AreWaitingFor d n marks → AreWaitingFor d (n + 1) next → next ≡ marks → IsEntered d reached marks → IsLookahead (Accepted d) None
-  round_ever marks next n stay after same entered m =
-      let all = for_ever d (Ends d) n (round_more d marks next n stay after same) (entered_of d well reached marks n are stay entered) m in
-      (let (v, x, (a, o)) = can_opens d (IsAccepting d) (λ p a. a) m all in (v, x, o))
-
-  pub round_entered : (marks : List Bool) (n : ℕ) → AreWaitingFor d n marks → IsEntered d reached marks → CanStayOpen (Accepted d) (n + 1)
-  round_entered marks n stay entered =
-      let e : suc n ≡ n + 1 = omega arith in
-      let can = entered_can d (Ends d) n (entered_of d well reached marks n are stay entered) in
-      subst (CanStayOpen (Accepted d)) e (let (v, x, (a, o)) = can_opens d (IsAccepting d) (λ p a. a) (suc n) can in (v, x, o))
-
-  pub round_last : (marks : List Bool) (n : ℕ) → AreWaitingFor d n marks → (IsEntered d reached marks → ⊥) → (n ≡ 0) ⊎ CanStayOpen (Accepted d) n → IsLookahead (Accepted d) (Some n)
-  round_last marks n stay none found = (
-    λ m (v, x, o). at_most d (Ends d) n (λ e. none (of_entered d well reached marks n are stay e)) m
-        (opens_can d (IsAccepting d) (λ p a. a) well m v x o.word o),
-    found,
-  )
+-- if one is entered, there is no greatest number
+pub ever_entered : (d : List Row) → IsWellFormed d → (reached marks : List Bool) → AreReached d reached → AreWaitingEver d marks → IsEntered d reached marks → IsLookahead (Accepted d) None
+ever_entered d well reached marks are (n, (few, (stay, more))) entered m =
+    let all = for_ever d (Ends d) n (ever_more d marks n stay more) (entered_of d well reached marks n are stay entered) m in
+    (let (v, x, (a, o)) = can_opens d (IsAccepting d) (λ p a. a) m all in (v, x, o))
 
 -- ---- `==` of marks
 bits_decide : (x y : Bool) → (beq x y ≡ true → x ≡ y) × (x ≡ y → beq x y ≡ true)
@@ -268,10 +221,10 @@ module _ (Tells : ℕ → ℕ → Type 0) (old new : List Bool) (count number : 
 pub ever_marked : (d : List Row) → IsWellFormed d → (reached marks found : List Bool) (count : ℕ) → AreReached d reached → AreWaitingEver d marks
     → ((i : ℕ) → i < count → Marked found i ↔ ((p : ℕ) × ((p < length d) × EntersBy d reached marks i p)))
     → (i : ℕ) → i < count → Marked found i ↔ StaysOpenEver (Accepted d) (AcceptedAs d i)
-ever_marked d well reached marks found count are (n, (stay, more)) each i l = (
+ever_marked d well reached marks found count are (n, (few, (stay, more))) each i l = (
   λ m. (let (p, (b, e)) = (each i l).0 m in
       let (c, (a, o)) = by_enters d well reached marks n are stay i p e in
-      λ k. can_opens d (IsAcceptingAs d i) (by_accepts d i) k (for_ever d (EndsMatch d (IsAcceptingAs d i) (by_accepts d i)) n (round_more d marks marks n stay more refl) (p, c, (a, o)) k)),
+      λ k. can_opens d (IsAcceptingAs d i) (by_accepts d i) k (for_ever d (EndsMatch d (IsAcceptingAs d i) (by_accepts d i)) n (ever_more d marks n stay more) (p, c, (a, o)) k)),
   λ ever. (let (v, x, (b, h)) = ever (suc n) in
       let (p, c, ((a, r), o)) = can_entered d (EndsMatch d (IsAcceptingAs d i) (by_accepts d i)) n (opens_can d (IsAcceptingAs d i) (by_accepts d i) well (suc n) v x b h) in
       (each i l).1 (p, (accepting_within d p (by_accepts d i p a), enters_by d well reached marks n are stay i p c a r o))),

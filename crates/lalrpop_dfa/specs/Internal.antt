@@ -2,6 +2,8 @@
 pub mod Written
 pub mod SameLaws
 pub mod Marks
+-- for how many values in a row states wait
+pub mod Waits
 -- borders of tests, and values by which a match runs on
 pub mod Fitting
 -- numbers of kernels

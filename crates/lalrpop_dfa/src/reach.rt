@@ -35,8 +35,8 @@ fn mark_sources(dfa: &Dfa, marks: &mut [bool])
     }
 }
 
-// Whether a state of this kind accepts a pattern.
-fn is_accepting(kind: &Kind) -> bool
+/// Whether a state of this kind accepts a pattern.
+pub(crate) fn is_accepting(kind: &Kind) -> bool
     ensures { IsTrue result ↔ ((i : ℕ) × (kind.now ≡ Kind.Accepts i)) }
 {
     matches!(kind, Kind::Accepts(_))

@@ -1,5 +1,5 @@
 -- States that are marked, and those that wait for a match.
-use Rattle.std.specs.Prelude.{◌≡◌, ◌≢◌, ℕ, ◌+◌, ◌<◌, ◌↔◌, List, [], ◌∷◌, length, slice_get, Some, IsSomeAnd, Bool, true}
+use Rattle.std.specs.Prelude.{◌≡◌, ◌≢◌, ℕ, ◌+◌, ◌<◌, ◌≤◌, ◌↔◌, List, [], ◌∷◌, length, slice_get, count_by, Some, IsSomeAnd, Bool, true}
 use Rattle.lalrpop_dfa.specs.Dfa.{Row, step, run, after}
 use Rattle.lalrpop_dfa.specs.Lookahead.{IsAccepting, IsLive, IsOpen}
 use Rattle.lalrpop_dfa.specs.declared.Kind.TheVariants.{Accepts}
@@ -86,9 +86,23 @@ pub record AreWaitingFor (d : List Row) (n : ℕ) (marks : List Bool) : Type 0 w
   pub same_length : length marks ≡ length d
   pub each : (p : ℕ) → p < length d → Marked marks p ↔ WaitsFor d n p
 
--- the marked states are those that can wait for n values, and also those that can for n + 1: so they can forever
+-- the marked states are those that can wait for n values, and also those that can for n + 1: so they can forever; n is no more than there are states
 abbrev pub AreWaitingEver : List Row → List Bool → Type 0
-AreWaitingEver d marks = (n : ℕ) × (AreWaitingFor d n marks × AreWaitingFor d (n + 1) marks)
+AreWaitingEver d marks = (n : ℕ) × ((n ≤ length d) × (AreWaitingFor d n marks × AreWaitingFor d (n + 1) marks))
+
+-- the marked states wait, and all that can wait for n values are marked; n is no more than there are states that aren't
+pub record AreLeft (d : List Row) (n : ℕ) (marks : List Bool) : Type 0 where
+  pub same_length : length marks ≡ length d
+  pub waiting : (p : ℕ) → Marked marks p → IsWaiting d p
+  pub left : (p : ℕ) → WaitsFor d n p → Marked marks p
+  pub few : n + count_by (λ b. b) marks ≤ length d
+
+-- each state that is still marked led into a marked one
+pub record AreLeftOut (d : List Row) (old new : List Bool) : Type 0 where
+  pub same_length : length new ≡ length old
+  pub kept : (p : ℕ) → Marked new p → Marked old p
+  pub leads : (p : ℕ) → Marked new p → LeadsInto d old p
+  pub left : (n : ℕ) → AreLeft d n old → (m : ℕ) × AreLeft d m new
 
 -- the state is among those reached, it accepts the tree i, and some value leads from it to a marked one
 abbrev pub EntersBy : List Row → List Bool → List Bool → ℕ → ℕ → Type 0

@@ -26,6 +26,6 @@ returns-clause-each c =
     let d = c.args.dfa.now in
     let marks = c.in_ok-marks.marks.items in
     let ever = c.in_ok-marks.ensures.marks in
-    let all : c.loop-number.number ≡ length d = omega (arith, c.loop-number-test.false, c.loop-number.auto.number-end, c.len-number-end.ensures, ever.1.0.same_length) in
+    let all : c.loop-number.number ≡ length d = omega (arith, c.loop-number-test.false, c.loop-number.auto.number-end, c.len-number-end.ensures, ever.1.1.0.same_length) in
     ever_marked d c.in_ok-marks.ensures.well_formed c.in_ok-reached.reached.items marks c.loop-number.found.items c.args.count c.in_ok-reached.ensures ever
     (subst (λ k. (i : ℕ) → i < c.args.count → Marked c.loop-number.found.items i ↔ ((p : ℕ) × ((p < k) × EntersBy d c.in_ok-reached.reached.items marks i p))) all c.loop-number.invariant.each)
