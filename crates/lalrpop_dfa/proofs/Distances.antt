@@ -8,6 +8,7 @@ use Rattle.lalrpop_dfa.specs.Dfa.{Row, step, run, IsWellFormed}
 use Rattle.lalrpop_dfa.specs.Internal.Ranks.{IsLeastInto, IsWanted, IsGoal, IsNear, IsDistance, AreDistances, AreNearest, AreNearer, AreStill, AreWays, IsNearer, unknown, unknown_count}
 use Rattle.lalrpop_dfa.proofs.EdgeTargets.{step_within}
 use Rattle.lalrpop_dfa.proofs.Ranked.{near_more, near_none, near_on}
+use Rattle.lalrpop_dfa.proofs.Totals.{same_or_other}
 
 -- ---- how many distances aren't known
 -- 1 for a distance that isn't known
@@ -100,12 +101,6 @@ spreading_first d old = record {
 
 pub spreading_end : (d : List Row) (old new : List ℕ) → IsSpreading d old new 0 → AreNearer d old new
 spreading_end d old new h = record { same_length = h.same_length; most = h.most; least = λ p c l m. h.least p c (omega arith) l m; ways = h.ways }
-
-same_or_other : (p q : ℕ) → (p ≡ q) ⊎ (p ≢ q)
-same_or_other p q =
-    ⊎_elim (λ (l : p < q). inr (λ e. absurd (omega (arith, l, e))))
-    (λ (l : q ≤ p). ⊎_elim (λ (m : q < p). inr (λ e. absurd (omega (arith, m, e)))) (λ (m : p ≤ q). inl (omega (arith, l, m))) (cases_lt q p))
-    (cases_lt p q)
 
 -- one distance falls
 module _ (d : List Row) (n : ℕ) (distances : List ℕ) (place value : ℕ) (h : AreWays d n distances) (l : place < length d) (well : IsWellFormed d)

@@ -28,6 +28,7 @@ pub mod Greedy
 -- depths and distances of states, and the words that they lead to
 pub mod Ranked
 pub mod Totals
+pub mod Depths
 pub mod Distances
 -- states that wait: those that do forever, and for how many values the others do
 pub mod LeftOut

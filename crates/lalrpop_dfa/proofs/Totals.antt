@@ -1,5 +1,5 @@
 -- Lists of numbers, before and after a pass over them: copies, comparison, and their sum, which is less where one falls.
-use Rattle.std.proofs.Common.{◌≡◌, ◌≢◌, ℕ, suc, ◌+◌, ◌<◌, ◌≤◌, List, [], ◌∷◌, length, get_or, refl, ⊎_elim, arith}
+use Rattle.std.proofs.Common.{◌≡◌, ◌≢◌, ◌⊎◌, inl, inr, ℕ, suc, ◌+◌, ◌<◌, ◌≤◌, List, [], ◌∷◌, length, get_or, refl, ⊎_elim, arith}
 use Rattle.std.specs.List.{AllZip}
 use Rattle.std.specs.Prelude.{nat_eq, Bool, true, false}
 use Rattle.std.specs.Cmp.Lexicographic.{pointwise}
@@ -41,3 +41,10 @@ total_less (x ∷ xs) (y ∷ ys) e h ne =
     let later = total_less xs ys (omega (arith, e)) (λ p k. h (suc p) (omega (arith, k))) (λ t. ne (let u = t in let v = same in cc)) in
     omega (arith, later, same))
     (cases_lt y x)
+
+-- ---- two places
+pub same_or_other : (p q : ℕ) → (p ≡ q) ⊎ (p ≢ q)
+same_or_other p q =
+    ⊎_elim (λ (l : p < q). inr (λ e. absurd (omega (arith, l, e))))
+    (λ (l : q ≤ p). ⊎_elim (λ (m : q < p). inr (λ e. absurd (omega (arith, m, e)))) (λ (m : p ≤ q). inl (omega (arith, l, m))) (cases_lt q p))
+    (cases_lt p q)

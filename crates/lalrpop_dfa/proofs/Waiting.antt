@@ -14,13 +14,7 @@ use Rattle.lalrpop_dfa.proofs.EdgeTargets.{step_of, step_within}
 use Rattle.lalrpop_dfa.proofs.Lookaheads.{Enters, at_most, entered_can, waits_before, waits_next, waits_none}
 use Rattle.lalrpop_dfa.proofs.Marking.{Ends, accepting_within, by_other, by_test, of_entered, top}
 use Rattle.lalrpop_dfa.proofs.Openness.{can_opens, opens_can}
-use Rattle.lalrpop_dfa.proofs.Totals.{total}
-
-same_or_other : (p q : ℕ) → (p ≡ q) ⊎ (p ≢ q)
-same_or_other p q =
-    ⊎_elim (λ (l : p < q). inr (λ e. absurd (omega (arith, l, e))))
-    (λ (l : q ≤ p). ⊎_elim (λ (m : q < p). inr (λ e. absurd (omega (arith, m, e)))) (λ (m : p ≤ q). inl (omega (arith, l, m))) (cases_lt q p))
-    (cases_lt p q)
+use Rattle.lalrpop_dfa.proofs.Totals.{same_or_other, total}
 
 max_cases : (a b : ℕ) → (max a b ≡ a) ⊎ (max a b ≡ b)
 max_cases a b = ⊎_elim (λ (l : a < b). inr (max-eq_right (omega arith))) (λ (l : b ≤ a). inl (max-eq_left l)) (cases_lt a b)

@@ -37,10 +37,26 @@ pub record AreDepths (d : List Row) (most : ℕ) (depths : List ℕ) : Type 0 wh
   pub each : (p : ℕ) → p < length d → IsDepth d most p (slice_index depths p)
   pub fits : (p : ℕ) → p < length d → slice_index depths p ≤ 18446744073709551615
 
--- they are those depths, and none is counted further
+-- only states that wait have a depth, at most this; none is less than it should be
 pub record AreDeep (d : List Row) (most : ℕ) (depths : List ℕ) : Type 0 where
-  pub are : AreDepths d most depths
-  pub counted : (p : ℕ) → p < length d → slice_index depths p ≤ most
+  pub same_length : length depths ≡ length d
+  pub low : (p : ℕ) → p < length d → slice_index depths p ≤ most
+  pub waiting : (p : ℕ) → p < length d → 0 < slice_index depths p → IsWaiting d p
+  pub deep : (j p : ℕ) → j < most → StaysFor d j p → j < slice_index depths p
+
+-- the state's own depth, or one that is less: then it is more than those that its values lead to; none of these allows more
+pub record IsShallower (d : List Row) (depths : List ℕ) (p own new : ℕ) : Type 0 where
+  pub some : 0 < new
+  pub most : new ≤ own
+  pub enough : new < own → (c : ℕ) → c ≤ 4294967295 → slice_index depths (step d p c) < new
+  pub reached : (new ≤ 1) ⊎ ((c : ℕ) × ((c ≤ 4294967295) × (new ≤ slice_index depths (step d p c) + 1)))
+
+-- no depth is greater than it was, nor than those that its values lead to allowed
+pub record AreShallower (d : List Row) (old new : List ℕ) : Type 0 where
+  pub same_length : length new ≡ length old
+  pub most : (p : ℕ) → p < length d → slice_index new p ≤ slice_index old p
+  pub reached : (p : ℕ) → p < length d → (slice_index new p ≤ 1) ⊎ ((c : ℕ) × ((c ≤ 4294967295) × (slice_index new p ≤ slice_index old (step d p c) + 1)))
+  pub deep : (most : ℕ) → AreDeep d most old → AreDeep d most new
 
 -- a distance that isn't known
 abbrev pub unknown : ℕ
