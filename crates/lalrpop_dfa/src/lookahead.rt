@@ -143,7 +143,7 @@ fn most_entered(dfa: &Dfa, reached: &[bool], numbers: &[usize]) -> usize
 /// The greatest number of values that can follow a nonempty match and leave it open whether a longer one comes; `None` if the
 /// number has no bound.
 ///
-/// It goes over all edges a few times: at most once for each state.
+/// It goes over all edges, mostly a few times; some automata take as many passes as they have states.
 ///
 /// # Errors
 ///

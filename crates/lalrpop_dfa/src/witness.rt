@@ -97,7 +97,7 @@ fn open_values(
 ///
 /// If `count` is what `lookahead` returns, it shows what makes the automaton look that far ahead.
 ///
-/// It goes over all edges at most once for each of the `count` values, and mostly only a few times more: at most once for each state.
+/// It goes over all edges, mostly a few times; some automata take as many passes as they have states.
 ///
 /// # Errors
 ///
