@@ -7,3 +7,4 @@ mod Printed
 mod Answer
 mod Whole
 mod Arguments
+mod Streams

@@ -1,5 +1,6 @@
 mod Cases
 pub mod CutLemmas
 pub mod Known
+pub mod StreamLaws
 pub mod Unique
 pub mod UniqueWhole

@@ -6,3 +6,4 @@ pub mod Printed
 pub mod Answer
 pub mod Whole
 pub mod Arguments
+pub mod Streams

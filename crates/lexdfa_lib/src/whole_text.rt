@@ -5,8 +5,7 @@ ghost use Rattle.lexdfa_lib.specs.Whole.{ReadsAnswers, WritesAnswers, WritesAnsw
 use crate::cutting::{Answers, answers_of};
 use crate::error::RunError;
 use crate::outcome::Outcome;
-use crate::streams::{read_whole, write_whole};
-use crate::watched::Watched;
+use crate::watched::{Watched, read_whole, write_whole};
 use std::alloc::Global;
 use std::io::{Read, Write};
 

@@ -2,10 +2,9 @@
 //! what nothing that comes can change is written before more is read.
 
 use crate::cutting::{
-    ALL, Answer, CLEAN, Ended, FAULTY, Fed, JOBS, JSON, Job, Lines, PLAIN, RECOVERING, Shape, cut,
-    is_end, lexer_of_comments, lexer_of_rules, lexer_of_words, write_lines,
+    ALL, Answer, CLEAN, Ended, FAULTY, Fed, Full, JOBS, JSON, Job, Lines, PLAIN, RECOVERING, Shape,
+    cut, is_end, lexer_of_comments, lexer_of_rules, lexer_of_words, write_lines,
 };
-use crate::failing::FailsAfter;
 use lalrpop_lexer::Position;
 use lexdfa_lib::RunError;
 use std::alloc::{AllocError, Global};
@@ -391,7 +390,12 @@ fn is_answered(
     at_once: usize,
 ) -> bool {
     let mut reader = Reader::new(System(Fed::ending(job.text.as_bytes(), at_once)));
-    let writer = FailsAfter::new(alloc, room, Some(io::ErrorKind::Other));
+    let writer = Full {
+        taken: Vec::new(alloc),
+        room,
+        failure: Some(io::ErrorKind::Other),
+        calls: 0,
+    };
     let mut console = Console::new(System(writer), Vec::new(alloc));
     let end = write_lines(alloc, lexer, job.lines, &mut reader, &mut console);
     let (System(writer), _) = console.into_sinks();

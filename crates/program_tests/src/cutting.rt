@@ -1,10 +1,11 @@
-//! Texts that named rules cut, what is written for them and how cutting ends, and a reader that gives them bit by bit.
+//! Texts that named rules cut, what is written for them and how cutting ends, a reader that gives them bit by bit, and a writer
+//! that fails.
 
 use lalrpop_lexer::Position;
 use lexdfa_lib::RunError;
 use std::alloc::Global;
 use std::io;
-use std::io::Read;
+use std::io::{Read, Write};
 use std::process::Abort;
 use tokens_lib::{
     Console, CutEnd, Layout, LineForm, Markup, ModeAction, ModeRule, OpenMode, Reader, Rule,
@@ -57,6 +58,31 @@ impl<'a> Read for Fed<'a> {
                 self.left.read(&mut buf[..most])
             }
         }
+    }
+}
+
+/// Takes one byte a call while it has room, then fails, and counts its calls.
+#[derive(Drop)]
+pub(crate) struct Full {
+    pub(crate) taken: Vec<u8>,
+    pub(crate) room: usize,
+    // How a call fails that finds no room; if it doesn't, it takes nothing.
+    pub(crate) failure: Option<io::ErrorKind>,
+    pub(crate) calls: usize,
+}
+
+impl Write for Full {
+    fn write(&mut self, buf: &[u8]) -> io::Result<usize> {
+        self.calls = self.calls.saturating_add(1);
+        match self.failure {
+            _ if self.calls <= self.room => self.taken.write(&buf[..buf.len().min(1)]),
+            Some(kind) => Err(io::Error::from(kind)),
+            None => Ok(0),
+        }
+    }
+
+    fn flush(&mut self) -> io::Result<()> {
+        Ok(())
     }
 }
 

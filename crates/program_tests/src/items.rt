@@ -1,10 +1,9 @@
 //! The lines and pages of texts that named rules cut: what they are, and what is written when a writer fails.
 
 use crate::cutting::{
-    ALL, CLEAN, Ended, Fed, JOBS, Job, PLAIN, Shape, cut, is_end, lexer_of_comments,
+    ALL, CLEAN, Ended, Fed, Full, JOBS, Job, PLAIN, Shape, cut, is_end, lexer_of_comments,
     lexer_of_rules, write_shape,
 };
-use crate::failing::FailsAfter;
 use lalrpop_lexer::Position;
 use lexdfa_lib::RunError;
 use std::alloc::Global;
@@ -33,10 +32,15 @@ fn leaves_a_prefix(
     lexer: &RuleLexer,
     job: &Job,
     room: usize,
-    kind: Option<io::ErrorKind>,
+    failure: Option<io::ErrorKind>,
 ) -> bool {
     let mut reader = Reader::new(job.text.as_bytes());
-    let writer = FailsAfter::new(alloc, room, kind);
+    let writer = Full {
+        taken: Vec::new(alloc),
+        room,
+        failure,
+        calls: 0,
+    };
     let mut console = Console::new(System(writer), Vec::new(alloc));
     let result = write_shape(alloc, lexer, &job.shape, &mut reader, &mut console);
     let (System(end), _) = console.into_sinks();

@@ -1,9 +1,7 @@
-//! Tests of the public calls of `lexdfa_lib` and `tokens_lib` with values: lines, pages and statuses, messages, and ends that fail.
-//! They are a crate of their own, so that no layer is proved a second time for its tests.
+//! Tests of the public calls of `tokens_lib` with values: lines, pages and statuses, messages, and ends that fail. They are a crate of
+//! their own, so that no layer is proved a second time for its tests.
 #![tactic(auto)]
 
-#[cfg(test)]
-mod answers;
 #[cfg(test)]
 mod clashes;
 #[cfg(test)]
@@ -11,20 +9,8 @@ mod coming;
 #[cfg(test)]
 mod cutting;
 #[cfg(test)]
-mod endings;
-#[cfg(test)]
-mod ends;
-#[cfg(test)]
-mod failing;
-#[cfg(test)]
-mod input;
-#[cfg(test)]
 mod items;
 #[cfg(test)]
 mod messages;
 #[cfg(test)]
 mod program;
-#[cfg(test)]
-mod shared;
-#[cfg(test)]
-mod whole;

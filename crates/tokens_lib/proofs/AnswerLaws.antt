@@ -1,16 +1,15 @@
--- One answer after another.
-use Rattle.std.proofs.Common.{◌≡◌, ℕ, ◌+◌, Bool, true, false, inl, inr, List, [], ◌++◌, length, take, refl, sym, ap, subst, ◌∙◌, append_assoc, arith, length-append}
-use Rattle.std.specs.Prelude.{Option, Result, Ok, Err, IfErr}
+-- One answer after another, and what a console is given in two steps.
+use Rattle.std.proofs.Common.{◌≡◌, ℕ, inl, inr, List, [], ◌++◌, refl, sym, ap, subst, ◌∙◌, append_assoc, arith}
+use Rattle.std.specs.Prelude.{Result, Ok, Err, IfErr}
 use Rattle.std.specs.Result.{IsErrAnd}
-use Rattle.std.proofs.Math.Seq.{take-append-add}
-use Rattle.std.proofs.lemmas.List.{append-nil, take-append-le, take_all}
-use Rattle.lexdfa_lib.proofs.Known.{Appends-none, AppendsPrefix-behind, AppendsPrefix-front}
-use Rattle.lexdfa_lib.specs.Watch.{AppendsPrefix}
+use Rattle.std.proofs.lemmas.List.{append-nil}
+use Rattle.lexdfa_lib.proofs.Known.{Appends-none, AppendsPrefix-front}
+use Rattle.lexdfa_lib.proofs.StreamLaws.{Takes-nothing, takes_again, takes_front, takes_part, told_again, told_part_after, told_part_nothing, told_whole}
 use Rattle.lexdfa_lib.specs.declared.error.RunError.{RunError}
 use Rattle.lexdfa_lib.specs.declared.error.RunError.TheVariants.{OutOfMemory}
+use Rattle.lexdfa_lib.specs.Streams.{Stream, Takes, TakesPart, IsToldPart}
 use Rattle.reports_lib.specs.Answer.{Answer, silence, followed, remark}
-use Rattle.tokens_lib.proofs.StreamLaws.{breaks_later, takes_again, takes_part}
-use Rattle.tokens_lib.specs.Streams.{Stream, Console, Breaks, Takes, TakesPart, IsTold, IsToldBy, IsToldPart, WritesPart, Says, Gives, Answers, Begins, Fails}
+use Rattle.tokens_lib.specs.Console.{Console, Writes, WritesPart, Says, Gives, Answers, Begins, Fails}
 
 -- ---- answers
 
@@ -31,74 +30,20 @@ followed-silence a = same_answer (followed a silence) a (omega arith) (append-ni
 pub silence-followed : (a : Answer) → followed silence a ≡ a
 silence-followed a = same_answer (followed silence a) a (omega arith) refl refl
 
--- ---- streams
+-- ---- by a console
 
-pub Takes-nothing : (a : Stream) → Takes a [] a
-Takes-nothing a = (refl, Appends-none a.bytes)
+-- nothing is written
+pub writes_none : (a : Console) → Writes a [] a
+writes_none a = (Takes-nothing a.out, refl)
 
--- ---- what is said
+pub writes_again : (a b c : Console) (xs ys : List ℕ) → Writes a xs b → Writes b ys c → Writes a (xs ++ ys) c
+writes_again a b c xs ys first second = (takes_again a.out b.out c.out xs ys first.0 second.0, second.1 ∙ first.1)
 
-told_by : (f g : Bool) (a b : Stream) (xs : List ℕ) → a.is_broken ≡ f → b.is_broken ≡ g → IsToldBy f g a xs b → IsTold a xs b
-told_by f g a b xs before after told =
-    subst (λ (x : Bool). IsToldBy x b.is_broken a xs b) (sym before) (subst (λ (x : Bool). IsToldBy f x a xs b) (sym after) told)
+pub writes_part : (a b c : Console) (xs ys : List ℕ) (error : RunError) → Writes a xs b → WritesPart b ys error c → WritesPart a (xs ++ ys) error c
+writes_part a b c xs ys error first second = (takes_part a.out b.out c.out xs ys error first.0 second.0, second.1 ∙ first.1)
 
-by_told : (f g : Bool) (a b : Stream) (xs : List ℕ) → a.is_broken ≡ f → b.is_broken ≡ g → IsTold a xs b → IsToldBy f g a xs b
-by_told f g a b xs before after told =
-    subst (λ (x : Bool). IsToldBy x g a xs b) before (subst (λ (x : Bool). IsToldBy a.is_broken x a xs b) after told)
-
-pub told_nothing : (a : Stream) → IsTold a [] a
-told_nothing a = by a.is_broken refl
-  where
-    by : (f : Bool) → a.is_broken ≡ f → IsTold a [] a
-    by false is = told_by false false a a [] is is (Takes-nothing a)
-    by true is = told_by true true a a [] is is refl
-
--- a prefix, and then nothing more
-part_then : (a b : Option (List ℕ)) (xs ys : List ℕ) → AppendsPrefix a b xs → AppendsPrefix a b (xs ++ ys)
-part_then a b xs ys part = AppendsPrefix-behind a a b [] xs ys (Appends-none a) part
-
-pub told_again : (a b c : Stream) (xs ys : List ℕ) → IsTold a xs b → IsTold b ys c → IsTold a (xs ++ ys) c
-told_again a b c xs ys x y = by a.is_broken b.is_broken c.is_broken refl refl refl
-  where
-    by : (f g h : Bool) → a.is_broken ≡ f → b.is_broken ≡ g → c.is_broken ≡ h → IsTold a (xs ++ ys) c
-    by false false false p q r =
-        told_by false false a c (xs ++ ys) p r (takes_again a b c xs ys (by_told false false a b xs p q x) (by_told false false b c ys q r y))
-    by false false true p q r =
-        let first : Takes a xs b = by_told false false a b xs p q x in
-        let second : Breaks b c × AppendsPrefix b.bytes c.bytes ys = by_told false true b c ys q r y in
-        told_by false true a c (xs ++ ys) p r (
-          breaks_later a b c first.0 second.0,
-          subst (λ (l : List ℕ). AppendsPrefix a.bytes c.bytes (xs ++ l)) (append-nil ys) (AppendsPrefix-behind a.bytes b.bytes c.bytes xs ys [] first.1 second.1),
-        )
-    by false true false p q r = absurd (by_told true false b c ys q r y)
-    by false true true p q r =
-        let first : Breaks a b × AppendsPrefix a.bytes b.bytes xs = by_told false true a b xs p q x in
-        let same : c ≡ b = by_told true true b c ys q r y in
-        subst (λ (s : Stream). IsTold a (xs ++ ys) s) (sym same) (told_by false true a b (xs ++ ys) p q (first.0, part_then a.bytes b.bytes xs ys first.1))
-    by true false h p q r = absurd (by_told true false a b xs p q x)
-    by true true false p q r = absurd (by_told true false b c ys q r y)
-    by true true true p q r =
-        let first : b ≡ a = by_told true true a b xs p q x in
-        let second : c ≡ b = by_told true true b c ys q r y in
-        told_by true true a c (xs ++ ys) p r (second ∙ first)
-
--- all is a part
-pub told_whole : (a b : Stream) (xs : List ℕ) → IsTold a xs b → IsToldPart a xs b
-told_whole a b xs told = (length xs, omega arith, subst (λ (l : List ℕ). IsTold a l b) (sym (take_all (length xs) xs (omega arith))) told)
-
-pub told_part_nothing : (a : Stream) (xs : List ℕ) → IsToldPart a xs a
-told_part_nothing a xs = (0, omega arith, told_nothing a)
-
-pub told_part_after : (a b c : Stream) (xs ys : List ℕ) → IsTold a xs b → IsToldPart b ys c → IsToldPart a (xs ++ ys) c
-told_part_after a b c xs ys told (n, le, part) = (
-  length xs + n,
-  omega (arith, length-append xs ys, le),
-  subst (λ (l : List ℕ). IsTold a l c) (sym (take-append-add xs ys n)) (told_again a b c xs (take n ys) told part),
-)
-
-pub told_part_first : (a b : Stream) (xs ys : List ℕ) → IsToldPart a xs b → IsToldPart a (xs ++ ys) b
-told_part_first a b xs ys (n, le, part) =
-    (n, omega (arith, length-append xs ys, le), subst (λ (l : List ℕ). IsTold a l b) (sym (take-append-le n xs ys le)) part)
+pub writes_front : (a b : Console) (xs more : List ℕ) → Writes a xs b → WritesPart a (xs ++ more) OutOfMemory b
+writes_front a b xs more first = (takes_front a.out b.out xs more first.0, first.1)
 
 -- ---- what is answered
 

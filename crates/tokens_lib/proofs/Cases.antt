@@ -2,6 +2,7 @@
 mod Arguments
 mod Checked
 mod Command
+mod Console
 pub mod CutEnds
 mod Emitted
 mod FileAnswers
@@ -10,7 +11,6 @@ mod OpenModes
 mod Pictured
 mod Program
 mod Progress
-mod Streams
 mod TextAnswer
 mod Usage
 mod WarningsSaid

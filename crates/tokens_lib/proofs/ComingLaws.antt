@@ -11,9 +11,10 @@ use Rattle.lalrpop_rules.specs.Pieces.{joined}
 use Rattle.lalrpop_rules.specs.declared.item.Item.{Item}
 use Rattle.lexdfa_lib.specs.declared.error.RunError.{RunError}
 use Rattle.lexdfa_lib.specs.declared.error.RunError.TheVariants.{OutOfMemory}
+use Rattle.lexdfa_lib.specs.Streams.{Reading, ReadEnd, AtEnd, LeftOff, Reads, Stream}
+use Rattle.tokens_lib.specs.Console.{Console}
 use Rattle.tokens_lib.specs.CutEnds.{BreaksOff, IsCutTo}
 use Rattle.tokens_lib.specs.OpenModes.{open_behind, open_mode}
-use Rattle.tokens_lib.specs.Streams.{Console, Reading, ReadEnd, AtEnd, LeftOff, Reads, Stream}
 use Rattle.tokens_lib.specs.Internal.CutTexts.{Comes, GivesAll, IsAsBefore, IsComing, IsCutInto, IsGiven, IsGivenInPart, end_by, goes_on, open_place, shown}
 use Rattle.tokens_lib.specs.Written.{WritesCut, WritesCutPart}
 use Rattle.tokens_lib.specs.Internal.Incoming.{IsFed, IsIncoming, ReadsOn}
@@ -29,7 +30,7 @@ use Rattle.tokens_lib.specs.declared.sheet.Form.{Form}
 use Rattle.tokens_lib.proofs.CutLaws.{IsSameCut, into_fed, into_whole, place_within}
 use Rattle.tokens_lib.proofs.ItemSending.{all_sent, part_so_far, sent_same}
 use Rattle.tokens_lib.proofs.PieceLines.{shown_stays}
-use Rattle.tokens_lib.proofs.StreamLaws.{reads_again}
+use Rattle.lexdfa_lib.proofs.StreamLaws.{reads_again}
 
 -- ---- what has come
 

@@ -2,10 +2,11 @@
 use Rattle.std.proofs.Common.{◌≡◌, ◌≢◌, ℕ, ◌+◌, ◌<◌, get_or, Bool, false, inl, inr, List, [], ◌∷◌, ◌++◌, length, take, drop, map, refl, sym, ap, subst, ◌∙◌, arith}
 use Rattle.std.specs.Prelude.{max, codes, if◌then◌else◌, Option}
 use Rattle.std.proofs.lemmas.List.{take_more, map-append, length-map, length-take-le, take-append-drop, drop_more}
+use Rattle.lexdfa_lib.specs.Streams.{Reading, NotOpened, Stream}
 use Rattle.reports_lib.specs.Answer.{Answer, silence, followed, refusal, about}
+use Rattle.tokens_lib.specs.Console.{Console, Answers, Begins}
 use Rattle.tokens_lib.specs.FileAnswers.{is_input, FileGives, ReadingAnswer, FileAnswer, NumberedAnswer, NumberedPart, FilesAnswer, FirstFilesAnswer, cut_files, TextsAnswer, FirstTextsAnswer}
 use Rattle.tokens_lib.specs.Progress.{total_said}
-use Rattle.tokens_lib.specs.Streams.{Reading, NotOpened, Stream, Console, Answers, Begins}
 use Rattle.tokens_lib.specs.Internal.Tasks.{EitherAnswer, ReadAnswer}
 use Rattle.tokens_lib.specs.declared.command.Verbosity.{Verbosity}
 use Rattle.tokens_lib.proofs.AnswerLaws.{Then, followed-assoc, followed-silence, silence-followed, Gives-again}

@@ -12,8 +12,8 @@ use Rattle.lalrpop_rules.specs.declared.item.Item.{Item}
 use Rattle.lalrpop_rules.specs.declared.item.Item.TheVariants.{Token, Skipped, Fault}
 use Rattle.lexdfa_lib.specs.declared.error.RunError.{RunError}
 use Rattle.lexdfa_lib.specs.declared.error.RunError.TheVariants.{OutOfMemory}
+use Rattle.tokens_lib.specs.Console.{Console, Writes, WritesPart}
 use Rattle.tokens_lib.specs.CutEnds.{first_fault}
-use Rattle.tokens_lib.specs.Streams.{Console, Writes, WritesPart}
 use Rattle.tokens_lib.specs.Internal.CutTexts.{EndsAtFault, GivesAll, GivesCut, IsAsBefore, IsGiven, IsGivenInPart, goes_on, is_fault, piece_shown, shown}
 use Rattle.tokens_lib.specs.declared.cut_end.CutEnd.{CutEnd}
 use Rattle.tokens_lib.specs.declared.cut_end.CutEnd.TheVariants.{Stopped}

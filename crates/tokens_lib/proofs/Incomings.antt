@@ -13,10 +13,10 @@ use Rattle.std.proofs.lemmas.Str.{IsUtf8-append, IsUtf8-encode}
 use Rattle.lalrpop_edits.specs.Chunked.{Chunked}
 use Rattle.lalrpop_edits.specs.Decoded.{Decoding, Decodes, NoCharacter, IsBegun, IsBad}
 use Rattle.lalrpop_rule_file.specs.RuleFile.{without_mark}
+use Rattle.lexdfa_lib.specs.Streams.{Stream, Reads, ReadEnd, LeftOff}
 use Rattle.tokens_lib.specs.Internal.Incoming.{IsIncoming, IsFed, ReadsOn, GrowsBy, behind_mark, held}
-use Rattle.tokens_lib.specs.Streams.{Stream, Reads, ReadEnd, LeftOff}
 use Rattle.tokens_lib.specs.declared.incoming.Incoming.{Incoming}
-use Rattle.tokens_lib.proofs.StreamLaws.{reads_again}
+use Rattle.lexdfa_lib.proofs.StreamLaws.{reads_again}
 
 by_test : (b : Bool) {P : Type 0} → (b ≡ true → P) → (b ≡ false → P) → P
 by_test true is_so not_so = is_so refl

@@ -3,9 +3,9 @@ use Rattle.std.proofs.Common.{◌≡◌, ℕ, List, [], ◌++◌, sym, ap, subst
 use Rattle.std.proofs.lemmas.List.{append-nil}
 use Rattle.lexdfa_lib.specs.declared.error.RunError.{RunError}
 use Rattle.lexdfa_lib.specs.declared.error.RunError.TheVariants.{OutOfMemory}
-use Rattle.tokens_lib.specs.Streams.{Console, Writes, WritesPart}
+use Rattle.tokens_lib.specs.Console.{Console, Writes, WritesPart}
 use Rattle.tokens_lib.specs.Internal.CutTexts.{IsSent}
-use Rattle.tokens_lib.proofs.StreamLaws.{writes_again, writes_front, writes_part}
+use Rattle.tokens_lib.proofs.AnswerLaws.{writes_again, writes_front, writes_part}
 
 module _ (bytes waiting : List ℕ) (a b c : Console) (is : IsSent bytes waiting a b) where
   -- more is to be written, and a part of what waits is passed on

@@ -5,11 +5,12 @@ use Rattle.bajofeki_rules.specs.Lines.{lines}
 use Rattle.lalrpop_rule_file.specs.RuleFile.{without_mark}
 use Rattle.lalrpop_rules.specs.Modes.{ModeRules}
 use Rattle.lexdfa_lib.specs.declared.error.RunError.{RunError}
+use Rattle.lexdfa_lib.specs.Streams.{Given, Reading, Stream}
 use Rattle.reports_lib.specs.Answer.{Answer, silence, followed, remark}
 use Rattle.reports_lib.specs.declared.layout.LineForm.TheVariants.{Plain}
+use Rattle.tokens_lib.specs.Console.{Console, Says, Answers, Begins, Fails}
 use Rattle.tokens_lib.specs.FileAnswers.{BytesAnswer, FirstTextsAnswer, cut_files}
 use Rattle.tokens_lib.specs.NamedRules.{AreRulesOf, LexerOf, RulesOf, RulesRefused}
-use Rattle.tokens_lib.specs.Streams.{Given, Reading, Stream, Console, Says, Answers, Begins, Fails}
 use Rattle.tokens_lib.specs.WarningsSaid.{Warned}
 use Rattle.tokens_lib.specs.declared.command.Verbosity.{Verbosity}
 use Rattle.tokens_lib.proofs.AnswerLaws.{Then, followed-silence, Gives-said, Answers-weaker, Answers-after, Fails-weaker, Fails-after}

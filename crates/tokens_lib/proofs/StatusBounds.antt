@@ -8,6 +8,7 @@ use Rattle.lalrpop_rules.specs.Modes.{ModeRules}
 use Rattle.lalrpop_rules.specs.declared.error.RulesError.{RulesError}
 use Rattle.lalrpop_rules.specs.declared.error.RulesError.TheVariants as errors
 use Rattle.bajofeki_rules.specs.declared.mode_rule.ModeRule.{ModeRule}
+use Rattle.lexdfa_lib.specs.Streams.{Given, Reading, Stream, GivesWhole}
 use Rattle.reports_lib.specs.Answer.{Answer, remark}
 use Rattle.reports_lib.specs.Compared.{DifferenceAnswer, text_status}
 use Rattle.reports_lib.specs.ReviewLines.{has_findings}
@@ -20,7 +21,6 @@ use Rattle.tokens_lib.specs.Pictured.{PictureAnswer}
 use Rattle.tokens_lib.specs.NamedRules.{rules_status, RulesTold, RulesOf, LexerOf, clashes_status, ClashesAnswer}
 use Rattle.tokens_lib.specs.Program.{ActionAnswer, CommandAnswer, ComparedAnswer, other_of}
 use Rattle.tokens_lib.specs.Progress.{total_said}
-use Rattle.tokens_lib.specs.Streams.{Given, Reading, Stream, GivesWhole}
 use Rattle.tokens_lib.specs.TextAnswer.{cut_status, CutAnswer, lines_of, page_of, PiecesAnswer, PiecesPart, PageAnswer, PagePart}
 use Rattle.tokens_lib.specs.declared.command.Command.{Command}
 use Rattle.tokens_lib.specs.declared.command.Language.{Language}

@@ -8,16 +8,16 @@ use Rattle.lalrpop_rules.specs.Modes.{ModeRules}
 use Rattle.bajofeki_rules.specs.Stack.{start}
 use Rattle.lalrpop_rules.specs.declared.item.Item.{Item}
 use Rattle.lexdfa_lib.specs.declared.error.RunError.{RunError}
+use Rattle.lexdfa_lib.specs.Streams.{Reading, Stream, Takes, TakesPart, IsTold, IsToldPart}
 use Rattle.reports_lib.specs.Answer.{Answer, remark}
 use Rattle.reports_lib.specs.ItemLines.{item_lines, piece_lines}
 use Rattle.reports_lib.specs.declared.layout.LineForm.{LineForm}
-use Rattle.tokens_lib.specs.Streams.{Reading, Stream, Console, Takes, TakesPart, IsTold, IsToldPart, Says, Answers, Begins, Fails}
+use Rattle.tokens_lib.specs.Console.{Console, Says, Answers, Begins, Fails}
 use Rattle.tokens_lib.specs.TextAnswer.{cut_status, cut_text, CutAnswer, CutPart, lines_of}
 use Rattle.tokens_lib.specs.Written.{WritesCut, WritesCutPart}
 use Rattle.tokens_lib.specs.Internal.Tasks.{ReadAnswer, EitherAnswer}
 use Rattle.tokens_lib.specs.declared.cut_end.CutEnd.{CutEnd}
-use Rattle.tokens_lib.proofs.AnswerLaws.{told_part_first, told_part_nothing}
-use Rattle.tokens_lib.proofs.StreamLaws.{takes_part}
+use Rattle.lexdfa_lib.proofs.StreamLaws.{takes_part, told_part_first, told_part_nothing}
 
 -- the name, if it is wanted
 then_some-now : (wanted : Bool) (name : Bor (List ℕ)) → option_map (λ (f : Bor (List ℕ)). f.now) (then_some wanted name) ≡ then_some wanted name.now

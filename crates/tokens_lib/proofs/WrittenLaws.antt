@@ -8,10 +8,11 @@ use Rattle.lalrpop_rules.specs.declared.item.Item.{Item}
 use Rattle.lalrpop_markup.specs.Terminal.{painted}
 use Rattle.lexdfa_lib.specs.declared.error.RunError.{RunError}
 use Rattle.lexdfa_lib.specs.declared.error.RunError.TheVariants.{OutOfMemory}
+use Rattle.lexdfa_lib.specs.Streams.{Reading, LeftOff, Reads, Stream}
 use Rattle.reports_lib.specs.ItemLines.{item_lines}
 use Rattle.reports_lib.specs.declared.layout.Layout.{Layout}
+use Rattle.tokens_lib.specs.Console.{Console, Writes, WritesPart}
 use Rattle.tokens_lib.specs.CutEnds.{AreGiven, IsCutTo}
-use Rattle.tokens_lib.specs.Streams.{Console, Reading, LeftOff, Reads, Stream, Writes, WritesPart}
 use Rattle.tokens_lib.specs.TextAnswer.{page_of}
 use Rattle.tokens_lib.specs.Internal.CutTexts.{IsPageForm, goes_on, shown}
 use Rattle.tokens_lib.specs.Written.{WritesCut, WritesCutPart}
@@ -22,7 +23,8 @@ use Rattle.tokens_lib.specs.declared.sheet.Form.{Form}
 use Rattle.tokens_lib.specs.declared.sheet.Form.TheVariants.{Lines, Html, Ansi}
 use Rattle.tokens_lib.proofs.ComingLaws.{WritesAll, WritesSome}
 use Rattle.tokens_lib.proofs.PieceLines.{ansi_shown, html_shown, lines_shown}
-use Rattle.tokens_lib.proofs.StreamLaws.{reads_none, writes_front, writes_none}
+use Rattle.lexdfa_lib.proofs.StreamLaws.{reads_none}
+use Rattle.tokens_lib.proofs.AnswerLaws.{writes_front, writes_none}
 
 -- ---- the same bytes
 

@@ -10,8 +10,8 @@ use Rattle.bajofeki_rules.specs.Stack.{Stack, start}
 use Rattle.lalrpop_rule_file.specs.RuleFile.{without_mark}
 use Rattle.lalrpop_rules.specs.declared.item.Item.{Item}
 use Rattle.lalrpop_rules.specs.declared.item.Item.TheVariants.{Fault}
+use Rattle.lexdfa_lib.specs.Streams.{Reading, ReadEnd, AtEnd, Failed, NotOpened, LeftOff}
 use Rattle.tokens_lib.specs.OpenModes.{open_behind, open_mode}
-use Rattle.tokens_lib.specs.Streams.{Reading, ReadEnd, AtEnd, Failed, NotOpened, LeftOff}
 use Rattle.tokens_lib.specs.declared.cut_end.CutEnd.{CutEnd}
 use Rattle.tokens_lib.specs.declared.cut_end.CutEnd.TheVariants.{Whole, Stopped, Broken}
 use Rattle.tokens_lib.specs.declared.cut_end.TextError.{TextError}

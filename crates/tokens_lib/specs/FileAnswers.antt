@@ -2,9 +2,10 @@
 -- The answer for some files.
 use Rattle.std.specs.Prelude.{◌≡◌, ℕ, ◌+◌, ◌⊎◌, Bool, true, false, List, [], ◌∷◌, ◌++◌, length, Option, Ok, Err, codes, if◌then◌else◌}
 use Rattle.std.specs.Str.{bytes_eq}
+use Rattle.lexdfa_lib.specs.Streams.{Given, NotOpened, Reading, Reads, Stream}
 use Rattle.reports_lib.specs.Answer.{Answer, silence, refusal, remark, followed, about}
+use Rattle.tokens_lib.specs.Console.{Begins}
 use Rattle.tokens_lib.specs.Progress.{total_said, number_text}
-use Rattle.tokens_lib.specs.Streams.{Begins, Given, NotOpened, Reading, Reads, Stream}
 use Rattle.tokens_lib.specs.declared.command.Verbosity.{Verbosity}
 
 -- a file gives no bytes, and this is said; or it gives bytes with this answer

@@ -1,6 +1,7 @@
 pub mod Arguments
 pub mod Checked
 pub mod Command
+pub mod Console
 pub mod CutEnds
 pub mod Emitted
 pub mod FileAnswers
@@ -9,14 +10,14 @@ pub mod OpenModes
 pub mod Pictured
 pub mod Program
 pub mod Progress
-pub mod Streams
 pub mod TextAnswer
 pub mod Usage
 pub mod WarningsSaid
 pub mod Written
 -- what serves the proofs alone
 pub mod Internal
--- what the public contracts of reports_lib name
+-- what the public contracts of lexdfa_lib and reports_lib name
+pub use Rattle.lexdfa_lib.specs.Streams
 pub use Rattle.reports_lib.specs.Answer
 pub use Rattle.reports_lib.specs.Compared
 pub use Rattle.reports_lib.specs.FileRules

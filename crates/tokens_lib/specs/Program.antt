@@ -6,8 +6,10 @@ use Rattle.lexdfa_lib.specs.Ending.{ending_status}
 use Rattle.lexdfa_lib.specs.declared.ending.Failure.{Failure}
 use Rattle.lexdfa_lib.specs.declared.ending.Failure.TheVariants.{Usage, Run as Failing}
 use Rattle.lexdfa_lib.specs.declared.error.RunError.TheVariants as run_errors
+use Rattle.lexdfa_lib.specs.Streams.{Given, GivesWhole, Reading, Stream}
 use Rattle.reports_lib.specs.Answer.{Answer, silence, refusal, remark, followed}
 use Rattle.reports_lib.specs.Compared.{DifferenceAnswer}
+use Rattle.tokens_lib.specs.Console.{Begins}
 use Rattle.tokens_lib.specs.FileAnswers.{BytesAnswer, TextsAnswer, FirstTextsAnswer}
 use Rattle.tokens_lib.specs.Arguments.{joined, options, names}
 use Rattle.tokens_lib.specs.Checked.{CheckAnswer, finding}
@@ -16,7 +18,6 @@ use Rattle.tokens_lib.specs.Emitted.{SourceAnswer}
 use Rattle.tokens_lib.specs.Pictured.{PictureAnswer}
 use Rattle.tokens_lib.specs.Progress.{reading_text}
 use Rattle.tokens_lib.specs.NamedRules.{RulesTold, RulesOf, LexerOf, ClashesAnswer}
-use Rattle.tokens_lib.specs.Streams.{Begins, Given, GivesWhole, Reading, Stream}
 use Rattle.tokens_lib.specs.TextAnswer.{PiecesAnswer, PiecesPart, PageAnswer, PagePart}
 use Rattle.tokens_lib.specs.Usage.{help, version, wrong_text}
 use Rattle.tokens_lib.specs.declared.command.Action.{Action}

@@ -10,11 +10,11 @@ use Rattle.lalrpop_markup.specs.Terminal.{painted}
 use Rattle.lalrpop_rules.specs.Modes.{ModeRules}
 use Rattle.bajofeki_rules.specs.Stack.{start}
 use Rattle.lalrpop_rules.specs.declared.item.Item.{Item}
+use Rattle.lexdfa_lib.specs.Streams.{Reading}
 use Rattle.reports_lib.specs.Answer.{Answer, about}
 use Rattle.reports_lib.specs.ItemLines.{name_at, piece_lines}
 use Rattle.reports_lib.specs.declared.layout.LineForm.{LineForm}
 use Rattle.tokens_lib.specs.CutEnds.{IsTextOf, BeginsWith, AreGiven, IsCutTo, lack_text}
-use Rattle.tokens_lib.specs.Streams.{Reading}
 use Rattle.tokens_lib.specs.declared.command.Markup.{Markup}
 use Rattle.tokens_lib.specs.declared.command.Markup.TheVariants.{Html, Ansi}
 use Rattle.tokens_lib.specs.declared.cut_end.CutEnd.{CutEnd}

@@ -5,8 +5,9 @@ use Rattle.lalrpop_edits.specs.Chunked.{Chunked}
 use Rattle.lalrpop_rules.specs.Modes.{ModeRules}
 use Rattle.lalrpop_rules.specs.declared.item.Item.{Item}
 use Rattle.lexdfa_lib.specs.declared.error.RunError.{RunError}
+use Rattle.lexdfa_lib.specs.Streams.{Reading}
+use Rattle.tokens_lib.specs.Console.{Console, Writes, WritesPart}
 use Rattle.tokens_lib.specs.CutEnds.{AreGiven, BeginsWith, IsCutTo, IsTextOf}
-use Rattle.tokens_lib.specs.Streams.{Console, Reading, Writes, WritesPart}
 use Rattle.tokens_lib.specs.declared.cut_end.CutEnd.{CutEnd}
 
 -- exactly this was written for the pieces that are cut of what was read, and cutting ended so

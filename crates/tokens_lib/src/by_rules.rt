@@ -4,21 +4,21 @@ ghost use Rattle.bajofeki_rules.specs.Lines.{lines};
 ghost use Rattle.lalrpop_rules.specs.ModeSet.{rules_of};
 ghost use Rattle.lalrpop_rule_file.specs.RuleFile.{AreFileParts, AreRules, ArePlaces, NamesMode, without_mark as without_mark_of};
 ghost use Rattle.lalrpop_rule_file.specs.declared.file_rule.FileRule.{FileRule as FileRuleValue};
+ghost use Rattle.lexdfa_lib.specs.Streams.{GivesWhole};
 ghost use Rattle.reports_lib.specs.Answer.{Answer, about as about_text, followed, headed, refusal, remark};
 ghost use Rattle.reports_lib.specs.Reasons.{CanBeSaid, SaysBadLine, SaysRules};
 ghost use Rattle.reports_lib.specs.declared.layout.LineForm.TheVariants.{Plain};
 ghost use Rattle.tokens_lib.specs.FileAnswers.{BytesAnswer};
 ghost use Rattle.tokens_lib.specs.NamedRules.{StandAt, IsSetOf, AreRulesOf, LinesAnswer, RulesOf, RulesRefused, clashes_status, rules_status};
-ghost use Rattle.tokens_lib.specs.Streams.{GivesWhole};
 ghost use Rattle.tokens_lib.specs.WarningsSaid.{Warned};
 ghost use Rattle.tokens_lib.specs.Internal.Faults.{NameOnly};
 
 use crate::command::Verbosity;
-use crate::files::{Files, NO_TEXT, bytes_of};
 use crate::warnings::warnings_said;
 use lalrpop_lexer::lexer::dfa::Clash;
 use lalrpop_rule_file::{RuleFile, RuleFileError, read_rules, without_mark};
 use lalrpop_rules::{RuleLexer, RulesError};
+use lexdfa_lib::{Files, bytes_of};
 use reports_lib::{
     FileLexer, ModeFile, Reply, about, bad_line_explained, headed, rules_explained, with_names,
 };
@@ -26,6 +26,9 @@ use std::alloc::{AllocError, Global};
 
 // The status of a bad line, and of a rule's text that doesn't parse.
 const BAD_LINE: u8 = 3;
+
+/// The status if a file gave no text.
+pub(crate) const NO_TEXT: u8 = 6;
 
 /// The status of rules that can't be compiled or clash.
 pub(crate) const REFUSED: u8 = 2;

@@ -1,10 +1,10 @@
 //! Standard output and standard error of a run.
 ghost use Rattle.std.specs.Prelude.{◌≡◌, IfOk, IfErr, OnOk};
+ghost use Rattle.lexdfa_lib.specs.Streams.{opened};
 ghost use Rattle.reports_lib.specs.Answer.{remark};
-ghost use Rattle.tokens_lib.specs.Streams.{Answers, Fails, Says, Writes, WritesPart, opened};
+ghost use Rattle.tokens_lib.specs.Console.{Answers, Fails, Says, Writes, WritesPart};
 
-use crate::streams::{Sink, Writer};
-use lexdfa_lib::RunError;
+use lexdfa_lib::{RunError, Sink, Writer};
 use reports_lib::Reply;
 use std::marker::Model;
 
@@ -23,7 +23,7 @@ pub struct Console<O: Sink, E: Sink> {
 }
 
 impl<O: Sink, E: Sink> Model for Console<O, E> {
-    ghost use Rattle.tokens_lib.specs.Streams.{Console as ConsoleValue};
+    ghost use Rattle.tokens_lib.specs.Console.{Console as ConsoleValue};
 
     ghost Value = { ConsoleValue };
 

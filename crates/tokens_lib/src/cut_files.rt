@@ -1,22 +1,21 @@
 //! Cutting files one after another: the lines or the markup of each are written.
 ghost use Rattle.std.specs.Prelude.{◌≡◌, max, map, string_bytes, IfOk, OnOk, IfErr};
+ghost use Rattle.lexdfa_lib.specs.Streams.{Reads};
 ghost use Rattle.reports_lib.specs.Answer.{remark};
-ghost use Rattle.tokens_lib.specs.FileAnswers.{ReadingAnswer, FileAnswer, NumberedAnswer, NumberedPart, FilesAnswer, TextsAnswer, FirstFilesAnswer, FirstTextsAnswer};
-ghost use Rattle.tokens_lib.specs.Streams.{Answers, Fails, Reads, Says};
+ghost use Rattle.tokens_lib.specs.Console.{Answers, Fails, Says};
+ghost use Rattle.tokens_lib.specs.FileAnswers.{is_input, shown_name, ReadingAnswer, FileAnswer, NumberedAnswer, NumberedPart, FilesAnswer, TextsAnswer, FirstFilesAnswer, FirstTextsAnswer};
 ghost use Rattle.tokens_lib.specs.TextAnswer.{cut_status as status_of_cut, cut_text as text_of_cut, PiecesAnswer, PiecesPart, PageAnswer, PagePart};
 ghost use Rattle.tokens_lib.specs.Internal.Tasks.{TaskAnswer, TaskPart, EitherAnswer, ReadAnswer};
 
-use crate::by_rules::unread;
+use crate::by_rules::{NO_TEXT, unread};
 use crate::command::{Markup, Verbosity};
 use crate::console::Console;
 use crate::cut_end::CutEnd;
 use crate::fault::{fault_message, lack_message, open_message};
-use crate::files::{Files, INPUT, NO_TEXT, NoBytes, is_input, shown_name};
 use crate::item_lines::{mode_name, write_items};
 use crate::page::write_page;
 use crate::progress::{number_message, total_said};
-use crate::streams::{Reader, Sink, Source};
-use lexdfa_lib::RunError;
+use lexdfa_lib::{Files, NoBytes, Reader, RunError, Sink, Source};
 use reports_lib::{FileLexer, Layout, LineForm};
 use std::alloc::{AllocError, Global};
 
@@ -37,6 +36,23 @@ pub(crate) enum Task<'rules> {
         rules: &'rules FileLexer,
         markup: Markup,
     },
+}
+
+// The name that standard input has in lines and messages.
+const INPUT: &str = "<stdin>";
+
+// Whether a file is standard input.
+fn is_input(file: &str) -> bool
+    ensures input { result ≡ is_input file.now }
+{
+    file == "-"
+}
+
+// The name of a file in lines and messages.
+fn shown_name(file: &str) -> &str
+    ensures name { result.now ≡ shown_name file.now }
+{
+    if is_input(file) { INPUT } else { file }
 }
 
 // ---- texts

@@ -6,18 +6,18 @@ ghost use Rattle.lalrpop_edits.specs.Chunked.{nothing_come, GivesFinal, BeginsFa
 ghost use Rattle.lalrpop_edits.specs.Decoded.{nothing_decoded};
 ghost use Rattle.lalrpop_edits.specs.Given.{item_of};
 ghost use Rattle.bajofeki_rules.specs.Position.{place_after};
+ghost use Rattle.lexdfa_lib.specs.Streams.{LeftOff, Reads};
 ghost use Rattle.tokens_lib.specs.OpenModes.{pushed, pushed_all};
 ghost use Rattle.tokens_lib.specs.Internal.CutTexts.{Comes, GivesCut, IsCutInto, end_by, open_place, opened_by};
 ghost use Rattle.tokens_lib.specs.Internal.Incoming.{IsIncoming};
-ghost use Rattle.tokens_lib.specs.Streams.{LeftOff, Reads};
 
 use crate::cut_end::{CutEnd, OpenMode, TextError};
 use crate::incoming::{Brought, Incoming};
-use crate::streams::{Reader, Source};
 use lalrpop_edits::GivenPiece;
 use lalrpop_lexer::Position;
 use lalrpop_lexer::lexer::dfa::NfaIndex;
 use lalrpop_rules::{Action, RuleLexer};
+use lexdfa_lib::{Reader, Source};
 use std::alloc::{AllocError, Global};
 
 /// Cuts a text piece by piece as it comes, and knows whether a fault was among the pieces, where the modes were entered that

@@ -1,11 +1,11 @@
 //! One file of rules compared with another.
 ghost use Rattle.std.specs.Prelude.{◌≡◌, map, string_bytes, IfOk};
+ghost use Rattle.lexdfa_lib.specs.Streams.{GivesWhole};
 ghost use Rattle.tokens_lib.specs.Program.{ByLexer, ComparedAnswer, other_of};
-ghost use Rattle.tokens_lib.specs.Streams.{GivesWhole};
 
 use crate::by_rules::lexer_by_name;
 use crate::command::Verbosity;
-use crate::files::Files;
+use lexdfa_lib::Files;
 use reports_lib::{FileLexer, Reply, difference_reply};
 use std::alloc::{AllocError, Global};
 

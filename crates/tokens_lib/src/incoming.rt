@@ -3,12 +3,12 @@
 ghost use Rattle.std.specs.Prelude.{◌≡◌, ◌≢◌, ◌<◌, ◌≤◌, ◌+◌, ◌/◌, ◌⊎◌, List, ℕ, [], true, false, length, IfOk, IfSome, IfNone, OnOk, OnErr};
 ghost use Rattle.lalrpop_edits.specs.Chunked.{nothing_come};
 ghost use Rattle.lalrpop_edits.specs.Decoded.{nothing_decoded};
+ghost use Rattle.lexdfa_lib.specs.Streams.{AtEnd, Failed, LeftOff, Reads};
 ghost use Rattle.tokens_lib.specs.Internal.Incoming.{IsIncoming, ReadsOn, GrowsBy, behind_mark, end_of, held};
-ghost use Rattle.tokens_lib.specs.Streams.{AtEnd, Failed, LeftOff, Reads};
 
-use crate::streams::{Reader, Source};
 use lalrpop_edits::{Chunks, TextDecoder};
 use lalrpop_rules::RuleLexer;
+use lexdfa_lib::{Reader, Source};
 use std::alloc::{AllocError, Global};
 
 /// How many bytes a read asks for. More than these are much to hold back.

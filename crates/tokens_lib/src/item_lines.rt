@@ -1,7 +1,7 @@
 //! The lines of the pieces of a text, written as they come.
 ghost use Rattle.std.specs.Prelude.{IfOk, IfErr};
+ghost use Rattle.lexdfa_lib.specs.Streams.{Reading, Reads};
 ghost use Rattle.reports_lib.specs.ItemLines.{item_lines};
-ghost use Rattle.tokens_lib.specs.Streams.{Reading, Reads};
 ghost use Rattle.tokens_lib.specs.Written.{WritesCut, WritesCutPart};
 
 use crate::console::Console;
@@ -9,9 +9,8 @@ use crate::cut_end::CutEnd;
 use crate::pieces::write_pieces;
 pub(crate) use crate::sheet::mode_name;
 use crate::sheet::{Form, Sheet};
-use crate::streams::{Reader, Sink, Source};
 use lalrpop_rules::RuleLexer;
-use lexdfa_lib::RunError;
+use lexdfa_lib::{Reader, RunError, Sink, Source};
 use reports_lib::Layout;
 use std::alloc::Global;
 

@@ -3,20 +3,20 @@ ghost use Rattle.std.specs.Prelude.{◌≡◌, ◌<◌, ℕ, List, length, slice
 ghost use Rattle.bajofeki_rules.specs.Lines.{lines};
 ghost use Rattle.lalrpop_rule_file.specs.RuleFile.{AreFileParts, AreRules, ArePlaces, NamesMode, without_mark as without_mark_of};
 ghost use Rattle.lalrpop_rule_file.specs.declared.file_rule.FileRule.{FileRule as FileRuleValue};
+ghost use Rattle.lexdfa_lib.specs.Streams.{GivesWhole};
 ghost use Rattle.tokens_lib.specs.FileAnswers.{BytesAnswer};
 ghost use Rattle.tokens_lib.specs.NamedRules.{StandAt, LinesAnswer, RulesTold, ClashesAnswer};
 ghost use Rattle.tokens_lib.specs.Internal.Faults.{NameOnly};
 ghost use Rattle.tokens_lib.specs.Internal.Listings.{ListingAnswer, form_of, told_first};
-ghost use Rattle.tokens_lib.specs.Streams.{GivesWhole};
 ghost use Rattle.tokens_lib.specs.WarningsSaid.{SaysIfAsked};
 
 use crate::by_rules::{clashes_status, line_refused, rules_refused, unread};
 use crate::checked::check_rules;
 use crate::command::Verbosity;
-use crate::files::{Files, bytes_of};
 use crate::warnings::{warnings_found, warnings_said};
 use lalrpop_rule_file::{RuleFile, read_rules, without_mark};
 use lalrpop_rules::mode_clashes;
+use lexdfa_lib::{Files, bytes_of};
 use reports_lib::{LineForm, ModeFile, Reply, clash_lines};
 use std::alloc::{AllocError, Global};
 

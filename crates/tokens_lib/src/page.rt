@@ -1,6 +1,6 @@
 //! The markup of a text, written as it comes.
 ghost use Rattle.std.specs.Prelude.{true, IfOk, IfErr};
-ghost use Rattle.tokens_lib.specs.Streams.{Reading, Reads};
+ghost use Rattle.lexdfa_lib.specs.Streams.{Reading, Reads};
 ghost use Rattle.tokens_lib.specs.TextAnswer.{page_of};
 ghost use Rattle.tokens_lib.specs.Internal.CutTexts.{IsPageForm};
 ghost use Rattle.tokens_lib.specs.Written.{WritesCut, WritesCutPart};
@@ -10,10 +10,9 @@ use crate::console::Console;
 use crate::cut_end::CutEnd;
 use crate::pieces::write_pieces;
 use crate::sheet::{Form, Sheet};
-use crate::streams::{Reader, Sink, Source};
 use lalrpop_markup::Painter;
 use lalrpop_rules::RuleLexer;
-use lexdfa_lib::RunError;
+use lexdfa_lib::{Reader, RunError, Sink, Source};
 use std::alloc::{AllocError, Global};
 
 // What is written for a page.

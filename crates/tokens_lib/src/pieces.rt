@@ -3,7 +3,8 @@ ghost use Rattle.std.specs.Prelude.{◌≡◌, ◌++◌, ℕ, List, [], true, If
 ghost use Rattle.lalrpop_edits.specs.Chunked.{Chunked};
 ghost use Rattle.lalrpop_edits.specs.Given.{item_of};
 ghost use Rattle.lalrpop_rules.specs.declared.item.Item.{Item as ItemValue};
-ghost use Rattle.tokens_lib.specs.Streams.{Console as ConsoleValue, Reading, Reads, Writes, WritesPart};
+ghost use Rattle.lexdfa_lib.specs.Streams.{Reading, Reads};
+ghost use Rattle.tokens_lib.specs.Console.{Console as ConsoleValue, Writes, WritesPart};
 ghost use Rattle.tokens_lib.specs.Internal.CutTexts.{goes_on, piece_shown, shown, IsGiven, IsGivenInPart, GivesAll};
 ghost use Rattle.tokens_lib.specs.Written.{WritesCut, WritesCutPart};
 
@@ -11,8 +12,7 @@ use crate::console::Console;
 use crate::cut_end::CutEnd;
 use crate::cutter::{Cut, Cutter, stopped};
 use crate::sheet::Sheet;
-use crate::streams::{Reader, Sink, Source};
-use lexdfa_lib::RunError;
+use lexdfa_lib::{Reader, RunError, Sink, Source};
 use std::alloc::Global;
 
 // What waits is written once it has this many bytes.

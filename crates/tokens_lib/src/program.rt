@@ -2,10 +2,11 @@
 ghost use Rattle.std.specs.Prelude.{◌≡◌, ◌≢◌, ◌≤◌, map, length, nat_lt, string_bytes, Err, IfOk, OnOk, IfErr};
 ghost use Rattle.std.specs.Process.{exit_status};
 ghost use Rattle.lexdfa_lib.specs.Ending.{ending_status};
+ghost use Rattle.lexdfa_lib.specs.Streams.{GivesWhole, IsTold};
 ghost use Rattle.reports_lib.specs.Answer.{refusal};
+ghost use Rattle.tokens_lib.specs.Console.{Answers, Begins, Fails};
 ghost use Rattle.tokens_lib.specs.FileAnswers.{TextsAnswer, FirstTextsAnswer};
 ghost use Rattle.tokens_lib.specs.Program.{ActionAnswer, ByLexer, CommandAnswer, IsAnswer, IsFirstAnswer, ending, failure_text, information};
-ghost use Rattle.tokens_lib.specs.Streams.{Answers, Begins, Fails, GivesWhole, IsTold};
 ghost use Rattle.tokens_lib.specs.TextAnswer.{PiecesAnswer, PiecesPart, PageAnswer, PagePart};
 ghost use Rattle.tokens_lib.specs.Usage.{help, version, wrong_text};
 
@@ -18,14 +19,14 @@ use crate::console::Console;
 use crate::cut_files::{Task, cut_all};
 use crate::differing::compare;
 use crate::emitted::emit;
-use crate::files::{ErrorStream, Files, SystemFiles};
 use crate::listing::{Listing, list_rules};
-use crate::output::Output;
 use crate::pictured::draw;
 use crate::progress::reading_message;
-use crate::streams::{Reader, Sink, Source, System, Writer};
 use crate::usage::{help, version, wrong_text};
-use lexdfa_lib::{Failure, RunError, flushed, status_of, without_arguments};
+use lexdfa_lib::{
+    ErrorStream, Failure, Files, Output, Reader, RunError, Sink, Source, System, SystemFiles,
+    Writer, flushed, status_of, without_arguments,
+};
 use reports_lib::{LineForm, Reply};
 use std::alloc::{AllocError, Global};
 use std::env;

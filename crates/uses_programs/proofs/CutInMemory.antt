@@ -5,13 +5,13 @@ use Rattle.std.specs.List.{list_any}
 use Rattle.std.specs.Str.{bytes_eq}
 use Rattle.std.specs.Io.KnownBytes.{Consumes, IsAtEnd}
 use Rattle.lalrpop_rules.specs.Modes.{ModeRules}
+use Rattle.lexdfa_lib.specs.Streams.{EndsReading, GivesWhole, NotOpened, ReadEnd, Reading, Reads, Stream, opened}
 use Rattle.tokens_lib.specs.Answer.{Answer, followed, remark}
 use Rattle.tokens_lib.specs.Arguments.{joined, names, options}
 use Rattle.tokens_lib.specs.Command.{IsArgumentsError, IsCommand, IsFilesError, asks_help, asks_version, given, has, options_of, unknown, verbosity_of}
 use Rattle.tokens_lib.specs.FileAnswers.{BytesAnswer, ReadingAnswer, TextsAnswer}
 use Rattle.tokens_lib.specs.NamedRules.{LexerOf, RulesOf}
 use Rattle.tokens_lib.specs.Program.{ActionAnswer, CommandAnswer, IsAnswer, WordsAnswer}
-use Rattle.tokens_lib.specs.Streams.{EndsReading, GivesWhole, NotOpened, ReadEnd, Reading, Reads, Stream, opened}
 use Rattle.tokens_lib.specs.Progress.{reading_text}
 use Rattle.tokens_lib.specs.TextAnswer.{PiecesAnswer, PiecesPart}
 use Rattle.reports_lib.specs.declared.layout.LineForm.{LineForm}

@@ -8,11 +8,11 @@ use Rattle.lalrpop_rules.specs.declared.error.RulesError.{RulesError}
 use Rattle.lalrpop_rules.specs.declared.error.RulesError.TheVariants as errors
 use Rattle.bajofeki_rules.specs.declared.position.Position.{Position}
 use Rattle.bajofeki_rules.specs.declared.rule.Rule.{Rule}
+use Rattle.lexdfa_lib.specs.Streams.{Reading, Reads, Stream, opened}
 use Rattle.reports_lib.specs.Answer.{Answer, followed, headed, refusal, remark}
 use Rattle.reports_lib.specs.Reasons.{SaysBadLine, SaysRules}
 use Rattle.reports_lib.specs.declared.layout.LineForm.{LineForm}
 use Rattle.tokens_lib.specs.NamedRules.{LexerOf, RulesOf, rules_status}
-use Rattle.tokens_lib.specs.Streams.{Reading, Reads, Stream, opened}
 use Rattle.tokens_lib.specs.TextAnswer.{PiecesAnswer}
 use Rattle.tokens_lib.specs.declared.command.Verbosity.TheVariants.{Warnings}
 use Rattle.uses_programs.proofs.TextEndingLaws.{CutsMemory, ends_so}

@@ -2,8 +2,9 @@
 use Rattle.std.proofs.Common.{◌≡◌, ℕ, Bool, true, false, List, [], Some, None, sym, subst}
 use Rattle.std.specs.Prelude.{Option}
 use Rattle.std.specs.Io.KnownBytes.{Appends}
+use Rattle.lexdfa_lib.specs.Streams.{IsToldBy, Stream, opened}
 use Rattle.tokens_lib.specs.Answer.{Answer}
-use Rattle.tokens_lib.specs.Streams.{Answers, Console, Gives, IsToldBy, Stream, opened}
+use Rattle.tokens_lib.specs.Console.{Answers, Console, Gives}
 
 abbrev pub memory : Stream
 memory = opened (Some []) false

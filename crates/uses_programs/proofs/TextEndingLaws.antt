@@ -26,12 +26,12 @@ use Rattle.lalrpop_rules.specs.declared.item.Item.TheVariants.{Token, Skipped, F
 use Rattle.lalrpop_rules.proofs.ModePieces.{pieces-from-unique, same_after}
 use Rattle.lalrpop_rules.proofs.PieceLaws.{is_front}
 use Rattle.lalrpop_rules.proofs.CallerLaws.{starts_at}
+use Rattle.lexdfa_lib.specs.Streams.{AtEnd, EndsReading, Failed, LeftOff, NotOpened, ReadEnd, Reading, Reads, Stream, opened}
 use Rattle.reports_lib.specs.Answer.{Answer}
 use Rattle.reports_lib.specs.ItemLines.{fault_line, line_at, line_in, mode_named, name_at, piece_line, piece_lines}
 use Rattle.reports_lib.specs.declared.layout.LineForm.{LineForm}
 use Rattle.tokens_lib.specs.CutEnds.{AreGiven, BreaksOff, IsCutTo, IsTextOf, first_fault}
 use Rattle.tokens_lib.specs.OpenModes.{open_after, open_behind, open_mode}
-use Rattle.tokens_lib.specs.Streams.{AtEnd, EndsReading, Failed, LeftOff, NotOpened, ReadEnd, Reading, Reads, Stream, opened}
 use Rattle.tokens_lib.specs.TextAnswer.{PiecesAnswer, cut_status, cut_text, lines_of}
 use Rattle.tokens_lib.specs.declared.cut_end.CutEnd.{CutEnd}
 use Rattle.tokens_lib.specs.declared.cut_end.CutEnd.TheVariants.{Whole, Stopped, Broken}

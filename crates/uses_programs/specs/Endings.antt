@@ -18,6 +18,7 @@ use Rattle.lalrpop_rules.specs.declared.error.RulesError.{RulesError}
 use Rattle.lalrpop_rules.specs.declared.error.RulesError.TheVariants as errors
 use Rattle.lalrpop_rules.specs.declared.item.Item.{Item}
 use Rattle.lalrpop_rules.specs.declared.item.Item.TheVariants.{Fault}
+use Rattle.lexdfa_lib.specs.Streams.{AtEnd, Reading}
 use Rattle.reports_lib.specs.Answer.{Answer, about, followed, headed, refusal}
 use Rattle.reports_lib.specs.Reasons.{SaysRules, placed, syntax_text}
 use Rattle.reports_lib.specs.declared.layout.LineForm.{LineForm}
@@ -25,7 +26,6 @@ use Rattle.reports_lib.specs.declared.layout.LineForm.TheVariants.{Plain}
 use Rattle.tokens_lib.specs.CutEnds.{IsCutTo, IsTextOf, first_fault}
 use Rattle.tokens_lib.specs.NamedRules.{IsSetOf, SayRules, StandAt, rules_status}
 use Rattle.tokens_lib.specs.OpenModes.{open_behind, open_mode}
-use Rattle.tokens_lib.specs.Streams.{AtEnd, Reading}
 use Rattle.tokens_lib.specs.TextAnswer.{cut_status, cut_text, fault_text, lines_of}
 use Rattle.tokens_lib.specs.WarningsSaid.{Warned}
 use Rattle.tokens_lib.specs.declared.command.Verbosity.TheVariants.{Warnings}

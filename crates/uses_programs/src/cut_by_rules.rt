@@ -2,9 +2,10 @@
 ghost use Rattle.std.specs.Prelude.{◌≡◌, ◌≢◌, false, true, map, string_bytes, IfOk, IfErr};
 ghost use Rattle.lalrpop_rules.specs.ModeSet.{rules_of};
 ghost use Rattle.lalrpop_rules.specs.RuleSet.{names_of};
+ghost use Rattle.lexdfa_lib.specs.Streams.{Reading, Reads, Stream, opened};
+ghost use Rattle.tokens_lib.specs.Console.{Console as ConsoleValue};
 ghost use Rattle.tokens_lib.specs.ItemLines.{item_lines};
 ghost use Rattle.tokens_lib.specs.RuleClashes.{clash_lines as lines_of_clashes};
-ghost use Rattle.tokens_lib.specs.Streams.{Console as ConsoleValue, Reading, Reads, Stream, opened};
 ghost use Rattle.tokens_lib.specs.TextAnswer.{page_of};
 ghost use Rattle.tokens_lib.specs.Written.{WritesCut, WritesCutPart};
 

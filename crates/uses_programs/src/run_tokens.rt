@@ -1,10 +1,11 @@
 //! The program `tokens` over files and streams of a caller.
 ghost use Rattle.std.specs.Prelude.{◌≡◌, ◌≢◌, ◌≤◌, ◌⊎◌, ◌∷◌, ◌++◌, ℕ, List, [], Some, true, false, codes, map, string_bytes, IfOk, IfErr, IfSome};
+ghost use Rattle.lexdfa_lib.specs.Streams.{AtEnd, NotOpened, Reading, Reads, Stream, opened};
 ghost use Rattle.tokens_lib.specs.Answer.{Answer, followed, refusal};
 ghost use Rattle.tokens_lib.specs.Command.{options_of};
+ghost use Rattle.tokens_lib.specs.Console.{Answers, Fails};
 ghost use Rattle.tokens_lib.specs.NamedRules.{LexerOf, RulesOf};
 ghost use Rattle.tokens_lib.specs.Program.{IsAnswer, IsFirstAnswer};
-ghost use Rattle.tokens_lib.specs.Streams.{Answers, AtEnd, Fails, NotOpened, Reading, Reads, Stream, opened};
 ghost use Rattle.tokens_lib.specs.TextAnswer.{PiecesAnswer};
 ghost use Rattle.tokens_lib.specs.Usage.{wrong_text};
 ghost use Rattle.tokens_lib.specs.declared.command.ArgumentsError.TheVariants.{NoRules};
@@ -20,7 +21,7 @@ pub struct BothFiles<'bytes> {
     pub text: &'bytes [u8],
 }
 
-// Needs tokens_lib::NoBytes::from: ghost from_gives.
+// Needs lexdfa_lib::NoBytes::from: ghost from_gives.
 // No read of them fails.
 impl<'bytes> Files for BothFiles<'bytes> {
     ghost gives = { λ both name reading. ((name ≡ codes "rules")

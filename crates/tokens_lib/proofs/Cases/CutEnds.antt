@@ -12,10 +12,10 @@ use Rattle.bajofeki_rules.specs.Stack.{start}
 use Rattle.lalrpop_rules.proofs.UniquePieces.{no_piece_left}
 use Rattle.lalrpop_rules.specs.declared.item.Item.{Item}
 use Rattle.lalrpop_rules.specs.declared.item.Item.TheVariants.{Token, Skipped, Fault}
+use Rattle.lexdfa_lib.specs.Streams.{Reading, AtEnd, Failed, LeftOff}
 use Rattle.tokens_lib.specs.declared.cut_end.TextError.{TextError}
 use Rattle.tokens_lib.specs.declared.cut_end.TextError.TheVariants.{Read}
 use Rattle.tokens_lib.specs.CutEnds.{AreGiven, BreaksOff, IsCutTo, first_fault}
-use Rattle.tokens_lib.specs.Streams.{Reading, AtEnd, Failed, LeftOff}
 use Rattle.tokens_lib.specs.declared.cut_end.CutEnd.TheVariants.{Whole, Stopped}
 use Rattle.tokens_lib.specs.declared.cut_end.OpenMode.{OpenMode}
 

@@ -4,7 +4,7 @@ use Rattle.std.specs.Prelude.{Some, None}
 use Rattle.reports_lib.specs.Answer.{Answer, silence, refusal, followed}
 use Rattle.tokens_lib.specs.FileAnswers.{shown_name, FileGives, ReadingAnswer, NumberedAnswer, NumberedPart, FilesAnswer, FirstFilesAnswer, cut_files, TextsAnswer}
 use Rattle.std.specs.Fmt.{digits}
-use Rattle.tokens_lib.specs.Streams.{Stream, Reading, Reads, AtEnd, Failed, NotOpened, opened}
+use Rattle.lexdfa_lib.specs.Streams.{Stream, Reading, Reads, AtEnd, Failed, NotOpened, opened}
 use Rattle.tokens_lib.specs.declared.command.Verbosity.TheVariants.{Progress}
 
 -- ---- FILEs

@@ -5,10 +5,10 @@ use Rattle.lalrpop_rules.specs.Modes.{ModeRules}
 use Rattle.lexdfa_lib.specs.declared.ending.Failure.{Failure}
 use Rattle.lexdfa_lib.specs.declared.ending.Failure.TheVariants.{Usage, Run as Failing}
 use Rattle.lexdfa_lib.specs.declared.error.RunError.TheVariants.{OutOfMemory, Read, Write}
+use Rattle.lexdfa_lib.specs.Streams.{Given, Reading, NotOpened, Stream}
 use Rattle.reports_lib.specs.Answer.{refusal, silence, about}
 use Rattle.reports_lib.specs.declared.layout.LineForm.TheVariants.{Plain}
 use Rattle.tokens_lib.specs.Program.{ending, failure_text, information, IsAnswer, IsFirstAnswer, other_of, ComparedAnswer}
-use Rattle.tokens_lib.specs.Streams.{Given, Reading, NotOpened, Stream}
 use Rattle.tokens_lib.specs.Usage.{help}
 use Rattle.tokens_lib.specs.declared.command.Action.TheVariants.{Cut}
 use Rattle.tokens_lib.specs.declared.command.Command.TheVariants.{Help, Run}

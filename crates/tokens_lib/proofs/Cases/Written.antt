@@ -9,8 +9,9 @@ use Rattle.bajofeki_rules.specs.Stack.{Stack, start as first_stack}
 use Rattle.lalrpop_rules.proofs.UniquePieces.{no_piece_left}
 use Rattle.lalrpop_rules.specs.declared.item.Item.{Item}
 use Rattle.lexdfa_lib.specs.declared.error.RunError.TheVariants.{Write}
+use Rattle.lexdfa_lib.specs.Streams.{opened}
+use Rattle.tokens_lib.specs.Console.{Console}
 use Rattle.tokens_lib.specs.CutEnds.{first_fault}
-use Rattle.tokens_lib.specs.Streams.{Console, opened}
 use Rattle.tokens_lib.specs.TextAnswer.{page_of}
 use Rattle.tokens_lib.specs.Written.{WritesCut, WritesCutPart}
 use Rattle.tokens_lib.specs.declared.command.Markup.TheVariants.{Html}

@@ -12,11 +12,12 @@ use Rattle.bajofeki_rules.specs.declared.action.Action.{Action}
 use Rattle.lalrpop_rules.specs.Pieces.{joined, slice_of, start_of}
 use Rattle.lalrpop_rules.specs.declared.item.Item.{Item}
 use Rattle.lalrpop_rules.specs.declared.item.Item.TheVariants.{Token, Skipped, Fault}
+use Rattle.lexdfa_lib.specs.Streams.{Stream, ReadEnd, AtEnd, Failed, LeftOff, Reads}
 use Rattle.reports_lib.specs.ItemLines.{line_in, mode_named, name_at}
 use Rattle.reports_lib.specs.declared.layout.LineForm.{LineForm}
+use Rattle.tokens_lib.specs.Console.{Console, Writes, WritesPart}
 use Rattle.tokens_lib.specs.CutEnds.{BreaksOff, first_fault}
 use Rattle.tokens_lib.specs.OpenModes.{open_behind, pushed_all}
-use Rattle.tokens_lib.specs.Streams.{Stream, ReadEnd, AtEnd, Failed, LeftOff, Reads, Console, Writes, WritesPart}
 use Rattle.lexdfa_lib.specs.declared.error.RunError.{RunError}
 use Rattle.tokens_lib.specs.Internal.Incoming.{IsIncoming}
 use Rattle.tokens_lib.specs.declared.command.Markup.{Markup}

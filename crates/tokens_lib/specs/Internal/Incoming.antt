@@ -3,8 +3,8 @@ use Rattle.std.specs.Prelude.{◌≡◌, ◌⊎◌, ◌+◌, ℕ, Bool, true, fa
 use Rattle.lalrpop_edits.specs.Chunked.{Chunked}
 use Rattle.lalrpop_edits.specs.Decoded.{IsBegun, IsBad}
 use Rattle.lalrpop_rule_file.specs.RuleFile.{without_mark}
+use Rattle.lexdfa_lib.specs.Streams.{Stream, Reads, ReadEnd, AtEnd, Failed, LeftOff}
 use Rattle.tokens_lib.specs.CutEnds.{IsTextOf}
-use Rattle.tokens_lib.specs.Streams.{Stream, Reads, ReadEnd, AtEnd, Failed, LeftOff}
 use Rattle.tokens_lib.specs.declared.incoming.Brought.{Brought}
 use Rattle.tokens_lib.specs.declared.incoming.Brought.TheVariants.{More, Nothing, Failure}
 use Rattle.tokens_lib.specs.declared.incoming.Incoming.{Incoming}

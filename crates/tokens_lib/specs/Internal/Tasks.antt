@@ -1,7 +1,7 @@
 -- What is done with each text.
 use Rattle.std.specs.Prelude.{ℕ, ◌⊎◌, List, map, string_bytes}
+use Rattle.lexdfa_lib.specs.Streams.{Reading}
 use Rattle.reports_lib.specs.Answer.{Answer}
-use Rattle.tokens_lib.specs.Streams.{Reading}
 use Rattle.tokens_lib.specs.TextAnswer.{PiecesAnswer, PiecesPart, PageAnswer, PagePart}
 use Rattle.tokens_lib.specs.declared.cut_files.Task.{Task}
 use Rattle.tokens_lib.specs.declared.cut_files.Task.TheVariants.{Pieces, Markup}

@@ -1,6 +1,6 @@
 use Rattle.std.proofs.Common.{map, take}
+use Rattle.tokens_lib.specs.Console.{Answers}
 use Rattle.tokens_lib.specs.FileAnswers.{ReadingAnswer, FilesAnswer, NumberedAnswer}
-use Rattle.tokens_lib.specs.Streams.{Answers}
 use Rattle.tokens_lib.specs.Internal.Tasks.{TaskAnswer}
 use Rattle.tokens_lib.proofs.cut_files.cut_each.Given as goal
 

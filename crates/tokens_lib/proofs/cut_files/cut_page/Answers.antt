@@ -1,6 +1,6 @@
 use Rattle.std.proofs.Common.{true, map, string_bytes, refl}
 use Rattle.std.proofs.lemmas.Result.{IfErr-weaker, err_from_is_err_and}
-use Rattle.tokens_lib.specs.Streams.{Reads}
+use Rattle.lexdfa_lib.specs.Streams.{Reads}
 use Rattle.tokens_lib.specs.TextAnswer.{page_of}
 use Rattle.tokens_lib.proofs.TextLaws.{where_ok, cut_part, cut_answered, cut_untold}
 use Rattle.tokens_lib.proofs.cut_files.cut_page.Goals as goal

@@ -1,6 +1,6 @@
 use Rattle.std.proofs.Common.{map, string_bytes}
 use Rattle.std.proofs.lemmas.Result.{IfErr-weaker, err_from_is_err_and}
-use Rattle.tokens_lib.specs.Streams.{Reads}
+use Rattle.lexdfa_lib.specs.Streams.{Reads}
 use Rattle.tokens_lib.specs.TextAnswer.{lines_of}
 use Rattle.tokens_lib.proofs.TextLaws.{same_lines, where_ok, cut_part, cut_answered, cut_untold}
 use Rattle.tokens_lib.proofs.cut_files.cut_pieces.Goals as goal

@@ -1,6 +1,6 @@
 use Rattle.std.proofs.Common.{map, string_bytes}
 use Rattle.std.proofs.lemmas.Result.{IfOk-weaker}
-use Rattle.tokens_lib.specs.Streams.{GivesWhole}
+use Rattle.lexdfa_lib.specs.Streams.{GivesWhole}
 use Rattle.tokens_lib.specs.Program.{ComparedAnswer, other_of}
 use Rattle.tokens_lib.proofs.RuleLaws.{by_lexer, no_lexer}
 use Rattle.tokens_lib.proofs.differing.compare.Goals as goal

@@ -1,6 +1,6 @@
 use Rattle.std.proofs.Common.{map, string_bytes}
 use Rattle.std.proofs.lemmas.Result.{IfOk-weaker}
-use Rattle.tokens_lib.specs.Streams.{GivesWhole}
+use Rattle.lexdfa_lib.specs.Streams.{GivesWhole}
 use Rattle.reports_lib.specs.Compared.{DifferenceAnswer}
 use Rattle.tokens_lib.proofs.RuleLaws.{by_lexer, no_lexer}
 use Rattle.tokens_lib.proofs.differing.compare_with.Goals as goal

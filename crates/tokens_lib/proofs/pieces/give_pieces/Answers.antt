@@ -4,7 +4,7 @@ use Rattle.std.specs.Str.{chars}
 use Rattle.lexdfa_lib.specs.declared.error.RunError.TheVariants.{OutOfMemory}
 use Rattle.lalrpop_rules.proofs.Results.{handed_on}
 use Rattle.lalrpop_edits.specs.Given.{item_of}
-use Rattle.tokens_lib.specs.Streams.{WritesPart}
+use Rattle.tokens_lib.specs.Console.{WritesPart}
 use Rattle.tokens_lib.specs.Internal.CutTexts.{GivesCut, goes_on, is_fault}
 use Rattle.tokens_lib.proofs.CutLaws.{fault_by, slice_by}
 use Rattle.tokens_lib.proofs.GivingLaws.{GivesSome, as_more, in_part_more, in_part_now, less_left, one_more, same_piece, some_slice, stops_at, waits_now, waits_or_stops}

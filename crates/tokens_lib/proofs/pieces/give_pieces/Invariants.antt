@@ -1,6 +1,6 @@
 use Rattle.std.proofs.Common.{◌≡◌, ℕ, length, List}
 use Rattle.lalrpop_rules.specs.declared.item.Item.{Item}
-use Rattle.tokens_lib.specs.Streams.{Console}
+use Rattle.tokens_lib.specs.Console.{Console}
 use Rattle.tokens_lib.specs.Internal.CutTexts.{IsAsBefore, IsGiven}
 use Rattle.tokens_lib.proofs.pieces.give_pieces.Given as goal
 

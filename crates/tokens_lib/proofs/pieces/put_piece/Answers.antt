@@ -3,9 +3,9 @@ use Rattle.lalrpop_edits.specs.Given.{item_of}
 use Rattle.lalrpop_rules.proofs.Results.{handed_on}
 use Rattle.lexdfa_lib.specs.declared.error.RunError.{RunError}
 use Rattle.lexdfa_lib.specs.declared.error.RunError.TheVariants.{OutOfMemory}
-use Rattle.tokens_lib.specs.Streams.{WritesPart}
+use Rattle.tokens_lib.specs.Console.{WritesPart}
 use Rattle.tokens_lib.specs.Internal.CutTexts.{piece_shown}
-use Rattle.tokens_lib.proofs.StreamLaws.{writes_front, writes_none}
+use Rattle.tokens_lib.proofs.AnswerLaws.{writes_front, writes_none}
 use Rattle.tokens_lib.proofs.pieces.put_piece.Goals as goal
 
 pub returns-in_err-push-clause-part : goal.returns-in_err-push-clause-part

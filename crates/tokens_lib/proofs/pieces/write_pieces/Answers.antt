@@ -7,7 +7,7 @@ use Rattle.lexdfa_lib.specs.declared.error.RunError.TheVariants.{OutOfMemory}
 use Rattle.tokens_lib.specs.Internal.CutTexts.{Comes, GivesAll}
 use Rattle.tokens_lib.specs.declared.cut_end.CutEnd.{CutEnd}
 use Rattle.tokens_lib.proofs.ComingLaws.{WritesSome, at_a_fault, ends_at_last, gives_so, goes_further, has_read, in_part, lost, part_so}
-use Rattle.tokens_lib.proofs.StreamLaws.{reads_none}
+use Rattle.lexdfa_lib.proofs.StreamLaws.{reads_none}
 use Rattle.tokens_lib.proofs.pieces.write_pieces.Goals as goal
 
 pub returns-in_err-coming-clause-part : goal.returns-in_err-coming-clause-part

@@ -1,7 +1,7 @@
 use Rattle.std.proofs.Common.{List, ℕ, Bor, map, string_bytes}
 use Rattle.std.proofs.lemmas.Result.{IfOk-weaker, IfErr-weaker, err_from_is_err_and}
+use Rattle.lexdfa_lib.specs.Streams.{GivesWhole}
 use Rattle.tokens_lib.specs.FileAnswers.{TextsAnswer, FirstTextsAnswer}
-use Rattle.tokens_lib.specs.Streams.{GivesWhole}
 use Rattle.tokens_lib.specs.TextAnswer.{PageAnswer, PagePart}
 use Rattle.tokens_lib.proofs.AnswerLaws.{fails_of_memory}
 use Rattle.tokens_lib.proofs.RuleLaws.{lexer_answers, lexer_fails, lexer_unsaid, reply_answers, reply_fails, no_lexer, no_texts}

@@ -1,6 +1,6 @@
 use Rattle.std.proofs.Common.{Some, ap, false, map, string_bytes, ◌∙◌}
 use Rattle.std.proofs.lemmas.Result.{IfOk-weaker}
-use Rattle.tokens_lib.specs.Streams.{opened}
+use Rattle.lexdfa_lib.specs.Streams.{opened}
 use Rattle.uses_programs.proofs.CutInMemory.{cut_answers}
 use Rattle.uses_programs.proofs.run_tokens.cut_two_in_memory.Goals as goal
 

@@ -1,6 +1,6 @@
 use Rattle.std.proofs.Common.{map, subst, string_bytes}
+use Rattle.lexdfa_lib.specs.Streams.{Stream}
 use Rattle.tokens_lib.specs.Program.{IsAnswer}
-use Rattle.tokens_lib.specs.Streams.{Stream}
 use Rattle.uses_programs.proofs.Memory.{exact}
 use Rattle.uses_programs.proofs.run_tokens.run_in_memory.Goals as goal
 

@@ -2,8 +2,9 @@ use Rattle.std.proofs.Common.{◌≡◌, ℕ, List, refl}
 use Rattle.std.specs.Prelude.{Result, Ok, Err, IfErr}
 use Rattle.lexdfa_lib.specs.declared.error.RunError.{RunError}
 use Rattle.lexdfa_lib.specs.declared.error.RunError.TheVariants.{OutOfMemory}
+use Rattle.lexdfa_lib.specs.Streams.{IsToldPart}
 use Rattle.reports_lib.specs.Answer.{remark}
-use Rattle.tokens_lib.specs.Streams.{Console, Fails, IsToldPart}
+use Rattle.tokens_lib.specs.Console.{Console, Fails}
 use Rattle.tokens_lib.proofs.AnswerLaws.{Fails-said}
 use Rattle.tokens_lib.proofs.console.Console.say.Goals as goal
 

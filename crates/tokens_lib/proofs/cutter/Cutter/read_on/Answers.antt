@@ -1,6 +1,6 @@
 use Rattle.std.proofs.Common.{refl, sym, ap, ◌∙◌}
+use Rattle.lexdfa_lib.specs.Streams.{AtEnd, Failed, LeftOff}
 use Rattle.tokens_lib.specs.declared.cut_end.TextError.TheVariants.{NotText}
-use Rattle.tokens_lib.specs.Streams.{AtEnd, Failed, LeftOff}
 use Rattle.tokens_lib.specs.declared.cutter.Coming.TheVariants.{More, NoCharacter, Failure}
 use Rattle.tokens_lib.proofs.ComingLaws.{comes_so, comes_whole, size_is, still_goes}
 use Rattle.tokens_lib.proofs.cutter.Cutter.read_on.Goals as goal

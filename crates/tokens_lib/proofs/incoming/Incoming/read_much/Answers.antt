@@ -1,8 +1,8 @@
 use Rattle.std.proofs.Common.{◌≡◌, false, arith, rules}
-use Rattle.tokens_lib.specs.Streams.{AtEnd, Failed, LeftOff}
+use Rattle.lexdfa_lib.specs.Streams.{AtEnd, Failed, LeftOff}
 use Rattle.tokens_lib.specs.Internal.Incoming.{held}
 use Rattle.tokens_lib.proofs.Incomings.{held_on, lost_again, on_again, on_err, on_with_nothing}
-use Rattle.tokens_lib.proofs.StreamLaws.{reads_none}
+use Rattle.lexdfa_lib.proofs.StreamLaws.{reads_none}
 use Rattle.tokens_lib.proofs.incoming.Incoming.read_much.Goals as goal
 
 pub loop-n-init : goal.loop-n-init

@@ -1,5 +1,5 @@
 use Rattle.std.proofs.Common.{◌≡◌, ◌+◌, ◌<◌, ◌≤◌, false}
-use Rattle.tokens_lib.specs.Streams.{LeftOff}
+use Rattle.lexdfa_lib.specs.Streams.{LeftOff}
 use Rattle.tokens_lib.specs.Internal.Incoming.{ReadsOn, held}
 use Rattle.tokens_lib.proofs.incoming.Incoming.read_much.Given as goal
 

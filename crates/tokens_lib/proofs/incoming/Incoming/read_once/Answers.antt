@@ -1,5 +1,5 @@
 use Rattle.std.proofs.Common.{arith, refl, inr}
-use Rattle.tokens_lib.specs.Streams.{AtEnd, Failed}
+use Rattle.lexdfa_lib.specs.Streams.{AtEnd, Failed}
 use Rattle.tokens_lib.proofs.Incomings.{on_with_none, on_with_nothing}
 use Rattle.tokens_lib.proofs.incoming.Incoming.read_once.Goals as goal
 

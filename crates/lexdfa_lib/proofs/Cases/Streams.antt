@@ -2,8 +2,7 @@
 use Rattle.std.proofs.Common.{◌≡◌, List, ℕ, [], ◌∷◌, true, false, inl, inr, Some, codes, refl, ap, arith}
 use Rattle.std.specs.Prelude.{Ok, Err}
 use Rattle.lexdfa_lib.specs.declared.error.RunError.TheVariants.{OutOfMemory, Read, Write}
-use Rattle.reports_lib.specs.Answer.{refusal, silence}
-use Rattle.tokens_lib.specs.Streams.{Stream, Console, AtEnd, Failed, NotOpened, LeftOff, GivesWhole, Reads, EndsReading, Takes, TakesPart, IsTold, Answers, Fails, opened}
+use Rattle.lexdfa_lib.specs.Streams.{Stream, AtEnd, Failed, NotOpened, LeftOff, GivesWhole, Reads, EndsReading, Takes, TakesPart, IsTold, opened}
 
 -- bytes in memory, of which no read or write fails; and a pipe, of which one may
 abbrev memory : List ℕ → Stream
@@ -81,20 +80,3 @@ told_nothing = refl
 
 told_no_more : ¬ IsTold (broken []) (codes "b") (broken (98 ∷ []))
 told_no_more e = let b = ap (λ (s : Stream). s.bytes) e in absurd (cc (b))
-
--- ---- answers
-
-abbrev screen : List ℕ → List ℕ → Console
-screen out err = record { out = memory out; err = memory err }
-
--- a refusal is said, and nothing is written
-refused : Answers (λ answer. answer ≡ refusal 3 (codes "no")) (screen [] []) 3 (screen [] (codes "no"))
-refused = (refusal 3 (codes "no"), (refl, (refl, record { out = (refl, refl); err = (refl, refl) })))
-
--- with no other status
-no_other_status : ¬ Answers (λ answer. answer ≡ refusal 3 (codes "no")) (screen [] []) 2 (screen [] (codes "no"))
-no_other_status (answer, (is, (status, given))) = absurd (cc (is, status))
-
--- memory is refused before anything is given
-fails_at_once : Fails (λ answer. ⊥) (screen [] []) OutOfMemory (screen [] [])
-fails_at_once = (silence, (inl refl, ((refl, (0, omega arith, refl)), (0, omega arith, (refl, refl)))))

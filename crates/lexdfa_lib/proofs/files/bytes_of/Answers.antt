@@ -1,7 +1,7 @@
 use Rattle.std.proofs.Common.{◌≡◌, ℕ, List, inr, subst}
 use Rattle.std.specs.Prelude.{Option, Some, None, IfNone}
-use Rattle.tokens_lib.specs.Streams.{AtEnd, Failed, Reading, Reads, Stream}
-use Rattle.tokens_lib.proofs.files.bytes_of.Goals as goal
+use Rattle.lexdfa_lib.specs.Streams.{AtEnd, Failed, Reading, Reads, Stream}
+use Rattle.lexdfa_lib.proofs.files.bytes_of.Goals as goal
 
 pub returns-in-Some-clause-bytes : goal.returns-in-Some-clause-bytes
 returns-in-Some-clause-bytes g c =

@@ -8,15 +8,22 @@ ghost use Rattle.std.specs.Result.{IsErrAnd};
 use std::io::{self, ErrorKind, Write};
 
 /// A writer that remembers whether its reader has gone away, as `head` does once it has its lines.
+///
+/// ```
+/// use lexdfa_lib::Output;
+///
+/// let output = Output::new(io::writer(rt));
+/// let is_closed = output.is_closed(); // false: nothing was written yet
+/// ```
 #[derive(Drop)]
-pub(crate) struct Output<W> {
+pub struct Output<W> {
     inner: W,
     is_closed: bool,
 }
 
 impl<W: Write> Output<W> {
     /// Wraps a writer, whose reader is there.
-    pub(crate) fn new(inner: W) -> Output<W>
+    pub fn new(inner: W) -> Output<W>
         ensures { result ≡ record { inner = inner; is_closed = false } }
     {
         Output {
@@ -26,7 +33,7 @@ impl<W: Write> Output<W> {
     }
 
     /// Whether a call has found that the reader has gone away.
-    pub(crate) fn is_closed(&self) -> bool
+    pub fn is_closed(&self) -> bool
         ensures { result ≡ self.now.is_closed }
     {
         self.is_closed

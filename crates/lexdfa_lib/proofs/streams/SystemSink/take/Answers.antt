@@ -1,6 +1,6 @@
 use Rattle.std.proofs.Common.{◌-◌, ◌≤◌, length, drop, arith, length-take, length-drop}
 use Rattle.lexdfa_lib.proofs.Known.{Appends-on}
-use Rattle.tokens_lib.proofs.streams.SystemSink.take.Goals as goal
+use Rattle.lexdfa_lib.proofs.streams.SystemSink.take.Goals as goal
 
 pub loop-at-preserved : goal.loop-at-preserved
 loop-at-preserved g c =

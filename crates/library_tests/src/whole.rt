@@ -1,6 +1,6 @@
 //! The lines, the outcome and the status for lines of terminals and a text that is cut to its end.
 
-use crate::shared::answered_by;
+use crate::runs::answered_by;
 use lexdfa_lib::Outcome;
 use std::alloc::Global;
 use std::process::Abort;

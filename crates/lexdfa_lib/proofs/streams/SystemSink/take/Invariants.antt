@@ -1,6 +1,6 @@
 use Rattle.std.proofs.Common.{◌-◌, ◌≤◌, length, take}
 use Rattle.std.specs.Io.KnownBytes.{Appends}
-use Rattle.tokens_lib.proofs.streams.SystemSink.take.Given as goal
+use Rattle.lexdfa_lib.proofs.streams.SystemSink.take.Given as goal
 
 -- what was taken so far
 abbrev pub invariant-loop-at : goal.invariant-loop-at

@@ -1,6 +1,6 @@
 use Rattle.std.proofs.Common.{◌≡◌, false, ◌-◌, ◌^◌, length, vec_len}
 use Rattle.std.specs.Io.KnownBytes.{Consumes}
-use Rattle.lexdfa_lib.proofs.streams.read_whole.Given as goal
+use Rattle.lexdfa_lib.proofs.watched.read_whole.Given as goal
 
 abbrev pub invariant-loop-all : goal.invariant-loop-all
 invariant-loop-all g l = record {

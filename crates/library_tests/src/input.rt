@@ -1,6 +1,6 @@
 //! Bytes of every kind on the program's input: a run ends with a line of its own.
 
-use crate::shared::answered;
+use crate::runs::answered;
 use std::alloc::Global;
 use std::process::Abort;
 use std::test::Fail;

@@ -1,13 +1,12 @@
 -- cases: proofs/Cases/Streams.antt
--- What a run did to the world: what it read of streams, what it wrote and said, and where a stream broke.
+-- What a run did to its streams: what it read of them, what it wrote, and where one broke.
 use Rattle.std.specs.Prelude.{◌≡◌, ◌⊎◌, ◌≤◌, ℕ, Bool, true, false, List, [], length, take, Option, Some, None, Result, Ok, Err, codes, string_bytes}
 use Rattle.std.specs.Io.KnownBytes.{Appends, Consumes, IsAtEnd}
 use Rattle.lexdfa_lib.specs.Watch.{AppendsPrefix}
 use Rattle.lexdfa_lib.specs.declared.error.RunError.{RunError}
 use Rattle.lexdfa_lib.specs.declared.error.RunError.TheVariants.{OutOfMemory, Read, Write}
-use Rattle.reports_lib.specs.Answer.{Answer, silence}
-use Rattle.tokens_lib.specs.declared.files.NoBytes.{NoBytes}
-use Rattle.tokens_lib.specs.declared.files.NoBytes.TheVariants as no_bytes
+use Rattle.lexdfa_lib.specs.declared.files.NoBytes.{NoBytes}
+use Rattle.lexdfa_lib.specs.declared.files.NoBytes.TheVariants as no_bytes
 
 -- a stream: the bytes that it still gives, or those that it has taken, where they are known; whether a call can fail; and whether one has
 pub record Stream : Type 0 where
@@ -97,40 +96,3 @@ IsTold old bytes new = IsToldBy old.is_broken new.is_broken old bytes new
 -- it is told a prefix of this
 abbrev pub IsToldPart : Stream → List ℕ → Stream → Type 0
 IsToldPart old bytes new = (n : ℕ) × (n ≤ length bytes) × IsTold old (take n bytes) new
-
--- ---- answering
-
--- standard output and standard error
-pub record Console : Type 0 where
-  pub out : Stream
-  pub err : Stream
-
--- these bytes are written, and nothing is said
-abbrev pub Writes : Console → List ℕ → Console → Type 0
-Writes old bytes new = Takes old.out bytes new.out × (new.err ≡ old.err)
-
--- a prefix of them is written
-abbrev pub WritesPart : Console → List ℕ → RunError → Console → Type 0
-WritesPart old bytes error new = TakesPart old.out bytes error new.out × (new.err ≡ old.err)
-
--- this is said, and nothing is written
-abbrev pub Says : Console → List ℕ → Console → Type 0
-Says old said new = IsTold old.err said new.err × (new.out ≡ old.out)
-
--- an answer is given: standard output takes all that it writes, and standard error is told what it says
-pub record Gives (old : Console) (answer : Answer) (new : Console) : Type 0 where
-  pub out : Takes old.out answer.out new.out
-  pub err : IsTold old.err answer.err new.err
-
--- one of these answers is given, and has this status
-abbrev pub Answers : (Answer → Type 0) → Console → ℕ → Console → Type 0
-Answers Is old status new = (answer : Answer) × (Is answer × ((status ≡ answer.status) × Gives old answer new))
-
--- nothing, or one of these answers
-abbrev pub Begins : (Answer → Type 0) → Answer → Type 0
-Begins Is answer = (answer ≡ silence) ⊎ Is answer
-
--- nothing, or one of these answers, is given in part, until this error: a prefix of what it writes, and one of what it says
-abbrev pub Fails : (Answer → Type 0) → Console → RunError → Console → Type 0
-Fails Is old error new =
-    (answer : Answer) × (Begins Is answer × (TakesPart old.out answer.out error new.out × IsToldPart old.err answer.err new.err))

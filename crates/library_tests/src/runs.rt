@@ -1,14 +1,10 @@
-//! What the tests of more than one module use.
+//! Runs of the program `lexdfa`, for the tests of more than one module.
 ghost use Rattle.std.specs.Prelude.{◌≡◌, false};
 
 use lexdfa_lib::{Outcome, RunError, Watched, run, run_all};
 use std::alloc::Global;
 use std::io::{Read, Write};
 use std::process::Abort;
-
-pub(crate) fn expect_same(rt: &impl Abort, found: &str, wanted: &str) {
-    assert_eq!(rt; found, wanted);
-}
 
 // A run that finds the longest match, or one that cuts all of the text.
 pub(crate) fn run_over<R: Read, W: Write>(

@@ -2,7 +2,7 @@
 //! that a failed flush is told.
 
 use crate::failing::{FailsAfter, FailsAtEnd, KINDS};
-use crate::shared::run_over;
+use crate::runs::run_over;
 use lexdfa_lib::{Failure, Outcome, RunError, Watched, run_and_flush};
 use std::alloc::Global;
 use std::io;

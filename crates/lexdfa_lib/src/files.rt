@@ -1,8 +1,7 @@
-//! Files that are read by name.
+//! Files that are read by name, and standard error.
 ghost use Rattle.std.specs.Prelude.{◌≡◌, ℕ, List, [], Ok, Err, codes, string_bytes, IfOk, IfErr, IfSome, IfNone};
-ghost use Rattle.tokens_lib.specs.FileAnswers.{is_input, shown_name};
-ghost use Rattle.tokens_lib.specs.Streams.{Stream, Reading, AtEnd, Failed, NotOpened, GivesWhole, Reads, opened, reason_told};
-ghost use Rattle.tokens_lib.specs.declared.files.NoBytes.TheVariants.{OutOfMemory};
+ghost use Rattle.lexdfa_lib.specs.Streams.{Stream, Reading, AtEnd, Failed, NotOpened, GivesWhole, Reads, opened, reason_told};
+ghost use Rattle.lexdfa_lib.specs.declared.files.NoBytes.TheVariants.{OutOfMemory};
 
 use crate::streams::{Reader, Source, System};
 use std::alloc::{AllocError, Global};
@@ -10,30 +9,10 @@ use std::fs::{File, OpenFile};
 use std::io::{self, Eprint, ErrorKind, Write};
 use std::rt::Files as RuntimeFiles;
 
-/// The status if a file gave no text.
-pub(crate) const NO_TEXT: u8 = 6;
-
-/// The name that standard input has in lines and messages.
-pub(crate) const INPUT: &str = "<stdin>";
-
-/// Whether a file is standard input.
-pub(crate) fn is_input(file: &str) -> bool
-    ensures input { result ≡ is_input file.now }
-{
-    file == "-"
-}
-
-/// The name of a file in lines and messages.
-pub(crate) fn shown_name(file: &str) -> &str
-    ensures name { result.now ≡ shown_name file.now }
-{
-    if is_input(file) { INPUT } else { file }
-}
-
 /// Why there is nothing to read from.
 ///
 /// ```
-/// use tokens_lib::NoBytes;
+/// use lexdfa_lib::NoBytes;
 ///
 /// let reason = NoBytes::Because(String::from_str(alloc, "not found")?);
 /// ```
@@ -56,7 +35,7 @@ impl From<AllocError> for NoBytes {
 /// Files that are opened by name.
 ///
 /// ```
-/// use tokens_lib::{Files, NoBytes};
+/// use lexdfa_lib::{Files, NoBytes};
 ///
 /// struct Nothing;
 ///
@@ -92,8 +71,15 @@ pub trait Files {
 }
 
 /// The files of the system.
+///
+/// ```
+/// use lexdfa_lib::{Files, SystemFiles};
+///
+/// let files = SystemFiles { rt };
+/// let file = files.open(alloc, "words.txt")?;
+/// ```
 #[derive(Drop)]
-pub(crate) struct SystemFiles<'rt, R> {
+pub struct SystemFiles<'rt, R> {
     pub rt: &'rt R,
 }
 
@@ -121,8 +107,14 @@ impl<R: RuntimeFiles> Files for SystemFiles<'_, R> {
 }
 
 /// Standard error, as a writer of text.
+///
+/// ```
+/// use lexdfa_lib::{ErrorStream, System, Writer};
+///
+/// let errors = Writer::new(System(ErrorStream { rt }));
+/// ```
 #[derive(Drop)]
-pub(crate) struct ErrorStream<'rt, R> {
+pub struct ErrorStream<'rt, R> {
     pub rt: &'rt R,
 }
 
@@ -166,7 +158,7 @@ fn bytes_left<S: Source>(
 /// # Errors
 ///
 /// `AllocError` if a request for memory was refused.
-pub(crate) fn bytes_of<F: Files>(
+pub fn bytes_of<F: Files>(
     alloc: Global,
     files: &F,
     name: &str,

@@ -1,6 +1,6 @@
 use Rattle.std.proofs.Common.{◌≡◌, ◌-◌, ◌^◌, length, vec_len}
-use Rattle.tokens_lib.specs.Streams.{LeftOff, Reads}
-use Rattle.tokens_lib.proofs.files.bytes_left.Given as goal
+use Rattle.lexdfa_lib.specs.Streams.{LeftOff, Reads}
+use Rattle.lexdfa_lib.proofs.files.bytes_left.Given as goal
 
 -- what was read so far
 abbrev pub invariant-loop-all : goal.invariant-loop-all

@@ -1,6 +1,6 @@
 //! The line and the status for lines of terminals and a text.
 
-use crate::shared::{answered, expect_same};
+use crate::runs::answered;
 use std::alloc::{AllocError, Global};
 use std::process::Abort;
 
@@ -17,7 +17,7 @@ fn shown(alloc: Global, written: &[u8], status: u8) -> Result<String, AllocError
 fn expect_answer(rt: &impl Abort, alloc: Global, input: &[u8], text: &str, wanted: &str) {
     let (status, written) = answered(rt, alloc, input, text).expect(rt, "an outcome");
     let found = shown(alloc, &written, status).expect(rt, "memory");
-    expect_same(rt, &found, wanted);
+    assert_eq!(rt; found.as_str(), wanted);
 }
 
 // Rows of an input, a text, and the line and the status.
