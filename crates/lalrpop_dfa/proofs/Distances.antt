@@ -1,11 +1,11 @@
 -- How far states are from goals, as it is found.
 use Rattle.std.proofs.Common.{◌≡◌, ◌≢◌, ℕ, ◌⊎◌, inl, inr, ◌+◌, ◌-◌, ◌<◌, ◌≤◌, ⊎_elim, List, [], ◌∷◌, length, get_or, set, get_or-set_same, get_or-set_other, length-set, refl, sym, ap, ◌∙◌, subst, arith}
-use Rattle.std.specs.Prelude.{sum_by, ◌==◌, cond, Option, Some, None}
+use Rattle.std.specs.Prelude.{◌==◌, cond, None}
 use Rattle.std.proofs.lemmas.Bool.{cases_lt, ne_eqb}
 use Rattle.std.proofs.lemmas.List.Sums.{count_by-le-length, sum_by-set}
 use Rattle.lalrpop_hir.specs.Word.{IsWord}
 use Rattle.lalrpop_dfa.specs.Dfa.{Row, step, run, IsWellFormed}
-use Rattle.lalrpop_dfa.specs.Internal.Ranks.{IsLeastInto, IsWanted, IsGoal, IsNear, IsDistance, AreDistances, AreNearest, AreNearer, AreStill, AreWays, IsNearer, unknown, unknown_count}
+use Rattle.lalrpop_dfa.specs.Internal.Ranks.{IsLeastInto, IsWanted, IsGoal, IsNear, AreDistances, AreNearest, AreNearer, AreStill, AreWays, IsNearer, unknown, unknown_count}
 use Rattle.lalrpop_dfa.proofs.EdgeTargets.{step_within}
 use Rattle.lalrpop_dfa.proofs.Ranked.{near_more, near_none, near_on}
 use Rattle.lalrpop_dfa.proofs.Totals.{same_or_other}

@@ -1,13 +1,13 @@
 -- States that can wait forever: those that are left when each that leads to none of them is left out.
-use Rattle.std.proofs.Common.{◌≡◌, ◌≢◌, ℕ, zero, suc, ◌+◌, ◌<◌, ◌≤◌, ◌⊎◌, inl, inr, ⊎_elim, List, length, set, get_or, get_or-set_same, get_or-set_other, length-set, refl, sym, ap, ◌∙◌, subst, arith, Bool, true, false}
-use Rattle.std.specs.Prelude.{slice_get, cond, count_by, Some}
+use Rattle.std.proofs.Common.{◌≡◌, ◌≢◌, ℕ, zero, suc, ◌+◌, ◌<◌, ◌≤◌, inl, inr, ⊎_elim, List, length, set, get_or, get_or-set_same, get_or-set_other, length-set, refl, sym, ap, ◌∙◌, subst, arith, Bool, true, false}
+use Rattle.std.specs.Prelude.{cond, count_by}
 use Rattle.std.proofs.Math.Bool.{beq}
 use lib.Pointwise.{pointwise}
 use Rattle.std.proofs.lemmas.Bool.{cases_lt}
 use Rattle.std.proofs.lemmas.List.Sums.{count_by-le-length, sum_by-set}
 use Rattle.std.proofs.lemmas.Option.{slice_get_within}
 use Rattle.lalrpop_dfa.specs.Dfa.{Row, step}
-use Rattle.lalrpop_dfa.specs.Internal.Marks.{AreLeft, AreLeftOut, AreWaitingEver, AreWaitingFor, IsWaiting, LeadsInto, Marked, WaitsFor}
+use Rattle.lalrpop_dfa.specs.Internal.Marks.{AreLeft, AreLeftOut, AreWaitingEver, AreWaitingFor, LeadsInto, Marked, WaitsFor}
 use Rattle.lalrpop_dfa.proofs.Lookaheads.{waits_before, waits_fewer, waits_next, waits_none}
 use Rattle.lalrpop_dfa.proofs.Marking.{fewer_marks, marked_count, marked_read, read_marked, same_marks}
 

@@ -10,10 +10,10 @@ use Rattle.lalrpop_hir.specs.Range.{Range}
 use Rattle.lalrpop_dfa.specs.declared.Kind.{Kind}
 use Rattle.lalrpop_dfa.specs.declared.Kind.TheVariants.{Accepts}
 use Rattle.lalrpop_dfa.specs.Dfa.{Row, StoredState, AreStored, edge_target, step, AreAscendingTests, IsWellFormed}
-use Rattle.lalrpop_dfa.specs.Lookahead.{Accepted, AcceptedAs, IsAccepting, CanStayOpen, IsLookahead, StaysOpenEver}
+use Rattle.lalrpop_dfa.specs.Lookahead.{Accepted, AcceptedAs, IsAccepting, IsLookahead, StaysOpenEver}
 use Rattle.lalrpop_dfa.specs.Internal.Marks.{Marked, IsAcceptingAs, LeadsInto, AreReached, IsReached, WaitsFor, AreWaitingFor, AreWaitingEver, IsEntered, EntersBy}
 use Rattle.lalrpop_dfa.proofs.EdgeTargets.{place_of, leads_at, leads_none, has_value_at, step_of, step_within, the_some}
-use Rattle.lalrpop_dfa.proofs.Lookaheads.{Enters, waits_next, waits_before, waits_fewer, entered_can, can_entered, at_most, for_ever}
+use Rattle.lalrpop_dfa.proofs.Lookaheads.{Enters, can_entered, for_ever}
 use Rattle.lalrpop_dfa.proofs.Openness.{EndsMatch, can_opens, opens_can}
 
 -- ---- where the values lead from a state: along one of its test edges, or its other edge

@@ -1,20 +1,15 @@
 -- Depths and distances, as they are found.
-use Rattle.std.proofs.Common.{◌≡◌, ◌≢◌, ℕ, zero, suc, ◌⊎◌, inl, inr, ◌↔◌, ◌+◌, ◌<◌, ◌≤◌, ⊎_elim, List, [], ◌∷◌, ◌++◌, length, take, drop, get_or, set, get_or-set_same, get_or-set_other, length-set, ◌-◌, Bool, true, false, refl, sym, ap, ◌∙◌, subst, arith}
-use Rattle.std.specs.Prelude.{slice_get, sum_by, ◌==◌, cond, is_some, Option, Some, None}
-use Rattle.std.proofs.lemmas.Bool.{cases_lt, ne_eqb}
+use Rattle.std.proofs.Common.{◌≡◌, ◌≢◌, ℕ, zero, suc, ◌⊎◌, inl, inr, ◌↔◌, ◌+◌, ◌<◌, ◌≤◌, List, [], ◌∷◌, ◌++◌, length, take, drop, get_or, ◌-◌, Bool, true, false, refl, sym, ap, ◌∙◌, subst, arith}
+use Rattle.std.specs.Prelude.{slice_get, is_some, Option, Some, None}
 use Rattle.std.proofs.Math.Seq.{take-append_seam}
-use Rattle.std.proofs.lemmas.Option.{slice_get-get_or}
-use Rattle.std.proofs.lemmas.List.{length_push, get_or_append_left, get_or_push}
 use Rattle.lalrpop_dfa.specs.declared.Kind.{Kind}
 use Rattle.lalrpop_dfa.specs.declared.Kind.TheVariants.{Accepts}
-use Rattle.std.proofs.lemmas.List.Sums.{sum_by-set}
 use Rattle.lalrpop_hir.specs.Word.{IsWord}
-use Rattle.lalrpop_dfa.specs.Dfa.{Row, step, run, IsWellFormed}
+use Rattle.lalrpop_dfa.specs.Dfa.{Row, step, IsWellFormed}
 use Rattle.lalrpop_dfa.specs.Lookahead.{IsAccepting}
-use Rattle.lalrpop_dfa.specs.Internal.Marks.{IsWaiting, WaitsAlong, WaitsFor, Marked, AreWaitingFor}
-use Rattle.lalrpop_dfa.proofs.Lookaheads.{waits_none}
+use Rattle.lalrpop_dfa.specs.Internal.Marks.{IsWaiting, WaitsAlong}
 use Rattle.lalrpop_dfa.proofs.EdgeTargets.{step_within}
-use Rattle.lalrpop_dfa.specs.Internal.Ranks.{IsLeastInto, IsWanted, StaysFor, IsGoal, IsNear, IsDepth, AreDepths, AreDeep}
+use Rattle.lalrpop_dfa.specs.Internal.Ranks.{IsLeastInto, IsWanted, StaysFor, IsGoal, IsNear, AreDepths}
 
 module _ (d : List Row) where
   -- ---- how long a state stays open

@@ -1,5 +1,5 @@
 -- For how many values in a row states wait.
-use Rattle.std.proofs.Common.{◌≡◌, ◌≢◌, ℕ, zero, suc, ◌+◌, ◌-◌, ◌*◌, ◌<◌, ◌≤◌, ◌⊎◌, inl, inr, ⊎_elim, List, [], ◌∷◌, length, set, get_or, get_or-set_same, get_or-set_other, length-set, refl, sym, ap, ◌∙◌, subst, arith, Bool, true, false}
+use Rattle.std.proofs.Common.{◌≡◌, ◌≢◌, ℕ, zero, suc, ◌+◌, ◌*◌, ◌<◌, ◌≤◌, ◌⊎◌, inl, inr, ⊎_elim, List, [], ◌∷◌, length, set, get_or, get_or-set_same, get_or-set_other, length-set, refl, sym, ap, ◌∙◌, subst, arith, Bool, true, false}
 use Rattle.std.specs.Prelude.{max, replicate, slice_get, Some, if◌then◌else◌}
 use Rattle.std.proofs.lemmas.List.{get_or-replicate, length-replicate}
 use Rattle.std.proofs.Math.Nat.{le-max_left, le-max_right, max-eq_left, max-eq_right}
@@ -8,7 +8,7 @@ use Rattle.std.proofs.lemmas.Option.{slice_get_within}
 use Rattle.lalrpop_hir.specs.Range.{Range}
 use Rattle.lalrpop_dfa.specs.Dfa.{Row, edge_target, step, AreAscendingTests, IsWellFormed}
 use Rattle.lalrpop_dfa.specs.Lookahead.{Accepted, CanStayOpen, IsAccepting, IsLookahead}
-use Rattle.lalrpop_dfa.specs.Internal.Marks.{AreReached, AreWaitingEver, AreWaitingFor, IsEntered, IsWaiting, Marked, WaitsFor}
+use Rattle.lalrpop_dfa.specs.Internal.Marks.{AreReached, AreWaitingEver, IsEntered, IsWaiting, Marked, WaitsFor}
 use Rattle.lalrpop_dfa.specs.Internal.Waits.{AreAllWaits, AreLonger, AreWaits, IsGreatest, IsMostEntered}
 use Rattle.lalrpop_dfa.proofs.EdgeTargets.{step_of, step_within}
 use Rattle.lalrpop_dfa.proofs.Lookaheads.{Enters, at_most, entered_can, waits_before, waits_next, waits_none}

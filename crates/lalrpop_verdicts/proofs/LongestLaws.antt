@@ -1,5 +1,5 @@
 -- Lengths that bound the walks to states that accept: how they are lowered, and what states that answer alike have in common.
-use Rattle.std.proofs.Common.{◌≡◌, ◌≢◌, ℕ, ◌⊎◌, inl, inr, ◌+◌, ◌-◌, ◌<◌, ◌≤◌, List, map, length, get_or, set, get_or-set_same, get_or-set_other, length-set, refl, sym, ap, ◌∙◌, subst, ⊎_elim, arith}
+use Rattle.std.proofs.Common.{◌≡◌, ◌≢◌, ℕ, inl, inr, ◌+◌, ◌<◌, ◌≤◌, List, map, length, get_or, set, get_or-set_same, get_or-set_other, length-set, refl, sym, ap, ◌∙◌, subst, ⊎_elim, arith}
 use Rattle.std.specs.Prelude.{Vec}
 use Rattle.std.specs.Global.{Global}
 use Rattle.std.proofs.lemmas.Bool.{cases_lt}
@@ -9,8 +9,8 @@ use Rattle.lalrpop_dfa.specs.Dfa.{Row, IsWellFormed}
 use Rattle.lalrpop_verdicts.specs.Internal.Classes.{AlikeFrom, AreLeads, AreTried, AreWithin}
 use Rattle.lalrpop_verdicts.specs.Internal.Longest.{AreBounds, AreLongest, AreLowered, IsBound, IsLowered, IsMost, goes_on, stop_at, stops_here}
 use Rattle.lalrpop_verdicts.specs.Internal.Shortest.{AreKept, target_at, targets_at}
-use Rattle.lalrpop_verdicts.specs.Internal.StateWalks.{AreAllLeads}
-use Rattle.lalrpop_verdicts.proofs.ShortestLaws.{same_count, same_or_other, target_within, targets_alike}
+use Rattle.lalrpop_dfa.proofs.Totals.{same_or_other}
+use Rattle.lalrpop_verdicts.proofs.ShortestLaws.{same_count, target_within, targets_alike}
 
 -- ---- where the walks stop
 pub stops_kept : (d : List Row) (shortest stops : List ℕ) → AreKept d shortest → stops ≡ map stop_at shortest → AreKept d stops

@@ -1,19 +1,17 @@
 -- Lengths of walks to states that accept: how they are shortened, and what states that answer alike have in common.
-use Rattle.std.proofs.Common.{◌≡◌, ◌≢◌, ℕ, zero, suc, Bool, true, false, ◌⊎◌, inl, inr, ◌+◌, ◌-◌, ◌<◌, ◌≤◌, List, [], ◌∷◌, map, length, get_or, set, get_or-set_same, get_or-set_other, length-set, refl, sym, ap, ◌∙◌, subst, ⊎_elim, arith}
-use Rattle.std.specs.Prelude.{slice_get, Some, None, Vec}
+use Rattle.std.proofs.Common.{◌≡◌, ◌≢◌, ℕ, zero, suc, ◌⊎◌, inl, inr, ◌+◌, ◌<◌, ◌≤◌, List, [], ◌∷◌, map, length, get_or, set, get_or-set_same, get_or-set_other, length-set, refl, sym, ap, ◌∙◌, subst, ⊎_elim, arith}
+use Rattle.std.specs.Prelude.{slice_get, Some, Vec}
 use Rattle.std.specs.Global.{Global}
-use Rattle.std.specs.List.{AllZip, Contains}
 use Rattle.std.proofs.lemmas.Bool.{cases_lt}
 use Rattle.std.proofs.lemmas.List.{length-map}
 use Rattle.std.proofs.lemmas.List.Elements.{Contains-get_or}
 use Rattle.std.proofs.lemmas.Option.{slice_get-get_or, slice_get_cases}
 use Rattle.lalrpop_dfa.specs.Dfa.{Row, StoredState, AreStored, step, IsWellFormed}
-use Rattle.lalrpop_dfa.proofs.EdgeTargets.{step_within}
+use Rattle.lalrpop_dfa.proofs.Totals.{same_or_other}
 use Rattle.lalrpop_verdicts.specs.Answers.{answer_from}
-use Rattle.lalrpop_verdicts.specs.Internal.Classes.{AlikeFrom, AreLeads, AreSplit, AreFirstPlaces, AreTried, AreWithin, AreClassesOf, leads_of, other_at, row_at}
+use Rattle.lalrpop_verdicts.specs.Internal.Classes.{AlikeFrom, AreLeads, AreSplit, AreFirstPlaces, AreTried, AreWithin, AreClassesOf, leads_of}
 use Rattle.lalrpop_verdicts.specs.Internal.Rounds.{IsRound}
 use Rattle.lalrpop_verdicts.specs.Internal.Shortest.{AreKept, AreShortened, AreShortest, AreWalks, IsShorter, IsWalk, ends, goes, start_of, start_with, target_at, targets_at}
-use Rattle.lalrpop_verdicts.specs.Internal.StateWalks.{AreAllLeads}
 use Rattle.lalrpop_verdicts.proofs.FirstLaws.{same_class}
 use Rattle.lalrpop_verdicts.proofs.RoundLaws.{leads_within, same_map}
 
@@ -113,12 +111,6 @@ shortening_first table old = record {
   least = λ p k from l m. absurd (omega (arith, from, l));
   walks = λ starts all. all;
 }
-
-pub same_or_other : (p q : ℕ) → (p ≡ q) ⊎ (p ≢ q)
-same_or_other p q =
-    ⊎_elim (λ (l : p < q). inr (λ e. absurd (omega (arith, l, e))))
-    (λ (l : q ≤ p). ⊎_elim (λ (m : q < p). inr (λ e. absurd (omega (arith, m, e)))) (λ (m : p ≤ q). inl (omega (arith, l, m))) (cases_lt q p))
-    (cases_lt p q)
 
 module _ (table : List (Vec ℕ Global)) (old new : List ℕ) (place next value : ℕ) (on : next ≡ place + 1) (h : IsShortening table old new next) (within : place < length new)
     (targets : AreWithin (targets_at table place) (length new)) (less : IsShorter new (targets_at table place) (get_or new place 0) value) where

@@ -1,5 +1,5 @@
 -- For how many values in a row states wait.
-use Rattle.std.specs.Prelude.{◌≡◌, ℕ, ◌+◌, ◌<◌, ◌≤◌, ◌⊎◌, List, length, slice_index, Bool}
+use Rattle.std.specs.Prelude.{◌≡◌, ℕ, ◌<◌, ◌≤◌, ◌⊎◌, List, length, slice_index, Bool}
 use Rattle.lalrpop_dfa.specs.Dfa.{Row, step}
 use Rattle.lalrpop_dfa.specs.Lookahead.{IsAccepting}
 use Rattle.lalrpop_dfa.specs.Internal.Marks.{IsWaiting, Marked, WaitsFor}

@@ -1,5 +1,5 @@
 use Rattle.std.proofs.Common.{◌≡◌, ap, length, subst, arith}
-use Rattle.lalrpop_dfa.specs.Internal.Marks.{AreLeft, AreLeftOut}
+use Rattle.lalrpop_dfa.specs.Internal.Marks.{AreLeftOut}
 use Rattle.lalrpop_dfa.proofs.LeftOut.{left_end, left_fewer, left_first}
 use Rattle.lalrpop_dfa.proofs.Ranked.{written}
 use Rattle.lalrpop_dfa.proofs.Reaching.{same_copy, unchanged}

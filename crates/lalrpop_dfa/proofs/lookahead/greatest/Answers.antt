@@ -1,4 +1,4 @@
-use Rattle.std.proofs.Common.{◌≡◌, ◌<◌, ◌≤◌, ◌∙◌, ◌⊎◌, inl, inr, get_or, length, ap, sym, subst, arith, rules}
+use Rattle.std.proofs.Common.{◌≡◌, ◌<◌, ◌∙◌, length, ap, subst, arith, rules}
 use Rattle.std.specs.Prelude.{slice_get, Some}
 use Rattle.lalrpop_dfa.proofs.EdgeTargets.{at_place, the_some, tests_of}
 use Rattle.lalrpop_dfa.proofs.Marking.{row_tests, test_in}

@@ -1,5 +1,5 @@
 use Rattle.std.proofs.Common.{◌≡◌, ◌-◌, ◌+◌, ◌<◌, length, set, false, sym, subst, arith}
-use Rattle.lalrpop_dfa.specs.Internal.Marks.{LeadsInto, Marked}
+use Rattle.lalrpop_dfa.specs.Internal.Marks.{LeadsInto}
 use Rattle.lalrpop_dfa.proofs.LeftOut.{IsLeavingOut, out_left, out_stays}
 use Rattle.lalrpop_dfa.proofs.Marking.{marked_read, read_marked}
 use Rattle.lalrpop_dfa.proofs.lookahead.leave_out.Goals as goal

@@ -1,4 +1,4 @@
-use Rattle.std.proofs.Common.{◌≡◌, ap, length, sym, subst, arith}
+use Rattle.std.proofs.Common.{subst}
 use Rattle.lalrpop_dfa.specs.Internal.Marks.{IsEntered}
 use Rattle.lalrpop_dfa.specs.Internal.Waits.{AreAllWaits, IsMostEntered}
 use Rattle.lalrpop_dfa.proofs.Marking.{ever_entered}

@@ -1,11 +1,10 @@
-use Rattle.std.proofs.Common.{◌≡◌, ◌∙◌, ◌+◌, ◌<◌, ◌≤◌, ◌⊎◌, inl, inr, ℕ, get_or, length, refl, subst, sym, arith}
+use Rattle.std.proofs.Common.{◌∙◌, ◌<◌, length, subst, sym, arith}
 use Rattle.lalrpop_dfa.specs.Lookahead.{IsAccepting}
-use Rattle.lalrpop_dfa.specs.Internal.Marks.{Marked}
 use Rattle.lalrpop_dfa.specs.Internal.Waits.{IsGreatest}
 use Rattle.lalrpop_dfa.proofs.EdgeTargets.{the_some}
 use Rattle.lalrpop_dfa.proofs.Marking.{marked_read, read_marked}
 use Rattle.lalrpop_dfa.proofs.Ranked.{accepting_read, read_accepting}
-use Rattle.lalrpop_dfa.proofs.Waiting.{IsMostYet, most_by_max, most_end, most_past}
+use Rattle.lalrpop_dfa.proofs.Waiting.{most_by_max, most_end, most_past}
 use Rattle.lalrpop_dfa.proofs.lookahead.most_entered.Goals as goal
 use Rattle.lalrpop_dfa.proofs.lookahead.most_entered.Goals.{then-reached-number+then-is_accepting, else-reached-number, else-reached-number-via-then-reached-number+else-is_accepting, else-reached-number-via-else-reached-number}
 

@@ -1,4 +1,4 @@
-use Rattle.std.proofs.Common.{◌≡◌, ◌<◌, ◌≤◌, ◌*◌, ◌-◌, ◌∙◌, ap, length, subst, arith}
+use Rattle.std.proofs.Common.{◌≡◌, ◌<◌, ◌∙◌, ap, length, subst, arith}
 use Rattle.std.specs.Prelude.{replicate}
 use Rattle.lalrpop_dfa.specs.Internal.Waits.{AreLonger}
 use Rattle.lalrpop_dfa.proofs.Ranked.{written}

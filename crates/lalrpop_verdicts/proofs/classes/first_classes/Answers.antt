@@ -4,7 +4,7 @@ use Rattle.lalrpop_verdicts.specs.Internal.Classes.{AreSplit, AreWithin}
 use Rattle.lalrpop_verdicts.specs.Internal.Rounds.{IsRound}
 use Rattle.lalrpop_verdicts.specs.Internal.Shortest.{AreKept}
 use Rattle.lalrpop_verdicts.proofs.RoundLaws.{first_round, leads_within}
-use Rattle.lalrpop_verdicts.proofs.ShortestLaws.{first_places, split_round}
+use Rattle.lalrpop_verdicts.proofs.ShortestLaws.{split_round}
 use Rattle.lalrpop_verdicts.proofs.classes.first_classes.Goals as goal
 
 pub longest_lengths-requires-clause-within : goal.longest_lengths-requires-clause-within

@@ -1,4 +1,4 @@
-use Rattle.std.proofs.Common.{◌≡◌, ◌-◌, ◌+◌, ◌<◌, get_or, length, set, subst, sym, arith}
+use Rattle.std.proofs.Common.{◌≡◌, ◌-◌, ◌+◌, ◌<◌, get_or, length, set, subst, arith}
 use Rattle.lalrpop_dfa.specs.Internal.Ranks.{IsShallower}
 use Rattle.lalrpop_dfa.proofs.Depths.{IsRising, rising_end, rising_first, rising_more, rising_past}
 use Rattle.lalrpop_dfa.proofs.witness.depths.rise.Goals as goal

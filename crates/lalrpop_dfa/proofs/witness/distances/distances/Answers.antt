@@ -1,4 +1,4 @@
-use Rattle.std.proofs.Common.{◌≡◌, ◌<◌, ap, length, subst, sym, arith}
+use Rattle.std.proofs.Common.{◌<◌, ap, length, subst, arith}
 use Rattle.lalrpop_dfa.specs.Internal.Ranks.{IsNearer, unknown}
 use Rattle.lalrpop_dfa.proofs.Distances.{nearest_found, none_near}
 use Rattle.lalrpop_dfa.proofs.witness.distances.distances.Goals as goal

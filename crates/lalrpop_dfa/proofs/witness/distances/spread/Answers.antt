@@ -1,4 +1,4 @@
-use Rattle.std.proofs.Common.{◌≡◌, ◌-◌, ◌+◌, ◌<◌, get_or, length, set, subst, sym, arith}
+use Rattle.std.proofs.Common.{◌≡◌, ◌-◌, ◌+◌, ◌<◌, get_or, length, set, subst, arith}
 use Rattle.lalrpop_dfa.specs.Internal.Ranks.{IsNearer}
 use Rattle.lalrpop_dfa.proofs.Distances.{IsSpreading, spreading_end, spreading_first, spreading_more}
 use Rattle.lalrpop_dfa.proofs.witness.distances.spread.Goals as goal

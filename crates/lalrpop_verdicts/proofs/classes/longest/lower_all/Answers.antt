@@ -1,8 +1,8 @@
-use Rattle.std.proofs.Common.{◌≡◌, ◌-◌, ◌+◌, ◌<◌, ap, get_or, length, set, subst, sym, arith}
+use Rattle.std.proofs.Common.{◌≡◌, ◌-◌, ◌+◌, ◌<◌, get_or, length, set, subst, sym, arith}
 use Rattle.lalrpop_verdicts.specs.Internal.Classes.{AreWithin}
 use Rattle.lalrpop_verdicts.specs.Internal.Longest.{IsLowered}
 use Rattle.lalrpop_verdicts.specs.Internal.Shortest.{targets_at}
-use Rattle.lalrpop_verdicts.proofs.LongestLaws.{IsLowering, lowering_end, lowering_first, lowering_more}
+use Rattle.lalrpop_verdicts.proofs.LongestLaws.{IsLowering, lowering_end, lowering_more}
 use Rattle.lalrpop_verdicts.proofs.ShortestLaws.{read_targets}
 use Rattle.lalrpop_verdicts.proofs.classes.longest.lower_all.Goals as goal
 

@@ -1,7 +1,7 @@
-use Rattle.std.proofs.Common.{◌≡◌, ◌-◌, ◌+◌, ◌<◌, ap, get_or, length, set, subst, sym, arith}
+use Rattle.std.proofs.Common.{◌≡◌, ◌-◌, ◌+◌, ◌<◌, get_or, length, set, subst, sym, arith}
 use Rattle.lalrpop_verdicts.specs.Internal.Classes.{AreWithin}
 use Rattle.lalrpop_verdicts.specs.Internal.Shortest.{IsShorter, targets_at}
-use Rattle.lalrpop_verdicts.proofs.ShortestLaws.{IsShortening, read_targets, shortening_end, shortening_first, shortening_more}
+use Rattle.lalrpop_verdicts.proofs.ShortestLaws.{IsShortening, read_targets, shortening_more}
 use Rattle.lalrpop_verdicts.proofs.classes.shortest.shorten.Goals as goal
 
 pub shorter-requires : goal.shorter-requires

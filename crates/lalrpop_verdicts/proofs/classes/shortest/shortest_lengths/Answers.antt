@@ -1,4 +1,4 @@
-use Rattle.std.proofs.Common.{length, subst, sym}
+use Rattle.std.proofs.Common.{subst, sym}
 use Rattle.std.proofs.lemmas.Result.{IfOk-weaker}
 use Rattle.lalrpop_verdicts.specs.Internal.Classes.{AreWithin}
 use Rattle.lalrpop_verdicts.proofs.RoundLaws.{leads_within}
