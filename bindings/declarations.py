@@ -81,7 +81,7 @@ def in_module(module, stub):
 
     def parameters(it):
         found = inspect.signature(it.fget if isinstance(it, property) else it).parameters.values()
-        return [arg.name + "=" * (arg.default is not arg.empty) for arg in found]
+        return [arg.name + "=" * (arg.default is not arg.empty) for arg in found if arg.kind is arg.POSITIONAL_OR_KEYWORD]
 
     def members(it):
         if issubclass(it, enum.Enum):
@@ -91,7 +91,7 @@ def in_module(module, stub):
         kept = [name for name in vars(it) if name[0] != "_" or name in stub.get(it.__name__, ())]
         return {**dict.fromkeys(vars(it).get("__annotations__", ())), **{name: parameters(vars(it)[name]) for name in kept}}
 
-    return {name: members(getattr(module, name)) for name in module.__all__}
+    return {name: members(getattr(module, name)) for name in {*module.__all__, *stub}}
 
 
 def without_const(declared):

@@ -10,16 +10,19 @@ last item or `close()`, so a bytearray keeps its size; its bytes mustn't change 
 import enum
 import math
 import struct
+import sys
+import threading
 from array import array
+from collections import deque
 from ctypes import create_string_buffer
 from typing import NamedTuple, Optional, Tuple, Union
 
 from . import _library
 from ._library import LIBRARY, Piece as _Piece, Room as _Room, Text as _Text, name as _name, word as _word
 
-__all__ = ["Arrays", "Columns", "Item", "Kind", "Lexer", "NotUtf8Error", "Piece", "Place", "Places", "Rule", "RulesError", "RulesErrorKind"]
+__all__ = "Arrays Change Columns Document Item Kind Lexer NotUtf8Error Piece Place Places Rule RulesError RulesErrorKind Stream".split()
 
-_FULL, _NOT_UTF8, _TOO_DEEP, _OUT_OF_MEMORY = 2, 3, 4, 7
+_DONE, _BAD_RANGE, _FULL, _NOT_UTF8, _TOO_DEEP, _TOO_LARGE, _OUT_OF_MEMORY, _ENDED = 0, 1, 2, 3, 4, 6, 7, 8
 _ROOM = 4096
 _PIECES = struct.Struct("@INNN")
 _made = tuple.__new__
@@ -121,11 +124,11 @@ _KINDS = tuple(Kind)
 
 
 class Columns(enum.Enum):
-    """What columns count."""
+    """What columns count: the values are the names that the protocol of language servers has for it."""
 
-    BYTES = "bytes"
-    CHARACTERS = "characters"
-    UTF16 = "UTF-16 units"
+    BYTES = "utf-8"
+    CHARACTERS = "utf-32"
+    UTF16 = "utf-16"
 
 
 class Rule(NamedTuple):
@@ -151,7 +154,7 @@ class Item(NamedTuple):
 
 
 class Piece(NamedTuple):
-    """A part of a text of bytes. `start` and `end` are in bytes."""
+    """A part of a buffer, a document or a stream. `start` and `end` are in bytes; the text of a buffer is bytes, else it's a str."""
 
     kind: Kind
     rule: Optional[str]
@@ -176,27 +179,26 @@ class Place(NamedTuple):
     column: int
 
 
-# Of the bytes in a character the first tells how many there are, and the others are these.
-_OTHERS = bytes(range(0x80, 0xC0))
-# The first bytes of characters that are two units in UTF-16.
-_PAIRS = bytes(range(0xF0, 0xF5))
-# How many columns a str, or bytes of UTF-8, take in a line. A byte that can't stand in a character counts as one.
-_WIDTHS = {
-    (Columns.BYTES, str): lambda part: len(part.encode("utf-8", "surrogatepass")),
-    (Columns.CHARACTERS, str): len,
-    (Columns.UTF16, str): lambda part: len(part.encode("utf-16-le", "surrogatepass")) // 2,
-    (Columns.BYTES, bytes): len,
-    (Columns.CHARACTERS, bytes): lambda part: len(part.translate(None, _OTHERS)),
-    (Columns.UTF16, bytes): lambda part: len(part.translate(None, _OTHERS)) + len(part) - len(part.translate(None, _PAIRS)),
-}
+# How Python writes what columns count, and in how many bytes each.
+_UNITS = {Columns.BYTES: ("utf-8", 1), Columns.CHARACTERS: ("utf-32-le", 4), Columns.UTF16: ("utf-16-le", 2)}
+# Of the bytes of a character all but the first, and the first ones of characters that are two units in UTF-16.
+_OTHERS, _PAIRS = bytes(range(0x80, 0xC0)), bytes(range(0xF0, 0xF5))
+
+
+def _width(part, columns):
+    """How many columns a str takes, or bytes, which needn't be UTF-8."""
+    if isinstance(part, str):
+        codec, unit = _UNITS[columns]
+        return len(part.encode(codec, "surrogatepass")) // unit
+    pairs = len(part) - len(part.translate(None, _PAIRS)) if columns is Columns.UTF16 else 0
+    return len(part) if columns is Columns.BYTES else len(part.translate(None, _OTHERS)) + pairs
 
 
 def _after(place, part, columns):
     """The place after a part of a text that begins at this place."""
     feed = "\n" if isinstance(part, str) else b"\n"
-    feeds, width = part.count(feed), _WIDTHS[columns, type(part)]
-    line, column = place
-    return Place(line + feeds, 1 + width(part[part.rfind(feed) + 1 :])) if feeds else Place(line, column + width(part))
+    feeds, width = part.count(feed), _width(part[part.rfind(feed) + 1 :], columns)
+    return Place(place.line + feeds, 1 + width if feeds else place.column + width)
 
 
 class Places:
@@ -221,7 +223,7 @@ class Places:
         return self._place
 
     def __repr__(self):
-        return f"<Places in {self._columns.value}>"
+        return f"<Places in {self._columns.name}>"
 
 
 class Lexer:
@@ -256,10 +258,11 @@ class Lexer:
         numbers = range(LIBRARY.bajofeki_rules(room.words))
         self._file, self._room = rules, room
         self.rules = tuple(Rule(_name(room.words, rule), LIBRARY.bajofeki_skips(room.words, rule)) for rule in numbers)
+        self._names = [(rule.name, number) for number, rule in enumerate(self.rules)]
 
     def __reduce__(self):
         # A copy, or one from a pickle, is built anew, without a subclass's own `__init__`: a lexer stays in its room.
-        more = {name: it for name, it in vars(self).items() if name not in ("_file", "_room", "rules")}
+        more = {name: it for name, it in vars(self).items() if name not in ("_file", "_names", "_room", "rules")}
         return _rebuilt, (type(self), self._file), more or None
 
     def __repr__(self):
@@ -276,24 +279,26 @@ class Lexer:
         return (self._items_of_str if text.is_str else self._items_of_buffer)(text)
 
     def _items_of_str(self, text):
-        names, start, line, column = self._names(), 0, 1, 1
+        start, line, column = 0, 1, 1
         for kind, rule, at, length in self._pieces(text):
             part = text.data[at : at + length].decode("utf-8", "surrogatepass")
             end = start + len(part)
-            name, number = names[rule] if kind < 2 else (None, None)
+            name, number = self._names[rule] if kind < 2 else (None, None)
             # A tuple made so takes half of the time that `Item(..)` does.
             yield _made(Item, (_KINDS[kind], name, part, start, end, line, column, at, at + length, number))
             start, feeds = end, part.count("\n")
             line, column = line + feeds, len(part) - part.rfind("\n") if feeds else column + len(part)
 
     def _items_of_buffer(self, text):
-        names = self._names()
-        for kind, rule, at, length in self._pieces(text):
-            name, number = names[rule] if kind < 2 else (None, None)
-            yield _made(Piece, (_KINDS[kind], name, bytes(text.data[at : at + length]), at, at + length, number))
+        for block, _ in self._blocks(text):
+            yield from self._told(block, text.data, 0, bytes)
 
-    def _names(self):
-        return [(rule.name, number) for number, rule in enumerate(self.rules)]
+    def _told(self, block, data, start, made_of):
+        """The Pieces of a block; their texts are made of bytes, which begin at this offset."""
+        for kind, rule, at, length in _PIECES.iter_unpack(block):
+            name, number = self._names[rule] if kind < 2 else (None, None)
+            part = made_of(data[at - start : at - start + length])
+            yield _made(Piece, (_KINDS[kind], name, part, at, at + length, number))
 
     def arrays(self, text):
         """The pieces of a whole text, where speed counts: a twentieth of the time that `items` takes.
@@ -387,3 +392,217 @@ def _rebuilt(kind, rules):
     lexer = kind.__new__(kind)
     Lexer.__init__(lexer, rules)
     return lexer
+
+
+class Change(NamedTuple):
+    """What an edit changed of the pieces of a document. Pieces are numbered from 0, and offsets are in bytes."""
+
+    first: int  # so many pieces at the front stay
+    removed: int  # so many old ones after those are gone
+    inserted: int  # so many came in their place; all others are the old ones, shifted
+    start: int  # where the first piece that is gone, or came, begins
+    old_end: int  # where the last one that is gone ended in the old text
+    new_end: int  # where the last one that came ends in the new text
+
+
+def _failed(code):
+    """The error of a code of the library."""
+    kind, reason = {
+        _BAD_RANGE: (ValueError, "the offsets aren't those of whole characters of the text"),
+        _TOO_LARGE: (OverflowError, "the text would be too large"),
+        _OUT_OF_MEMORY: (MemoryError, "no memory for the pieces of a text"),
+        _ENDED: (ValueError, "the text has ended"),
+    }[code]
+    return kind(reason)
+
+
+def _size(number):
+    """A number for the library, which would take another one modulo 2 ^ 64."""
+    if not 0 <= number <= sys.maxsize:
+        raise ValueError("the text has no such place")
+    return number
+
+
+def _str(data):
+    return str(data, "utf-8")
+
+
+class _Open:
+    """What a lexer has begun. It's closed by `close()` or the end of a `with`, and gives an error then. Threads may share it: each call
+    waits for the one before."""
+
+    def __init__(self, lexer, what):
+        if hasattr(self, "_room"):
+            raise TypeError("it is begun once")
+        size, begin, end = (getattr(LIBRARY, f"bajofeki_{what}_{it}") for it in ("size", "begin", "end"))
+        self._room = _Room(size(), lambda it: begin(lexer._room.words, it), end, lexer._room)
+        self._lexer, self._lock = lexer, threading.RLock()
+
+    def _call(self, function, *words):
+        with self._lock:
+            return function(self._room.words, *words)
+
+    @property
+    def lexer(self):
+        """The lexer that began it."""
+        return self._lexer
+
+    def close(self):
+        """Gives its memory back. A second call does nothing."""
+        with self._lock:
+            self._room.end()
+
+    def __enter__(self):
+        return self
+
+    def __exit__(self, *_):
+        self.close()
+
+    def __reduce__(self):
+        raise TypeError("this can't be copied")
+
+    def __repr__(self):
+        return f"<{type(self).__name__}, {'open' if self._room.end.alive else 'closed'}>"
+
+
+class Document(_Open):
+    """A text that is edited, with its pieces. Offsets are in bytes of UTF-8. It keeps a copy of the text, and 12 bytes a piece.
+
+    >>> document = Document(Lexer("LET = 'let'\\nNAME = /[a-z]+/\\nSPACE skip = ' '\\n"), "let x")
+    >>> document.edit(4, 5, "yz").new_end, document.text, document.piece_at(4).text
+    (6, 'let yz', 'yz')
+    >>> [piece.rule for piece in document.pieces()], document.place(4), document.offset(1, 5)
+    (['LET', 'SPACE', 'NAME'], Place(line=1, column=5), 4)
+    """
+
+    def __init__(self, lexer, text=""):
+        super().__init__(lexer, "document")
+        self.edit(0, 0, text)
+
+    def edit(self, start, end, new):
+        """Replaces what stands from one offset to another by a str or a buffer, and cuts anew the pieces that depend on it. Gives what
+        changed of them. ValueError if the offsets aren't those of whole characters, NotUtf8Error of a buffer that isn't UTF-8,
+        OverflowError from 4,294,967,295 bytes on; then nothing has changed."""
+        new = _Text(new.encode() if isinstance(new, str) else new)
+        found = self._call(LIBRARY.bajofeki_edit, _size(start), _size(end), new.at, new.size)
+        if found.code == _NOT_UTF8:
+            raise NotUtf8Error(_first_bad(new.data))
+        if found.code:
+            raise _failed(found.code)
+        return Change(*(getattr(found, name) for name in Change._fields))
+
+    def pieces(self, start=0, end=None):
+        """The pieces that hold a byte from one offset to another, each whole; all pieces, if no offsets are given."""
+        with self._lock:
+            end, room = len(self) if end is None else end, _ROOM // 16
+            while True:
+                pieces = (_Piece * room)()
+                found = self._call(LIBRARY.bajofeki_pieces, _size(start), _size(end), pieces, room)
+                if found.code:
+                    raise _failed(found.code)
+                if found.count <= room:
+                    break
+                room = found.count
+            start, last = pieces[0].start, pieces[found.count - 1]
+            data = self._copy(start, last.start + last.length - start) if found.count else b""
+        return list(self._lexer._told(memoryview(pieces).cast("B")[: found.count * _PIECES.size], data, start, _str))
+
+    def piece_at(self, offset):
+        """The piece that holds the byte at an offset; None at the end of the text, and after it."""
+        return next(iter(self.pieces(offset, offset + 1)), None)
+
+    def place(self, offset, columns=Columns.CHARACTERS):
+        """The place of an offset. ValueError if it's in a character, or past the end."""
+        with self._lock:
+            found = self._call(LIBRARY.bajofeki_place, _size(offset))
+            if not found.line:
+                raise _failed(_BAD_RANGE)
+            start = self._call(LIBRARY.bajofeki_offset, found.line, 1).at
+            return Place(found.line, 1 + _width(self._copy(start, offset - start), columns))
+
+    def offset(self, line, column, columns=Columns.CHARACTERS):
+        """The offset of a place, of which the column may be the one after the last of its line. ValueError if there is no such place."""
+        with self._lock:
+            found, codec, unit = self._call(LIBRARY.bajofeki_offset, _size(line), 1), *_UNITS[columns]
+            # A column takes four bytes at most.
+            line = self._copy(found.at, min(4 * _size(column - 1), len(self) - found.at)).decode("utf-8", "ignore").partition("\n")[0]
+        front = line.encode(codec)[: unit * (column - 1)].decode(codec, "ignore")
+        if not found.line or _width(front, columns) < column - 1:
+            raise ValueError("the text has no such place")
+        return found.at + len(front.encode())
+
+    @property
+    def text(self):
+        """The text."""
+        with self._lock:
+            return self._copy(0, len(self)).decode()
+
+    def __len__(self):
+        """How many bytes the text has."""
+        return self._call(LIBRARY.bajofeki_copy, 0, b"", 0)
+
+    def _copy(self, start, size):
+        out = create_string_buffer(size or 1)
+        self._call(LIBRARY.bajofeki_copy, start, out, size)
+        return out.raw[:size]
+
+
+class Stream(_Open):
+    """A text that comes in chunks. Going over it gives the Pieces that no later chunk can change, each once.
+
+    >>> with Stream(Lexer("NAME = /[a-z]+/\\nSPACE skip = ' '\\n")) as stream:
+    ...     stream.feed("let x")
+    ...     print([piece.text for piece in stream])
+    ...     stream.feed(b"y")
+    ...     stream.finish()
+    ...     print([piece.text for piece in stream])
+    ['let', ' ']
+    ['xy']
+    """
+
+    def __init__(self, lexer):
+        super().__init__(lexer, "stream")
+        # What has come of the text and stands in no piece, where that begins, pieces to be given, and where the text isn't UTF-8.
+        self._rest, self._at, self._given, self._bad = bytearray(), 0, deque(), None
+
+    def feed(self, chunk):
+        """More of the text comes: a str, or a buffer, which may end in a character. NotUtf8Error from the chunk on in which the text isn't
+        UTF-8: what came before is cut, and no more. ValueError once the text has ended."""
+        self._feed(chunk, False)
+
+    def finish(self):
+        """The text has ended. NotUtf8Error if that is in a character."""
+        self._feed(b"", True)
+
+    def _feed(self, chunk, is_last):
+        chunk = _Text(chunk.encode() if isinstance(chunk, str) else chunk)
+        with self._lock:
+            code = self._call(LIBRARY.bajofeki_feed, chunk.at, chunk.size, is_last)
+            if code not in (_DONE, _NOT_UTF8):
+                raise _failed(code)
+            if self._bad is None:
+                self._rest += chunk.data
+            if code == _NOT_UTF8:
+                self._bad = self._at + _first_bad(self._rest) if self._bad is None else self._bad
+                raise NotUtf8Error(self._bad)
+
+    def __iter__(self):
+        while True:
+            with self._lock:
+                if not self._given and not self._takes_pieces():
+                    return
+                piece = self._given.popleft()
+            yield piece
+
+    def _takes_pieces(self):
+        """Whether there are pieces to be given."""
+        pieces = (_Piece * (_ROOM // 16))()
+        found = self._call(LIBRARY.bajofeki_next, pieces, len(pieces))
+        self._given += self._lexer._told(memoryview(pieces).cast("B")[: found.count * _PIECES.size], self._rest, self._at, _str)
+        if found.count:
+            end = self._given[-1].end
+            del self._rest[: end - self._at]
+            self._at = end
+        if found.code not in (_DONE, _FULL):
+            raise _failed(found.code)
+        return found.count

@@ -1,10 +1,27 @@
 import enum
 from array import array
-from typing import AnyStr, Generator, Generic, NamedTuple, Optional, Tuple, Union, overload
+from typing import AnyStr, Generator, Generic, Iterator, List, NamedTuple, Optional, Tuple, Union, overload
 
 from _typeshed import ReadableBuffer
+from typing_extensions import Self
 
-__all__ = ["Arrays", "Columns", "Item", "Kind", "Lexer", "NotUtf8Error", "Piece", "Place", "Places", "Rule", "RulesError", "RulesErrorKind"]
+__all__ = [
+    "Arrays",
+    "Change",
+    "Columns",
+    "Document",
+    "Item",
+    "Kind",
+    "Lexer",
+    "NotUtf8Error",
+    "Piece",
+    "Place",
+    "Places",
+    "Rule",
+    "RulesError",
+    "RulesErrorKind",
+    "Stream",
+]
 
 class RulesErrorKind(enum.Enum):
     BAD_LINE = 1
@@ -37,9 +54,9 @@ class Kind(enum.Enum):
     TOO_DEEP = "too deep"
 
 class Columns(enum.Enum):
-    BYTES = "bytes"
-    CHARACTERS = "characters"
-    UTF16 = "UTF-16 units"
+    BYTES = "utf-8"
+    CHARACTERS = "utf-32"
+    UTF16 = "utf-16"
 
 class Rule(NamedTuple):
     name: str
@@ -91,3 +108,36 @@ class Lexer:
     @property
     def modes(self) -> int: ...
     def lookahead(self, mode: int) -> Union[int, float]: ...
+
+class Change(NamedTuple):
+    first: int
+    removed: int
+    inserted: int
+    start: int
+    old_end: int
+    new_end: int
+
+class _Open:
+    def __init__(self, lexer: Lexer, what: str) -> None: ...
+    @property
+    def lexer(self) -> Lexer: ...
+    def close(self) -> None: ...
+    def __enter__(self) -> Self: ...
+    def __exit__(self, *_: object) -> None: ...
+
+class Document(_Open):
+    def __init__(self, lexer: Lexer, text: Union[str, ReadableBuffer] = ...) -> None: ...
+    def edit(self, start: int, end: int, new: Union[str, ReadableBuffer]) -> Change: ...
+    def pieces(self, start: int = ..., end: Optional[int] = ...) -> List[Piece[str]]: ...
+    def piece_at(self, offset: int) -> Optional[Piece[str]]: ...
+    def place(self, offset: int, columns: Columns = ...) -> Place: ...
+    def offset(self, line: int, column: int, columns: Columns = ...) -> int: ...
+    @property
+    def text(self) -> str: ...
+    def __len__(self) -> int: ...
+
+class Stream(_Open):
+    def __init__(self, lexer: Lexer) -> None: ...
+    def feed(self, chunk: Union[str, ReadableBuffer]) -> None: ...
+    def finish(self) -> None: ...
+    def __iter__(self) -> Iterator[Piece[str]]: ...

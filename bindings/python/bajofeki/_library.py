@@ -30,7 +30,15 @@ class Look(Structure):
     _fields_ = [("code", c_uint32), ("count", c_size_t)]
 
 
-STRUCTS = (Report, Piece, Cut, Place, Page, Look)
+class Edit(Structure):
+    _fields_ = [("code", c_uint32), *((name, c_size_t) for name in "first removed inserted start old_end new_end".split())]
+
+
+class Count(Structure):
+    _fields_ = [("code", c_uint32), ("count", c_size_t)]
+
+
+STRUCTS = (Report, Piece, Cut, Place, Page, Look, Edit, Count)
 # Of each function of the library what it gives and what it takes.
 FUNCTIONS = {
     "bajofeki_lexer_size": (c_size_t, []),
@@ -49,6 +57,19 @@ FUNCTIONS = {
     "bajofeki_begin": (c_uint32, [c_void_p, c_void_p, c_size_t]),
     "bajofeki_cut": (Cut, [c_void_p, c_void_p, c_void_p, c_size_t, POINTER(Piece), c_size_t]),
     "bajofeki_end": (None, [c_void_p]),
+    "bajofeki_document_size": (c_size_t, []),
+    "bajofeki_document_begin": (None, [c_void_p, c_void_p]),
+    "bajofeki_edit": (Edit, [c_void_p, c_size_t, c_size_t, c_void_p, c_size_t]),
+    "bajofeki_pieces": (Count, [c_void_p, c_size_t, c_size_t, POINTER(Piece), c_size_t]),
+    "bajofeki_place": (Place, [c_void_p, c_size_t]),
+    "bajofeki_offset": (Place, [c_void_p, c_size_t, c_size_t]),
+    "bajofeki_copy": (c_size_t, [c_void_p, c_size_t, c_char_p, c_size_t]),
+    "bajofeki_document_end": (None, [c_void_p]),
+    "bajofeki_stream_size": (c_size_t, []),
+    "bajofeki_stream_begin": (None, [c_void_p, c_void_p]),
+    "bajofeki_feed": (c_uint32, [c_void_p, c_void_p, c_size_t, c_bool]),
+    "bajofeki_next": (Count, [c_void_p, POINTER(Piece), c_size_t]),
+    "bajofeki_stream_end": (None, [c_void_p]),
     "bajofeki_position": (Place, [c_void_p, c_size_t, c_size_t]),
     "bajofeki_version": (c_uint32, []),
 }

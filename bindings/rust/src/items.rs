@@ -5,16 +5,11 @@ use std::fmt::{self, Display, Formatter};
 use std::iter::FusedIterator;
 use std::ops::Range;
 
-use crate::ffi::{Cutting, Piece};
+use crate::ffi::{Cutting, Piece, DONE, FULL, TOO_DEEP};
 use crate::Lexer;
 
-/// The codes of a cut.
-const DONE: u32 = 0;
-const FULL: u32 = 2;
-const TOO_DEEP: u32 = 4;
-
 /// So many pieces are asked for at once.
-const ROOM: usize = 512;
+pub(crate) const ROOM: usize = 512;
 
 /// What an item is.
 #[derive(Clone, Copy, Debug, PartialEq, Eq, Hash)]

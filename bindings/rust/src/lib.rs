@@ -22,15 +22,21 @@
 #![deny(unsafe_code)]
 #![deny(missing_docs)]
 
+mod document;
 #[allow(unsafe_code)]
 mod ffi;
 mod items;
 mod places;
 mod rules_error;
+mod stream;
+mod text_error;
 
+pub use document::{Change, Document};
 pub use items::{Item, Items, Kind, OutOfMemory, Text};
 pub use places::{Columns, Place, Places};
 pub use rules_error::{RulesError, RulesErrorKind};
+pub use stream::Stream;
+pub use text_error::TextError;
 
 use std::alloc::{handle_alloc_error, Layout};
 use std::fmt;
@@ -226,10 +232,11 @@ pub fn version() -> u32 {
     ffi::version()
 }
 
-// Lexers and items go from thread to thread.
+// Lexers, items and streams go from thread to thread, and threads may share them. Of a document the latter isn't so.
 const _: () = {
     const fn is_shared<T: Send + Sync>() {}
     is_shared::<Lexer>();
     is_shared::<Items<'_>>();
+    is_shared::<Stream<'_>>();
     is_shared::<RulesError>();
 };
