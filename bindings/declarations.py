@@ -9,8 +9,9 @@ from pathlib import Path
 
 HOME = Path(__file__).resolve().parent
 CRATE = HOME.parent / "crates/bajofeki_c/src"
-WORDS = {"void": "", "char": "u8", "bajofeki_lexer": "u8", "bajofeki_cutter": "u8", "bajofeki_document": "u8", "bajofeki_stream": "u8", "c_void": "u8", "uint32_t": "u32", "size_t": "usize"}
-WORDS.update({"c_uint": "u32", "c_ulong": "usize", "c_bool": "bool", "c_void_p": "*u8", "c_char_p": "*u8", "NoneType": ""})
+WORDS = {"void": "", "char": "u8", "c_void": "u8", "uint32_t": "u32", "size_t": "usize", "NoneType": ""}
+WORDS.update(dict.fromkeys(("bajofeki_lexer", "bajofeki_cutter", "bajofeki_document", "bajofeki_stream"), "u8"))
+WORDS.update({"c_uint": "u32", "c_ulong": "usize", "c_bool": "bool", "c_void_p": "*u8", "c_char_p": "*u8"})
 
 
 def word(name):

@@ -2,7 +2,8 @@
 bindings/c/bajofeki.h."""
 import os
 import weakref
-from ctypes import CDLL, POINTER, PyDLL, Structure, byref, c_bool, c_char_p, c_int, c_size_t, c_uint32, c_uint64, c_void_p, create_string_buffer, py_object
+from ctypes import CDLL, POINTER, PyDLL, Structure, byref, c_bool, c_char_p, c_int, c_size_t, c_uint32, c_uint64, c_void_p
+from ctypes import create_string_buffer, py_object
 from pathlib import Path
 
 
