@@ -2,7 +2,7 @@
 bindings/c/bajofeki.h."""
 import os
 import weakref
-from ctypes import CDLL, POINTER, PyDLL, Structure, byref, c_bool, c_char_p, c_int, c_size_t, c_uint32, c_uint64, c_void_p
+from ctypes import CDLL, POINTER, PyDLL, Structure, byref, c_bool, c_char_p, c_size_t, c_uint32, c_uint64, c_void_p
 from ctypes import create_string_buffer, py_object
 from pathlib import Path
 
@@ -106,21 +106,26 @@ class _Buffer(Structure):
     _fields_ = [("at", c_void_p), ("rest", c_void_p * 10)]
 
 
-_GET, _RELEASE = (getattr(PyDLL(None), name) for name in ("PyObject_GetBuffer", "PyBuffer_Release"))
-_GET.argtypes, _RELEASE.argtypes, _RELEASE.restype = [py_object, c_void_p, c_int], [c_void_p], None
+_PYTHON = PyDLL(None)
+
+
+def _address(view):
+    """Where the bytes of a view lie; the pointer isn't null, not even to 0 bytes."""
+    buffer = _Buffer()
+    _PYTHON.PyObject_GetBuffer(py_object(view), byref(buffer), 0)
+    at = buffer.at or b""
+    _PYTHON.PyBuffer_Release(byref(buffer))
+    return at
 
 
 class Text:
-    """The bytes of a text where they lie: of a str those of its UTF-8. Its view keeps them there."""
+    """The bytes of a text where they lie: of a str those of its UTF-8. A view of a buffer keeps them there."""
 
     def __init__(self, text):
         self.is_str = isinstance(text, str)
         text = text.encode("utf-8", "surrogatepass") if self.is_str else text
-        view, buffer = memoryview(text).cast("B"), _Buffer()
-        _GET(view, byref(buffer), 0)
-        # The pointer isn't null, not even to 0 bytes.
-        self.data, self.size, self.at = text if type(text) is bytes else view, len(view), buffer.at or b""
-        _RELEASE(byref(buffer))
+        self.data = text if type(text) is bytes else memoryview(text).cast("B")
+        self.size, self.at = len(self.data), text if type(text) is bytes else _address(self.data)
 
 
 class Room:
