@@ -148,9 +148,8 @@ impl<'a> Document<'a> {
     /// The place of an offset; `None` if it's in a character, or past the end.
     pub fn place(&self, at: usize, columns: Columns) -> Option<Place> {
         let found = self.held.place(at);
-        // There is no line 0.
         let start = self.held.offset(found.line, 1).at;
-        let line = self.text.get(start..at).filter(|_| found.line > 0)?;
+        let line = self.text.get(start..at)?;
         Some(Place {
             line: found.line,
             column: 1 + columns.width(line.as_bytes(), found.column - 1),
@@ -164,8 +163,8 @@ impl<'a> Document<'a> {
         let line = line.filter(|_| start.line > 0)?;
         let mut column = 1;
         for (at, c) in line.char_indices() {
-            if column >= place.column {
-                return (column == place.column).then_some(start.at + at);
+            if column == place.column {
+                return Some(start.at + at);
             }
             let bytes = &line.as_bytes()[at..at + c.len_utf8()];
             column += columns.width(bytes, 1);

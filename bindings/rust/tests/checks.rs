@@ -1,6 +1,6 @@
 //! On random texts documents and streams have the items of a whole cut, and places are found back.
 
-use bajofeki::{Columns, Document, Item, Kind, Lexer, Places, Stream, TextError};
+use bajofeki::{Columns, Document, Item, Kind, Lexer, Place, Places, Stream, TextError};
 
 const RULES: &str = "LET = 'let'
 NAME = /[a-z]+/
@@ -33,13 +33,21 @@ impl Chance {
 fn check_places(document: &Document<'_>) {
     let text = document.text();
     for columns in [Columns::Bytes, Columns::Characters, Columns::Utf16] {
+        let (mut places, mut finds) = (Vec::new(), Places::new(text).columns(columns));
         for at in 0..text.len() + 2 {
             let place = document.place(at, columns);
             assert_eq!(place.is_some(), text.is_char_boundary(at));
             if let Some(place) = place {
+                assert_eq!(place, finds.at(at));
                 assert_eq!(place, Places::new(text).columns(columns).at(at));
                 assert_eq!(document.offset(place, columns), Some(at));
+                places.push(place);
             }
+        }
+        for (line, column) in (0..300).map(|it| (it / 30, it % 30)) {
+            let place = Place { line, column };
+            let is_place = document.offset(place, columns).is_some();
+            assert_eq!(is_place, places.contains(&place));
         }
     }
 }
@@ -48,7 +56,7 @@ fn check_places(document: &Document<'_>) {
 fn documents() -> Result<(), Box<dyn std::error::Error>> {
     let (lexer, mut chance) = (Lexer::new(RULES)?, Chance(1));
     for _ in 0..40 {
-        let mut text = chance.text(60);
+        let mut text = chance.text(200);
         let mut document = Document::new(&lexer, &text)?;
         for _ in 0..10 {
             let (a, b) = (chance.below(text.len() + 1), chance.below(text.len() + 1));
