@@ -1,12 +1,17 @@
 """What crates/bajofeki_c exports, and what the header, the Rust crate and the Python module declare of it: functions by name, each with
-what it gives and takes, and structs by name, each with its fields. All in Rust's words; a lexer or a cutter is bytes."""
+what it gives and takes, and structs by name, each with its fields. All in Rust's words; a lexer or a cutter is bytes. And what the stub of
+the Python module says of its classes, and what they are."""
+import ast
+import enum
+import inspect
 import re
 from pathlib import Path
 
 HOME = Path(__file__).resolve().parent
 CRATE = HOME.parent / "crates/bajofeki_c/src"
-WORDS = {"void": "", "char": "u8", "bajofeki_lexer": "u8", "bajofeki_cutter": "u8", "c_void": "u8", "uint32_t": "u32", "size_t": "usize"}
-WORDS.update({"c_uint": "u32", "c_ulong": "usize", "c_bool": "bool", "c_void_p": "*u8", "c_char_p": "*u8", "NoneType": ""})
+WORDS = {"void": "", "char": "u8", "c_void": "u8", "uint32_t": "u32", "size_t": "usize", "NoneType": ""}
+WORDS.update(dict.fromkeys(("bajofeki_lexer", "bajofeki_cutter", "bajofeki_document", "bajofeki_stream"), "u8"))
+WORDS.update({"c_uint": "u32", "c_ulong": "usize", "c_bool": "bool", "c_void_p": "*u8", "c_char_p": "*u8"})
 
 
 def word(name):
@@ -59,6 +64,37 @@ def of_python(module):
     return {name: (kind(gives), [kind(it) for it in takes]) for name, (gives, takes) in module.FUNCTIONS.items()}, laid
 
 
+def in_stub():
+    """Of each class of the stub its methods' parameters, with `=` after those that have a default, and its fields or values."""
+
+    def member(it):
+        if isinstance(it, ast.FunctionDef):
+            defaults = [""] * (len(it.args.args) - len(it.args.defaults)) + ["="] * len(it.args.defaults)
+            return it.name, [arg.arg + default for arg, default in zip(it.args.args, defaults)]
+        return (it.target.id, None) if isinstance(it, ast.AnnAssign) else (it.targets[0].id, ast.literal_eval(it.value))
+
+    classes = [it for it in ast.parse((HOME / "python/bajofeki/__init__.pyi").read_text()).body if isinstance(it, ast.ClassDef)]
+    return {it.name: dict(member(part) for part in it.body if not isinstance(part, ast.Expr)) for it in classes}
+
+
+def in_module(module, stub):
+    """The same of the module; of methods with underscores those that the stub has."""
+
+    def parameters(it):
+        found = inspect.signature(it.fget if isinstance(it, property) else it).parameters.values()
+        return [arg.name + "=" * (arg.default is not arg.empty) for arg in found if arg.kind is arg.POSITIONAL_OR_KEYWORD]
+
+    def members(it):
+        if issubclass(it, enum.Enum):
+            return {value.name: value.value for value in it}
+        if hasattr(it, "_fields"):
+            return dict.fromkeys(it._fields)
+        kept = [name for name in vars(it) if name[0] != "_" or name in stub.get(it.__name__, ())]
+        return {**dict.fromkeys(vars(it).get("__annotations__", ())), **{name: parameters(vars(it)[name]) for name in kept}}
+
+    return {name: members(getattr(module, name)) for name in {*module.__all__, *stub}}
+
+
 def without_const(declared):
     return {name: (gives, [re.sub(r"\*\w+ ", "*", it) for it in takes]) for name, (gives, takes) in declared.items()}
 
@@ -76,10 +112,12 @@ def compared(module):
     """For each language a title, and what is declared otherwise than exported."""
     exported = version("../crates/bajofeki_c/src/lib.rt", r"fn bajofeki_version\(\).*?≡ (\d+)")
     found = {"C": version("c/bajofeki.h", r"^#define BAJOFEKI_VERSION (\d+)$"), "Rust": version("rust/Cargo.toml", r'^version = "(\d+)\.')}
-    found["Python"] = str(module.VERSION)
+    found["Python"] = str(module._library.VERSION)
     yield f"version {exported} in {', '.join(found)}", differences(dict.fromkeys(found, exported), found)
     exported, laid = of_rattle()
-    for name, (found, structs_found) in {"C": of_c(), "Rust": of_rust(), "Python": of_python(module)}.items():
+    for name, (found, structs_found) in {"C": of_c(), "Rust": of_rust(), "Python": of_python(module._library)}.items():
         wanted = without_const(exported) if name == "Python" else exported
         title = f"{len(found)} functions and {len(structs_found)} structs in {name}"
         yield title, differences({**wanted, **laid}, {**found, **structs_found})
+    stub = in_stub()
+    yield f"{len(stub)} classes in Python's stub", differences(in_module(module, stub), stub)

@@ -14,9 +14,11 @@
        bajofeki_text_end(&text);
        bajofeki_lexer_delete(lexer);
 
+   A text that is edited is a bajofeki_document, which keeps its pieces; one that comes in chunks is a bajofeki_stream. Both take UTF-8 alone.
+
    Places and lengths are in bytes, rules are numbered from 0 in the order of their lines, lines and columns count from 1, and columns
    are in characters. Nothing here keeps a pointer to the file of rules. What only reads a lexer may be called by several threads at
-   once on one lexer; a text's cut is one thread's at a time. */
+   once on one lexer; a cut, a document and a stream are one thread's at a time. */
 #ifndef BAJOFEKI_H
 #define BAJOFEKI_H
 #include <stdbool.h>
@@ -56,6 +58,13 @@ enum {
     BAJOFEKI_NOT_UTF8 = 3    /* the text isn't UTF-8; else BAJOFEKI_OUT_OF_MEMORY or BAJOFEKI_NO_LEXER */
 };
 
+/* What became of an edit, or of chunks: the code of an edit and of a count, and what bajofeki_feed gives. Beside BAJOFEKI_DONE, of an array
+   that is full BAJOFEKI_FULL, BAJOFEKI_NOT_UTF8, BAJOFEKI_TOO_LARGE, BAJOFEKI_OUT_OF_MEMORY and BAJOFEKI_NO_LEXER it is */
+enum {
+    BAJOFEKI_BAD_RANGE = 1, /* the range isn't one of whole characters of the text */
+    BAJOFEKI_ENDED = 8      /* the last bytes have come already */
+};
+
 /* How far a token of a mode can stay open: the code of a look. */
 enum {
     BAJOFEKI_AT_MOST = 0,   /* up to `count` characters after it can leave open whether a longer one comes */
@@ -71,6 +80,8 @@ enum {
 
 typedef struct bajofeki_lexer bajofeki_lexer;
 typedef struct bajofeki_cutter bajofeki_cutter;
+typedef struct bajofeki_document bajofeki_document;
+typedef struct bajofeki_stream bajofeki_stream;
 
 /* What became of the rules. Numbers that a code doesn't have are 0. */
 typedef struct {
@@ -113,19 +124,39 @@ typedef struct {
     size_t count; /* 0 if it isn't BAJOFEKI_AT_MOST */
 } bajofeki_look_t;
 
+/* What an edit changed of the pieces of a document. Pieces are numbered from 0. With any code but BAJOFEKI_DONE nothing has changed, and all
+   other numbers are 0. */
+typedef struct {
+    uint32_t code;
+    size_t first;    /* so many pieces at the front stay */
+    size_t removed;  /* so many old ones after those are gone */
+    size_t inserted; /* so many came in their place; all others are the old ones, shifted */
+    size_t start;    /* where the first piece that is gone, or came, begins */
+    size_t old_end;  /* where the last one that is gone ended in the old text */
+    size_t new_end;  /* where the last one that came ends in the new text */
+} bajofeki_edit_t;
+
+typedef struct {
+    uint32_t code;
+    size_t count; /* so many pieces */
+} bajofeki_count_t;
+
 /* 1. The library's own functions.
 
    Their contracts, which are proved, are in crates/bajofeki_c/src/lib.rt. They check no argument. What the caller owes:
-   - room for a lexer is bajofeki_lexer_size() bytes at a multiple of 8, and for a cutter bajofeki_cutter_size(), as malloc gives;
-   - a lexer lies in its room from bajofeki_build on, one build a room, and a cutter from bajofeki_begin to bajofeki_end;
-   - a lexer is freed once, when no cutter of it is used any more. It stays where it was built: no copy of it is used;
+   - room for a lexer is bajofeki_lexer_size() bytes at a multiple of 8, as malloc gives, and so for a cutter, a document and a stream;
+   - a lexer lies in its room from bajofeki_build on, one build a room, and a cutter from bajofeki_begin to bajofeki_end, a
+     document from bajofeki_document_begin to bajofeki_document_end, a stream from bajofeki_stream_begin to bajofeki_stream_end;
+   - a lexer is freed once, when what was begun by it has ended. It stays where it was built: no copy of it is used;
    - the lexer and the text of a cutter are the same, unchanged, at each call;
    - no pointer is null, not even to 0 bytes; lengths are true; an array overlaps nothing else.
    The room stays the caller's, before and after. */
 
-/* The bytes of room that a lexer takes, and a cutter. */
+/* The bytes of room that a lexer takes, a cutter, a document and a stream. */
 size_t bajofeki_lexer_size(void);
 size_t bajofeki_cutter_size(void);
+size_t bajofeki_document_size(void);
+size_t bajofeki_stream_size(void);
 
 /* Builds a lexer, or what says why there is none, in the room. Either way it takes memory until bajofeki_free. Nothing bounds how much
    rules may ask for: /a{1000}{1000}{1000}/ takes more than 10 GB. */
@@ -173,6 +204,48 @@ bajofeki_cut_t bajofeki_cut(const bajofeki_lexer *lexer, bajofeki_cutter *cutter
 
 /* Gives a cutter's memory back. */
 void bajofeki_end(bajofeki_cutter *cutter);
+
+/* Begins an empty document in the room. By what is no lexer too, or if memory is refused, something lies there: then each edit gives the code.
+   bajofeki_document_end is owed. */
+void bajofeki_document_begin(const bajofeki_lexer *lexer, bajofeki_document *document);
+
+/* Replaces the bytes from one offset of a document to another, and cuts anew the pieces that depend on them. The code is BAJOFEKI_DONE,
+   BAJOFEKI_BAD_RANGE, BAJOFEKI_NOT_UTF8, BAJOFEKI_TOO_LARGE from 4,294,967,295 bytes on, BAJOFEKI_OUT_OF_MEMORY or BAJOFEKI_NO_LEXER. */
+bajofeki_edit_t bajofeki_edit(bajofeki_document *document, size_t from, size_t to, const char *bytes, size_t length);
+
+/* Writes the pieces that hold a byte from one offset to another, in order and each whole, as many as the array takes. Gives how many there
+   are, whether or not they fit. With `to` as `from` + 1 it is the piece at an offset, with 0 and SIZE_MAX all pieces. The code is BAJOFEKI_DONE,
+   BAJOFEKI_OUT_OF_MEMORY or BAJOFEKI_NO_LEXER. */
+bajofeki_count_t bajofeki_pieces(const bajofeki_document *document, size_t from, size_t to, bajofeki_piece_t *out, size_t room);
+
+/* The line and the column of an offset, and back. All numbers are 0 where there is none: in a character, or past the text. Both read some
+   hundred pieces alone. */
+bajofeki_place_t bajofeki_place(const bajofeki_document *document, size_t at);
+bajofeki_place_t bajofeki_offset(const bajofeki_document *document, size_t line, size_t column);
+
+/* Writes the text from an offset on, as many bytes as the array takes. Gives how many there are. */
+size_t bajofeki_copy(const bajofeki_document *document, size_t from, char *out, size_t room);
+
+/* Gives a document's memory back. */
+void bajofeki_document_end(bajofeki_document *document);
+
+/* Begins a stream in the room: a text of which nothing has come. By what is no lexer too something lies there: then each call gives the code.
+   bajofeki_stream_end is owed. */
+void bajofeki_stream_begin(const bajofeki_lexer *lexer, bajofeki_stream *stream);
+
+/* More bytes come, cut anywhere, also in a character; after the last ones none do. Gives BAJOFEKI_DONE; BAJOFEKI_NOT_UTF8 from the call on
+   in which a byte of no character came, or the text ended in one: what came before it is cut, what comes after it isn't; BAJOFEKI_ENDED;
+   BAJOFEKI_OUT_OF_MEMORY, as each later call and bajofeki_next then do; or BAJOFEKI_NO_LEXER. */
+uint32_t bajofeki_feed(bajofeki_stream *stream, const char *bytes, size_t length, bool is_last);
+
+/* Writes the next pieces that nothing that comes can change, as many as the array takes, and gives how many it wrote. Places count from the
+   beginning of the text, which the caller keeps as far as it wants to see it. The code is BAJOFEKI_FULL, after which it is called again;
+   BAJOFEKI_DONE, after which more is fed; BAJOFEKI_OUT_OF_MEMORY, after which it may be called again; BAJOFEKI_TOO_LARGE past SIZE_MAX bytes; or
+   BAJOFEKI_NO_LEXER. */
+bajofeki_count_t bajofeki_next(bajofeki_stream *stream, bajofeki_piece_t *out, size_t room);
+
+/* Gives a stream's memory back. */
+void bajofeki_stream_end(bajofeki_stream *stream);
 
 /* The line and the column of an offset. It reads the text from its beginning. */
 bajofeki_place_t bajofeki_position(const char *text, size_t length, size_t at);
@@ -338,6 +411,93 @@ static inline void bajofeki_text_end(bajofeki_text *text) {
         text->cutter = NULL;
         text->code = BAJOFEKI_NO_LEXER;
     }
+}
+
+/* An empty document, to be deleted by bajofeki_document_delete before its lexer is. NULL of a lexer that is NULL, or if malloc refused. */
+static inline bajofeki_document *bajofeki_document_new(const bajofeki_lexer *lexer) {
+    bajofeki_document *document = lexer == NULL ? NULL : (bajofeki_document *)malloc(bajofeki_document_size());
+    if (document != NULL) {
+        bajofeki_document_begin(lexer, document);
+    }
+    return document;
+}
+
+static inline void bajofeki_document_delete(bajofeki_document *document) {
+    if (document != NULL) {
+        bajofeki_document_end(document);
+        free(document);
+    }
+}
+
+/* As bajofeki_edit. The code is BAJOFEKI_BAD_ARGUMENT too, and of NULL BAJOFEKI_NO_LEXER. */
+static inline bajofeki_edit_t bajofeki_document_edit(bajofeki_document *document, size_t from, size_t to, const char *bytes, size_t length) {
+    bajofeki_edit_t none = {BAJOFEKI_NO_LEXER, 0, 0, 0, 0, 0, 0};
+    if (document == NULL || bajofeki_is_bad(bytes, length, 1)) {
+        none.code = document == NULL ? BAJOFEKI_NO_LEXER : BAJOFEKI_BAD_ARGUMENT;
+        return none;
+    }
+    return bajofeki_edit(document, from, to, length == 0 ? "" : bytes, length);
+}
+
+/* As bajofeki_pieces. With an `out` of NULL nothing is written. */
+static inline bajofeki_count_t bajofeki_document_pieces(const bajofeki_document *document, size_t from, size_t to, bajofeki_piece_t *out,
+                                                        size_t room) {
+    bajofeki_piece_t none[1];
+    bajofeki_count_t count = {BAJOFEKI_NO_LEXER, 0};
+    bool is_bad = bajofeki_is_bad(out, room, sizeof *out);
+    return document == NULL ? count : bajofeki_pieces(document, from, to, is_bad || room == 0 ? none : out, is_bad ? 0 : room);
+}
+
+static inline bajofeki_place_t bajofeki_document_place(const bajofeki_document *document, size_t at) {
+    bajofeki_place_t none = {0, 0, 0};
+    return document == NULL ? none : bajofeki_place(document, at);
+}
+
+static inline bajofeki_place_t bajofeki_document_offset(const bajofeki_document *document, size_t line, size_t column) {
+    bajofeki_place_t none = {0, 0, 0};
+    return document == NULL ? none : bajofeki_offset(document, line, column);
+}
+
+/* As bajofeki_copy. With an `out` of NULL nothing is written. */
+static inline size_t bajofeki_document_text(const bajofeki_document *document, size_t from, char *out, size_t room) {
+    char none[1];
+    bool is_bad = bajofeki_is_bad(out, room, 1);
+    return document == NULL ? 0 : bajofeki_copy(document, from, is_bad || room == 0 ? none : out, is_bad ? 0 : room);
+}
+
+/* A stream, to be deleted by bajofeki_stream_delete before its lexer is. NULL of a lexer that is NULL, or if malloc refused. */
+static inline bajofeki_stream *bajofeki_stream_new(const bajofeki_lexer *lexer) {
+    bajofeki_stream *stream = lexer == NULL ? NULL : (bajofeki_stream *)malloc(bajofeki_stream_size());
+    if (stream != NULL) {
+        bajofeki_stream_begin(lexer, stream);
+    }
+    return stream;
+}
+
+static inline void bajofeki_stream_delete(bajofeki_stream *stream) {
+    if (stream != NULL) {
+        bajofeki_stream_end(stream);
+        free(stream);
+    }
+}
+
+/* As bajofeki_feed. It gives BAJOFEKI_BAD_ARGUMENT too, and of NULL BAJOFEKI_NO_LEXER. */
+static inline uint32_t bajofeki_stream_feed(bajofeki_stream *stream, const char *bytes, size_t length, bool is_last) {
+    if (stream == NULL || bajofeki_is_bad(bytes, length, 1)) {
+        return stream == NULL ? BAJOFEKI_NO_LEXER : BAJOFEKI_BAD_ARGUMENT;
+    }
+    return bajofeki_feed(stream, length == 0 ? "" : bytes, length, is_last);
+}
+
+/* As bajofeki_next. The code is BAJOFEKI_BAD_ARGUMENT too, and of NULL BAJOFEKI_NO_LEXER. */
+static inline bajofeki_count_t bajofeki_stream_next(bajofeki_stream *stream, bajofeki_piece_t *out, size_t room) {
+    bajofeki_piece_t none[1];
+    bajofeki_count_t count = {BAJOFEKI_NO_LEXER, 0};
+    if (stream == NULL || bajofeki_is_bad(out, room, sizeof *out)) {
+        count.code = stream == NULL ? BAJOFEKI_NO_LEXER : BAJOFEKI_BAD_ARGUMENT;
+        return count;
+    }
+    return bajofeki_next(stream, room == 0 ? none : out, room);
 }
 
 #endif

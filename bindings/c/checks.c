@@ -27,6 +27,13 @@ static void check_no_lexer(void) {
     bajofeki_text_end(&text);
     bajofeki_text_end(NULL);
     bajofeki_lexer_delete(NULL);
+    CHECK(bajofeki_document_new(NULL) == NULL && bajofeki_document_edit(NULL, 0, 0, "a", 1).code == BAJOFEKI_NO_LEXER);
+    CHECK(bajofeki_document_pieces(NULL, 0, 1, &piece, 1).code == BAJOFEKI_NO_LEXER && bajofeki_document_text(NULL, 0, NULL, 0) == 0);
+    CHECK(bajofeki_document_place(NULL, 0).line == 0 && bajofeki_document_offset(NULL, 1, 1).line == 0);
+    CHECK(bajofeki_stream_new(NULL) == NULL && bajofeki_stream_feed(NULL, "a", 1, true) == BAJOFEKI_NO_LEXER);
+    CHECK(bajofeki_stream_next(NULL, &piece, 1).code == BAJOFEKI_NO_LEXER);
+    bajofeki_document_delete(NULL);
+    bajofeki_stream_delete(NULL);
 }
 
 static void check_rules(void) {
@@ -89,8 +96,85 @@ static void check_arguments(const bajofeki_lexer *lexer) {
     bajofeki_text_end(&text);
 }
 
-/* Cuts bytes by arrays of so many places, and gives a sum over their pieces. */
-static uint64_t sum_of(const bajofeki_lexer *lexer, const char *bytes, size_t length, size_t room) {
+static bool is_piece(bajofeki_piece_t piece, uint32_t kind, size_t rule, size_t start, size_t length) {
+    return piece.kind == kind && piece.rule == rule && piece.start == start && piece.length == length;
+}
+
+static const char three[] = "LET = 'let'\nNAME = /[a-z]+/\nSPACE skip = /\\s+/\n";
+
+/* A document, edited to "let é\nxy", and what it refuses. */
+static void check_document(void) {
+    bajofeki_lexer *lexer = bajofeki_lexer_new(three, strlen(three)), *clash = bajofeki_lexer_new("A = /a/\nB = /a/", 15);
+    bajofeki_document *document = bajofeki_document_new(lexer), *none = bajofeki_document_new(clash);
+    bajofeki_piece_t pieces[8];
+    bajofeki_edit_t edit = bajofeki_document_edit(document, 0, 0, "letter\nx", 8);
+    char text[8] = "???????";
+    CHECK(edit.code == BAJOFEKI_DONE && edit.first == 0 && edit.removed == 0 && edit.inserted == 3 && edit.new_end == 8);
+    edit = bajofeki_document_edit(document, 8, 8, "y", 1);
+    CHECK(edit.code == BAJOFEKI_DONE && edit.first == 2 && edit.removed == 1 && edit.inserted == 1);
+    CHECK(edit.start == 7 && edit.old_end == 8 && edit.new_end == 9);
+    CHECK(bajofeki_document_edit(document, 3, 6, " \xC3\xA9", 3).code == BAJOFEKI_DONE);
+    CHECK(bajofeki_document_text(document, 0, NULL, 5) == 9 && bajofeki_document_text(document, 4, text, 3) == 5);
+    CHECK(strcmp(text, "\xC3\xA9\n????") == 0 && bajofeki_document_text(document, 99, text, 3) == 0);
+    CHECK(bajofeki_document_pieces(document, 0, SIZE_MAX, NULL, 5).count == 5);
+    CHECK(bajofeki_document_pieces(document, 0, SIZE_MAX, pieces, 8).count == 5 && is_piece(pieces[0], BAJOFEKI_TOKEN, 0, 0, 3));
+    CHECK(is_piece(pieces[1], BAJOFEKI_SKIPPED, 2, 3, 1) && is_piece(pieces[2], BAJOFEKI_FAULT, 0, 4, 2));
+    CHECK(is_piece(pieces[4], BAJOFEKI_TOKEN, 1, 7, 2));
+    CHECK(bajofeki_document_pieces(document, 8, 9, pieces, 1).count == 1 && is_piece(pieces[0], BAJOFEKI_TOKEN, 1, 7, 2));
+    CHECK(bajofeki_document_pieces(document, 2, 7, pieces, 1).count == 4 && is_piece(pieces[0], BAJOFEKI_TOKEN, 0, 0, 3));
+    CHECK(is_piece(pieces[1], BAJOFEKI_SKIPPED, 2, 3, 1) && bajofeki_document_pieces(document, 9, 99, pieces, 8).count == 0);
+    CHECK(bajofeki_document_place(document, 8).line == 2 && bajofeki_document_place(document, 8).column == 2);
+    CHECK(bajofeki_document_place(document, 6).column == 6 && bajofeki_document_place(document, 5).line == 0);
+    CHECK(bajofeki_document_place(document, 10).line == 0 && bajofeki_document_place(document, 9).column == 3);
+    CHECK(bajofeki_document_offset(document, 2, 2).at == 8 && bajofeki_document_offset(document, 2, 9).line == 0);
+    CHECK(bajofeki_document_edit(document, 5, 6, "", 0).code == BAJOFEKI_BAD_RANGE && bajofeki_document_edit(document, 3, 2, "", 0).code == BAJOFEKI_BAD_RANGE);
+    CHECK(bajofeki_document_edit(document, 0, 10, NULL, 0).code == BAJOFEKI_BAD_RANGE);
+    CHECK(bajofeki_document_edit(document, 0, 0, "\xFF", 1).code == BAJOFEKI_NOT_UTF8);
+    CHECK(bajofeki_document_edit(document, 0, 0, NULL, 1).code == BAJOFEKI_BAD_ARGUMENT);
+    CHECK(bajofeki_document_edit(document, 0, 0, "a", SIZE_MAX).code == BAJOFEKI_BAD_ARGUMENT && bajofeki_document_text(document, 0, NULL, 0) == 9);
+    CHECK(bajofeki_document_edit(document, 0, 9, NULL, 0).removed == 5 && bajofeki_document_pieces(document, 0, 9, pieces, 8).count == 0);
+    CHECK(bajofeki_document_edit(none, 0, 0, "a", 1).code == BAJOFEKI_NO_LEXER && bajofeki_document_text(none, 0, text, 8) == 0);
+    CHECK(bajofeki_document_pieces(none, 0, 1, pieces, 8).code == BAJOFEKI_NO_LEXER && bajofeki_document_place(none, 0).line == 0);
+    bajofeki_document_delete(none);
+    bajofeki_document_delete(document);
+    bajofeki_lexer_delete(clash);
+    bajofeki_lexer_delete(lexer);
+}
+
+/* A stream of "let é" in three chunks, and what it refuses. */
+static void check_stream(void) {
+    bajofeki_lexer *lexer = bajofeki_lexer_new(three, strlen(three)), *clash = bajofeki_lexer_new("A = /a/\nB = /a/", 15);
+    bajofeki_stream *stream = bajofeki_stream_new(lexer), *broken = bajofeki_stream_new(lexer), *none = bajofeki_stream_new(clash);
+    bajofeki_piece_t pieces[8];
+    bajofeki_count_t count;
+    CHECK(bajofeki_stream_feed(stream, "le", 2, false) == BAJOFEKI_DONE);
+    count = bajofeki_stream_next(stream, pieces, 8);
+    CHECK(count.code == BAJOFEKI_DONE && count.count == 0);
+    CHECK(bajofeki_stream_feed(stream, "t \xC3", 3, false) == BAJOFEKI_DONE && bajofeki_stream_feed(stream, NULL, 0, false) == BAJOFEKI_DONE);
+    count = bajofeki_stream_next(stream, pieces, 1);
+    CHECK(count.code == BAJOFEKI_FULL && count.count == 1 && is_piece(pieces[0], BAJOFEKI_TOKEN, 0, 0, 3));
+    CHECK(bajofeki_stream_next(stream, pieces, 8).count == 0 && bajofeki_stream_feed(stream, "\xA9", 1, true) == BAJOFEKI_DONE);
+    CHECK(bajofeki_stream_next(stream, NULL, 0).code == BAJOFEKI_FULL && bajofeki_stream_next(stream, NULL, 1).code == BAJOFEKI_BAD_ARGUMENT);
+    count = bajofeki_stream_next(stream, pieces, 8);
+    CHECK(count.code == BAJOFEKI_DONE && count.count == 2 && is_piece(pieces[0], BAJOFEKI_SKIPPED, 2, 3, 1));
+    CHECK(is_piece(pieces[1], BAJOFEKI_FAULT, 0, 4, 2) && bajofeki_stream_feed(stream, "a", 1, false) == BAJOFEKI_ENDED);
+    CHECK(bajofeki_stream_feed(broken, NULL, 1, false) == BAJOFEKI_BAD_ARGUMENT && bajofeki_stream_feed(broken, "a", SIZE_MAX, false) == BAJOFEKI_BAD_ARGUMENT);
+    CHECK(bajofeki_stream_feed(broken, "a\xFF" "b", 3, false) == BAJOFEKI_NOT_UTF8 && bajofeki_stream_feed(broken, "c", 1, true) == BAJOFEKI_NOT_UTF8);
+    CHECK(bajofeki_stream_next(broken, pieces, 8).count == 1 && is_piece(pieces[0], BAJOFEKI_TOKEN, 1, 0, 1));
+    CHECK(bajofeki_stream_feed(none, "a", 1, true) == BAJOFEKI_NO_LEXER && bajofeki_stream_next(none, pieces, 8).code == BAJOFEKI_NO_LEXER);
+    bajofeki_stream_delete(none);
+    bajofeki_stream_delete(broken);
+    bajofeki_stream_delete(stream);
+    bajofeki_lexer_delete(clash);
+    bajofeki_lexer_delete(lexer);
+}
+
+static uint64_t sum_more(uint64_t sum, bajofeki_piece_t piece) {
+    return sum * 1000003 + piece.kind + 3 * piece.rule + 977 * (piece.start + piece.length);
+}
+
+/* Cuts bytes by arrays of so many places, and gives a sum over their pieces, and how many bytes are left where it goes too deep. */
+static uint64_t sum_of(const bajofeki_lexer *lexer, const char *bytes, size_t length, size_t room, size_t *left) {
     bajofeki_piece_t *pieces = (bajofeki_piece_t *)malloc(room * sizeof *pieces);
     bajofeki_text text = bajofeki_text_begin(lexer, bytes, length);
     bajofeki_cut_t cut;
@@ -104,14 +188,75 @@ static uint64_t sum_of(const bajofeki_lexer *lexer, const char *bytes, size_t le
             CHECK(pieces[i].kind == BAJOFEKI_FAULT ? pieces[i].rule == 0 : pieces[i].rule < bajofeki_lexer_rules(lexer));
             CHECK(pieces[i].kind == BAJOFEKI_FAULT || pieces[i].kind == (uint32_t)bajofeki_lexer_skips(lexer, pieces[i].rule));
             end += pieces[i].length;
-            sum = sum * 1000003 + pieces[i].kind + 3 * pieces[i].rule + 977 * end;
+            sum = sum_more(sum, pieces[i]);
         }
         CHECK(cut.end == end);
     } while (cut.code == BAJOFEKI_FULL);
     CHECK(cut.code == BAJOFEKI_TOO_DEEP || end == length);
+    *left = length - end;
     bajofeki_text_end(&text);
     free(pieces);
     return sum;
+}
+
+/* The same sum over the pieces of a document that is put together from its end, and of a stream that is fed so many bytes at a time; 0 of what is
+   no UTF-8. */
+static uint64_t sum_of_document(const bajofeki_lexer *lexer, const char *bytes, size_t length, size_t most) {
+    bajofeki_document *document = bajofeki_document_new(lexer);
+    bajofeki_piece_t *pieces = NULL;
+    uint64_t sum = 0;
+    uint32_t code = bajofeki_document_edit(document, 0, 0, bytes, length).code;
+    for (size_t at = 0; at < length && code == BAJOFEKI_DONE; at += 1 + at / 3 + most) {
+        size_t end = at + 1;
+        while (end < length && ((unsigned char)bytes[end] & 0xC0) == 0x80) {
+            end++;
+        }
+        code = bajofeki_document_edit(document, at, end, "(", 1).code;
+        CHECK(code == BAJOFEKI_DONE || code == BAJOFEKI_BAD_RANGE);
+        code = code == BAJOFEKI_DONE ? bajofeki_document_edit(document, at, at + 1, bytes + at, end - at).code : (uint32_t)BAJOFEKI_DONE;
+    }
+    if (code == BAJOFEKI_DONE) {
+        size_t count = bajofeki_document_pieces(document, 0, length, NULL, 0).count;
+        pieces = (bajofeki_piece_t *)malloc((count + 1) * sizeof *pieces);
+        CHECK(bajofeki_document_pieces(document, 0, length, pieces, count).count == count);
+        for (size_t i = 0; i < count; i++) {
+            sum = sum_more(sum, pieces[i]);
+        }
+        free(pieces);
+    }
+    bajofeki_document_delete(document);
+    return sum;
+}
+
+static uint64_t sum_of_stream(const bajofeki_lexer *lexer, const char *bytes, size_t length, size_t most) {
+    bajofeki_stream *stream = bajofeki_stream_new(lexer);
+    bajofeki_piece_t pieces[3];
+    bajofeki_count_t count;
+    uint64_t sum = 0;
+    uint32_t code = BAJOFEKI_DONE;
+    for (size_t at = 0; at <= length; at += most) {
+        size_t size = length - at < most ? length - at : most;
+        code = bajofeki_stream_feed(stream, bytes + at, size, at + most > length);
+        do {
+            count = bajofeki_stream_next(stream, pieces, 3);
+            for (size_t i = 0; i < count.count; i++) {
+                sum = sum_more(sum, pieces[i]);
+            }
+        } while (count.code == BAJOFEKI_FULL);
+        CHECK(count.code == BAJOFEKI_DONE);
+    }
+    bajofeki_stream_delete(stream);
+    return code == BAJOFEKI_DONE ? sum : 0;
+}
+
+/* Arrays of all sizes get the same pieces, and a document and a stream have those of a cut, unless it goes too deep. */
+static void check_sums(const bajofeki_lexer *lexer, const char *bytes, size_t length, size_t most) {
+    bool is_utf8 = bajofeki_lexer_html(lexer, bytes, length, NULL, 0).code == BAJOFEKI_SHOWN;
+    uint64_t wanted = is_utf8 ? sum_of_stream(lexer, bytes, length, length + 1) : 0, sum;
+    size_t left;
+    CHECK(sum_of_document(lexer, bytes, length, most) == wanted && sum_of_stream(lexer, bytes, length, most) == wanted);
+    sum = sum_of(lexer, bytes, length, most, &left);
+    CHECK(sum_of(lexer, bytes, length, 1000, &left) == sum && (!is_utf8 || left > 0 || sum == wanted));
 }
 
 static char *read_file(const char *path, size_t *length) {
@@ -143,7 +288,7 @@ static void check_files(const char *rules_path, const char *text_path, uint32_t 
         for (int i = 0; i < 4 && bajofeki_lexer_report(lexer).code == BAJOFEKI_BUILT; i++) {
             check_arguments(lexer);
             check_pages(lexer, text, length);
-            CHECK(sum_of(lexer, text, length, rooms[i]) == sum_of(lexer, text, length, 1000));
+            check_sums(lexer, text, length, rooms[i]);
             spoil(text, length, seed + (uint32_t)i);
         }
         bajofeki_lexer_delete(lexer);
@@ -155,6 +300,8 @@ static void check_files(const char *rules_path, const char *text_path, uint32_t 
 int main(int count, char **words) {
     check_no_lexer();
     check_rules();
+    check_document();
+    check_stream();
     for (int i = 1; i + 1 < count; i += 2) {
         check_files(words[i], words[i + 1], (uint32_t)i);
     }

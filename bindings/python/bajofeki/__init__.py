@@ -3,92 +3,29 @@
 >>> lexer = Lexer("LET = 'let'\\nNAME = /[a-z]+/\\nSPACE skip = /\\\\s+/\\n")
 >>> [(item.kind.value, item.rule, item.text) for item in lexer.items("let x?")]
 [('token', 'LET', 'let'), ('skipped', 'SPACE', ' '), ('token', 'NAME', 'x'), ('fault', None, '?')]
+
+A text is a str, or a buffer of bytes, as bytes, bytearray, memoryview or mmap. A buffer is read where it lies. It is held until the
+last item or `close()`, so a bytearray keeps its size; its bytes mustn't change meanwhile.
 """
 import enum
 import math
-import os
 import struct
-import weakref
-from ctypes import CDLL, POINTER, Structure, byref, c_bool, c_char_p, c_size_t, c_uint32, c_uint64, c_void_p, create_string_buffer
-from pathlib import Path
-from typing import Any, Iterator, NamedTuple, Optional, Tuple, Union
+import sys
+import threading
+from array import array
+from collections import deque
+from ctypes import create_string_buffer
+from typing import NamedTuple, Optional, Tuple, Union
 
-__all__ = ["Item", "Kind", "Lexer", "Rule", "RulesError", "RulesErrorKind"]
+from . import _library
+from ._library import LIBRARY, Piece as _Piece, Room as _Room, Text as _Text, name as _name, word as _word
 
+__all__ = "Arrays Change Columns Document Item Kind Lexer NotUtf8Error Piece Place Places Rule RulesError RulesErrorKind Stream".split()
 
-class Report(Structure):
-    _fields_ = [("code", c_uint32), *((name, c_size_t) for name in "line column rule other other_line other_column position".split())]
-
-
-class Piece(Structure):
-    _fields_ = [("kind", c_uint32), ("rule", c_size_t), ("start", c_size_t), ("length", c_size_t)]
-
-
-class Cut(Structure):
-    _fields_ = [("code", c_uint32), ("count", c_size_t), ("end", c_size_t)]
-
-
-class Place(Structure):
-    _fields_ = [("at", c_size_t), ("line", c_size_t), ("column", c_size_t)]
-
-
-class Page(Structure):
-    _fields_ = [("code", c_uint32), ("length", c_size_t)]
-
-
-class Look(Structure):
-    _fields_ = [("code", c_uint32), ("count", c_size_t)]
-
-
-STRUCTS = (Report, Piece, Cut, Place, Page, Look)
-# Of each function of the library what it gives and what it takes.
-FUNCTIONS = {
-    "bajofeki_lexer_size": (c_size_t, []),
-    "bajofeki_cutter_size": (c_size_t, []),
-    "bajofeki_build": (None, [c_void_p, c_char_p, c_size_t]),
-    "bajofeki_report": (Report, [c_void_p]),
-    "bajofeki_word": (c_size_t, [c_void_p, POINTER(c_uint32), c_size_t]),
-    "bajofeki_rules": (c_size_t, [c_void_p]),
-    "bajofeki_name": (c_size_t, [c_void_p, c_size_t, c_char_p, c_size_t]),
-    "bajofeki_skips": (c_bool, [c_void_p, c_size_t]),
-    "bajofeki_modes": (c_size_t, [c_void_p]),
-    "bajofeki_lookahead": (Look, [c_void_p, c_size_t]),
-    "bajofeki_html": (Page, [c_void_p, c_char_p, c_size_t, c_char_p, c_size_t]),
-    "bajofeki_ansi": (Page, [c_void_p, c_char_p, c_size_t, c_char_p, c_size_t]),
-    "bajofeki_free": (None, [c_void_p]),
-    "bajofeki_begin": (c_uint32, [c_void_p, c_void_p, c_size_t]),
-    "bajofeki_cut": (Cut, [c_void_p, c_void_p, c_char_p, c_size_t, POINTER(Piece), c_size_t]),
-    "bajofeki_end": (None, [c_void_p]),
-    "bajofeki_position": (Place, [c_char_p, c_size_t, c_size_t]),
-    "bajofeki_version": (c_uint32, []),
-}
-
-
-# The version of the functions, and so the number in the library's name.
-VERSION = 2
-
-
-def _library():
-    """The library that BAJOFEKI_LIBRARY names, or that lies beside this file, or the system's."""
-    name = f"libbajofeki.so.{VERSION}"
-    beside = Path(__file__).resolve().with_name(name)
-    path = os.environ.get("BAJOFEKI_LIBRARY") or (str(beside) if beside.is_file() else name)
-    try:
-        library = CDLL(path)
-        for name, (result, arguments) in FUNCTIONS.items():
-            function = getattr(library, name)
-            function.restype, function.argtypes = result, arguments
-    except (OSError, AttributeError) as error:
-        raise ImportError(f"bajofeki has no library for this system: {error}") from error
-    if library.bajofeki_version() != VERSION:
-        raise ImportError(f"{path} has version {library.bajofeki_version()}, not {VERSION}")
-    return library
-
-
-_LIBRARY = _library()
-_FULL, _TOO_DEEP, _OUT_OF_MEMORY = 2, 4, 7
+_DONE, _BAD_RANGE, _FULL, _NOT_UTF8, _TOO_DEEP, _TOO_LARGE, _OUT_OF_MEMORY, _ENDED = 0, 1, 2, 3, 4, 6, 7, 8
 _ROOM = 4096
 _PIECES = struct.Struct("@INNN")
+_made = tuple.__new__
 
 
 class RulesErrorKind(enum.Enum):
@@ -147,6 +84,32 @@ def _shown(word):
     return "".join(f"\\{c}" if c in '"\\' else c if c.isprintable() else f"\\u{{{ord(c):x}}}" for c in word)
 
 
+class NotUtf8Error(ValueError):
+    """A text isn't UTF-8, and has to be. `place` is the offset of its first bad byte.
+
+    >>> Lexer("A = 'a'\\n").html(b"a\\xff")
+    Traceback (most recent call last):
+    bajofeki.NotUtf8Error: byte 1 of the text isn't UTF-8
+    """
+
+    place: int
+
+    def __init__(self, place):
+        super().__init__(place)
+        self.place = place
+
+    def __str__(self):
+        return f"byte {self.place} of the text isn't UTF-8"
+
+
+def _first_bad(data):
+    """The offset of the first byte that isn't UTF-8."""
+    try:
+        return len(bytes(data).decode())
+    except UnicodeDecodeError as error:
+        return error.start
+
+
 class Kind(enum.Enum):
     """What an item is. The rest of a text is TOO_DEEP, and the last item, where its first token would put a mode on top of more than
     1024 others. A FAULT is characters at none of which a rule matches."""
@@ -157,7 +120,15 @@ class Kind(enum.Enum):
     TOO_DEEP = "too deep"
 
 
-_KINDS = (Kind.TOKEN, Kind.SKIPPED, Kind.FAULT, Kind.TOO_DEEP)
+_KINDS = tuple(Kind)
+
+
+class Columns(enum.Enum):
+    """What columns count: the values are the names that the protocol of language servers has for it."""
+
+    BYTES = "utf-8"
+    CHARACTERS = "utf-32"
+    UTF16 = "utf-16"
 
 
 class Rule(NamedTuple):
@@ -168,7 +139,7 @@ class Rule(NamedTuple):
 
 
 class Item(NamedTuple):
-    """A part of a text. `start` and `end` are in characters; lines and columns count from 1."""
+    """A part of a str. `start` and `end` are in characters; lines and columns count from 1."""
 
     kind: Kind
     rule: Optional[str]  # the name of its rule, None if it isn't a token
@@ -180,6 +151,79 @@ class Item(NamedTuple):
     start_byte: int  # in the UTF-8 of the text
     end_byte: int
     number: Optional[int]  # of its rule in the lexer's rules, None if it isn't a token; of rules that are one kind the first
+
+
+class Piece(NamedTuple):
+    """A part of a buffer, a document or a stream. `start` and `end` are in bytes; the text of a buffer is bytes, else it's a str."""
+
+    kind: Kind
+    rule: Optional[str]
+    text: Union[str, bytes]
+    start: int
+    end: int
+    number: Optional[int]
+
+
+class Arrays(NamedTuple):
+    """All pieces of a text, in order, as arrays, which NumPy reads by `numpy.frombuffer(ends, "u8")`."""
+
+    kinds: array  # "I": the place of the kind in `tuple(Kind)`
+    rules: array  # "I": the number of the rule, 0 if it isn't a token
+    ends: array  # "Q": where the piece ends, and the next one begins, in bytes
+
+
+class Place(NamedTuple):
+    """A place in a text. Both count from 1, and a line feed ends its line."""
+
+    line: int
+    column: int
+
+
+# How Python writes what columns count, and in how many bytes each.
+_UNITS = {Columns.BYTES: ("utf-8", 1), Columns.CHARACTERS: ("utf-32-le", 4), Columns.UTF16: ("utf-16-le", 2)}
+# Of the bytes of a character all but the first, and the first ones of characters that are two units in UTF-16.
+_OTHERS, _PAIRS = bytes(range(0x80, 0xC0)), bytes(range(0xF0, 0xF5))
+
+
+def _width(part, columns):
+    """How many columns a str takes, or bytes, which needn't be UTF-8."""
+    if isinstance(part, str):
+        codec, unit = _UNITS[columns]
+        return len(part.encode(codec, "surrogatepass")) // unit
+    pairs = len(part) - len(part.translate(None, _PAIRS)) if columns is Columns.UTF16 else 0
+    return len(part) if columns is Columns.BYTES else len(part.translate(None, _OTHERS)) + pairs
+
+
+def _after(place, part, columns):
+    """The place after a part of a text that begins at this place."""
+    feed = "\n" if isinstance(part, str) else b"\n"
+    feeds, width = part.count(feed), _width(part[part.rfind(feed) + 1 :], columns)
+    return Place(place.line + feeds, 1 + width if feeds else place.column + width)
+
+
+class Places:
+    """Finds the places of offsets in a text: in characters of a str, in bytes of a buffer. Asked in their order, it finds all of them
+    in one pass.
+
+    >>> Places("a\\n\U0001f600=1").at(4), Places("a\\n\U0001f600=1", Columns.UTF16).at(4)
+    (Place(line=2, column=3), Place(line=2, column=4))
+    """
+
+    def __init__(self, text, columns=Columns.CHARACTERS):
+        self._text, self._columns = text if isinstance(text, str) else memoryview(text).cast("B"), columns
+        self._at, self._place = 0, Place(1, 1)
+
+    def at(self, offset):
+        """The place of this offset; of one past the end that of the end."""
+        if offset < self._at:
+            self._at, self._place = 0, Place(1, 1)
+        part = self._text[self._at : offset]
+        part = part if isinstance(part, str) else bytes(part)
+        self._at, self._place = self._at + len(part), _after(self._place, part, self._columns)
+        return self._place
+
+    def __repr__(self):
+        return f"<Places in {self._columns.name}>"
 
 
 class Lexer:
@@ -201,102 +245,146 @@ class Lexer:
     ('mine', [1, 0, None], <Named of 2 rules>)
     """
 
-    def __init__(self, rules: Union[str, bytes, bytearray, memoryview]) -> None:
+    rules: Tuple[Rule, ...]
+
+    def __init__(self, rules):
         if hasattr(self, "_room"):
             raise TypeError("a lexer is built once")
         rules = rules.encode("utf-8", "surrogatepass") if isinstance(rules, str) else bytes(memoryview(rules))
-        room = _room(_LIBRARY.bajofeki_lexer_size())
-        _LIBRARY.bajofeki_build(room, rules, len(rules))
-        # The finalizer keeps the room for as long as a lexer lies in it. At the end of the process a thread may still cut by it.
-        weakref.finalize(self, _LIBRARY.bajofeki_free, room).atexit = False
-        report = _LIBRARY.bajofeki_report(room)
+        room = _Room(LIBRARY.bajofeki_lexer_size(), lambda it: LIBRARY.bajofeki_build(it, rules, len(rules)), LIBRARY.bajofeki_free)
+        report = LIBRARY.bajofeki_report(room.words)
         if report.code:
-            raise _rules_error(report, _word(room), lambda rule: _name(room, rule))
-        numbers = range(_LIBRARY.bajofeki_rules(room))
+            raise _rules_error(report, _word(room.words), lambda rule: _name(room.words, rule))
+        numbers = range(LIBRARY.bajofeki_rules(room.words))
         self._file, self._room = rules, room
-        self.rules: Tuple[Rule, ...] = tuple(Rule(_name(room, rule), _LIBRARY.bajofeki_skips(room, rule)) for rule in numbers)
+        self.rules = tuple(Rule(_name(room.words, rule), LIBRARY.bajofeki_skips(room.words, rule)) for rule in numbers)
+        self._names = [(rule.name, number) for number, rule in enumerate(self.rules)]
 
-    def __reduce__(self) -> Tuple[Any, ...]:
+    def __reduce__(self):
         # A copy, or one from a pickle, is built anew, without a subclass's own `__init__`: a lexer stays in its room.
-        more = {name: it for name, it in vars(self).items() if name not in ("_file", "_room", "rules")}
+        more = {name: it for name, it in vars(self).items() if name not in ("_file", "_names", "_room", "rules")}
         return _rebuilt, (type(self), self._file), more or None
 
-    def __repr__(self) -> str:
+    def __repr__(self):
         return f"<{type(self).__name__} of {len(self.rules)} rules>"
 
-    def items(self, text: str) -> Iterator[Item]:
-        """Cuts a str to its end, by its code in time linear in it: its Items, skipped tokens and faults too."""
-        if not isinstance(text, str):
-            raise TypeError(f"a text is a str, not {type(text).__name__}")
-        return self._items(text.encode("utf-8", "surrogatepass"))
+    def items(self, text):
+        """Cuts a text to its end, by its code in time linear in it, skipped tokens and faults too: a str into Items, a buffer into
+        Pieces.
 
-    def _items(self, data):
-        names, start, line, column = [rule.name for rule in self.rules], 0, 1, 1
-        for kind, rule, at, length in self._pieces(data):
-            slice_ = data[at : at + length].decode("utf-8", "surrogatepass")
-            end = start + len(slice_)
-            name, number = (names[rule], rule) if kind < 2 else (None, None)
-            yield Item(_KINDS[kind], name, slice_, start, end, line, column, at, at + length, number)
-            start, feeds = end, slice_.count("\n")
-            line, column = line + feeds, len(slice_) - slice_.rfind("\n") if feeds else column + len(slice_)
+        >>> next(Lexer("A = /a+/\\n").items(bytearray(b"aa?")))
+        Piece(kind=<Kind.TOKEN: 'token'>, rule='A', text=b'aa', start=0, end=2, number=0)
+        """
+        text = _Text(text)
+        return (self._items_of_str if text.is_str else self._items_of_buffer)(text)
 
-    def html(self, text: str) -> str:
-        """The text as HTML: tokens in a span whose class is the rule's name, faults in a mark. UnicodeEncodeError of surrogates.
+    def _items_of_str(self, text):
+        start, line, column = 0, 1, 1
+        for kind, rule, at, length in self._pieces(text):
+            part = text.data[at : at + length].decode("utf-8", "surrogatepass")
+            end = start + len(part)
+            name, number = self._names[rule] if kind < 2 else (None, None)
+            # A tuple made so takes half of the time that `Item(..)` does.
+            yield _made(Item, (_KINDS[kind], name, part, start, end, line, column, at, at + length, number))
+            start, feeds = end, part.count("\n")
+            line, column = line + feeds, len(part) - part.rfind("\n") if feeds else column + len(part)
+
+    def _items_of_buffer(self, text):
+        for block, _ in self._blocks(text):
+            yield from self._told(block, text.data, 0, bytes)
+
+    def _told(self, block, data, start, made_of):
+        """The Pieces of a block; their texts are made of bytes, which begin at this offset."""
+        for kind, rule, at, length in _PIECES.iter_unpack(block):
+            name, number = self._names[rule] if kind < 2 else (None, None)
+            part = made_of(data[at - start : at - start + length])
+            yield _made(Piece, (_KINDS[kind], name, part, at, at + length, number))
+
+    def arrays(self, text):
+        """The pieces of a whole text, where speed counts: in a tenth of the time that `items` takes.
+
+        >>> Lexer("A = /a+/\\nB = 'b'\\n").arrays("aab?")
+        Arrays(kinds=array('I', [0, 0, 2]), rules=array('I', [0, 1, 0]), ends=array('Q', [2, 3, 4]))
+        """
+        arrays = Arrays(array("I"), array("I"), array("Q"))
+        for block, end in self._blocks(_Text(text)):
+            # Of each piece's four words of 64 bits the low half of the first is its kind, that of the second its rule.
+            halves, words = block.cast("I"), block.cast("Q")
+            arrays.kinds.frombytes(halves[::8].tobytes())
+            arrays.rules.frombytes(halves[2::8].tobytes())
+            # A piece ends where the next one begins.
+            arrays.ends.frombytes(words[6::4].tobytes())
+            arrays.ends.append(end)
+        return arrays
+
+    def html(self, text):
+        """The text as HTML: tokens in a span whose class is the rule's name, faults in a mark. NotUtf8Error of a buffer that isn't
+        UTF-8, UnicodeEncodeError of surrogates.
 
         >>> Lexer("A = 'a'\\nLESS skip = '<'\\n").html("a<?")
         '<span class="A">a</span>&lt;<mark>?</mark>'
         """
-        return self._page(_LIBRARY.bajofeki_html, text.encode())
+        return self._page(LIBRARY.bajofeki_html, text)
 
-    def ansi(self, text: str) -> str:
-        """The text in colours for a terminal, which it can't control. UnicodeEncodeError of surrogates."""
-        return self._page(_LIBRARY.bajofeki_ansi, text.encode())
+    def ansi(self, text):
+        """The text in colours for a terminal, which it can't control. Errors are those of `html`."""
+        return self._page(LIBRARY.bajofeki_ansi, text)
 
-    def _page(self, shows, data):
-        page = create_string_buffer(2 * len(data) or 1)
-        told = shows(self._room, data, len(data), page, len(page))
-        if told.length > len(page):
-            page = create_string_buffer(told.length)
-            told = shows(self._room, data, len(data), page, len(page))
-        if told.code:
-            raise MemoryError("no memory for the page of a text")
-        return page.raw[: told.length].decode()
+    def _page(self, shows, text):
+        text = _Text(text.encode() if isinstance(text, str) else text)
+        length = 2 * text.size
+        while True:
+            page = create_string_buffer(length or 1)
+            told = shows(self._room.words, text.at, text.size, page, length)
+            if told.code == _NOT_UTF8:
+                raise NotUtf8Error(_first_bad(text.data))
+            if told.code:
+                raise MemoryError("no memory for the page of a text")
+            if told.length <= length:
+                return page.raw[: told.length].decode()
+            length = told.length
 
     @property
-    def modes(self) -> int:
+    def modes(self):
         """How many modes there are. They are numbered from 0, in the order in which the file first names them."""
-        return _LIBRARY.bajofeki_modes(self._room)
+        return LIBRARY.bajofeki_modes(self._room.words)
 
-    def lookahead(self, mode: int) -> Union[int, float]:
+    def lookahead(self, mode):
         """How many characters after a token of the mode can leave open whether a longer one comes, or math.inf.
 
         >>> Lexer("A = /a(bc)?/\\n").lookahead(0)
         1
         """
-        look = _LIBRARY.bajofeki_lookahead(self._room, mode) if 0 <= mode < self.modes else None
+        look = LIBRARY.bajofeki_lookahead(self._room.words, mode) if 0 <= mode < self.modes else None
         if look is None:
             raise IndexError("there is no such mode")
         return math.inf if look.code else look.count
 
-    def _pieces(self, data):
-        """The pieces of the bytes as tuples of Piece's fields, and the rest of a text that goes too deep as one of the kind 3."""
-        room, cutter, pieces = self._room, _room(_LIBRARY.bajofeki_cutter_size()), (Piece * min(_ROOM, len(data) or 1))()
-        view, code = memoryview(pieces).cast("B"), _LIBRARY.bajofeki_begin(room, cutter, len(data))
+    def _pieces(self, text):
+        """The pieces of a text as tuples of _Piece's fields."""
+        for block, _ in self._blocks(text):
+            yield from _PIECES.iter_unpack(block)
+
+    def _blocks(self, text):
+        """The pieces of a text as blocks of bytes, each valid up to the next, and where the last of a block ends. The rest of a text that
+        goes too deep is one of the kind 3."""
+        begin = lambda it: LIBRARY.bajofeki_begin(self._room.words, it, text.size)
+        cutter = _Room(LIBRARY.bajofeki_cutter_size(), begin, LIBRARY.bajofeki_end, self._room)
+        pieces, code = (_Piece * min(_ROOM, text.size or 1))(), cutter.begun or _FULL
+        view = memoryview(pieces).cast("B")
         try:
+            while code == _FULL:
+                cut = LIBRARY.bajofeki_cut(self._room.words, cutter.words, text.at, text.size, pieces, len(pieces))
+                code = cut.code
+                if cut.count:
+                    yield view[: cut.count * _PIECES.size], cut.end
+            if code == _TOO_DEEP:
+                pieces[0] = 3, 0, cut.end, text.size - cut.end
+                yield view[: _PIECES.size], text.size
             if code == _OUT_OF_MEMORY:
                 raise MemoryError("no memory for the cut of a text")
-            code = code or _FULL
-            while code == _FULL:
-                cut = _LIBRARY.bajofeki_cut(room, cutter, data, len(data), pieces, len(pieces))
-                yield from _PIECES.iter_unpack(view[: cut.count * _PIECES.size])
-                code = cut.code
-            if code == _TOO_DEEP:
-                yield 3, 0, cut.end, len(data) - cut.end
-            elif code:
-                # In a cycle with a `__del__` that goes on with the items, Python may free the lexer first.
-                raise RuntimeError("the lexer was freed before the text was cut to its end")
         finally:
-            _LIBRARY.bajofeki_end(cutter)
+            cutter.end()
 
 
 def _rebuilt(kind, rules):
@@ -306,21 +394,215 @@ def _rebuilt(kind, rules):
     return lexer
 
 
-def _room(size):
-    """Room of this many bytes, at a multiple of 8."""
-    return (c_uint64 * ((size + 7) // 8))()
+class Change(NamedTuple):
+    """What an edit changed of the pieces of a document. Pieces are numbered from 0, and offsets are in bytes."""
+
+    first: int  # so many pieces at the front stay
+    removed: int  # so many old ones after those are gone
+    inserted: int  # so many came in their place; all others are the old ones, shifted
+    start: int  # where the first piece that is gone, or came, begins
+    old_end: int  # where the last one that is gone ended in the old text
+    new_end: int  # where the last one that came ends in the new text
 
 
-def _word(room):
-    length = _LIBRARY.bajofeki_word(room, byref(c_uint32()), 0)
-    word = (c_uint32 * length)()
-    if length:
-        _LIBRARY.bajofeki_word(room, word, length)
-    return "".join(map(chr, word))
+def _failed(code):
+    """The error of a code of the library."""
+    kind, reason = {
+        _BAD_RANGE: (ValueError, "the offsets aren't those of whole characters of the text"),
+        _TOO_LARGE: (OverflowError, "the text would be too large"),
+        _OUT_OF_MEMORY: (MemoryError, "no memory for the pieces of a text"),
+        _ENDED: (ValueError, "the text has ended"),
+    }[code]
+    return kind(reason)
 
 
-def _name(room, rule):
-    length = _LIBRARY.bajofeki_name(room, rule, b"", 0)
-    name = create_string_buffer(length)
-    _LIBRARY.bajofeki_name(room, rule, name, length)
-    return name.raw.decode()
+def _size(number):
+    """A number for the library, which would take another one modulo 2 ^ 64."""
+    if not 0 <= number <= sys.maxsize:
+        raise ValueError("the text has no such place")
+    return number
+
+
+def _str(data):
+    return str(data, "utf-8")
+
+
+class _Open:
+    """What a lexer has begun. It's closed by `close()` or the end of a `with`, and gives an error then. Threads may share it: each call
+    waits for the one before."""
+
+    def __init__(self, lexer, what):
+        if hasattr(self, "_room"):
+            raise TypeError("it is begun once")
+        size, begin, end = (getattr(LIBRARY, f"bajofeki_{what}_{it}") for it in ("size", "begin", "end"))
+        self._room = _Room(size(), lambda it: begin(lexer._room.words, it), end, lexer._room)
+        self._lexer, self._lock = lexer, threading.RLock()
+
+    def _call(self, function, *words):
+        with self._lock:
+            return function(self._room.words, *words)
+
+    @property
+    def lexer(self):
+        """The lexer that began it."""
+        return self._lexer
+
+    def close(self):
+        """Gives its memory back. A second call does nothing."""
+        with self._lock:
+            self._room.end()
+
+    def __enter__(self):
+        return self
+
+    def __exit__(self, *_):
+        self.close()
+
+    def __reduce__(self):
+        raise TypeError("this can't be copied")
+
+    def __repr__(self):
+        return f"<{type(self).__name__}, {'open' if self._room.end.alive else 'closed'}>"
+
+
+class Document(_Open):
+    """A text that is edited, with its pieces. Offsets are in bytes of UTF-8. It keeps a copy of the text, and 12 bytes a piece.
+
+    >>> document = Document(Lexer("LET = 'let'\\nNAME = /[a-z]+/\\nSPACE skip = ' '\\n"), "let x")
+    >>> document.edit(4, 5, "yz").new_end, document.text, document.piece_at(4).text
+    (6, 'let yz', 'yz')
+    >>> [piece.rule for piece in document.pieces()], document.place(4), document.offset(1, 5)
+    (['LET', 'SPACE', 'NAME'], Place(line=1, column=5), 4)
+    """
+
+    def __init__(self, lexer, text=""):
+        super().__init__(lexer, "document")
+        self.edit(0, 0, text)
+
+    def edit(self, start, end, new):
+        """Replaces what stands from one offset to another by a str or a buffer, and cuts anew the pieces that depend on it. Gives what
+        changed of them. ValueError if the offsets aren't those of whole characters, NotUtf8Error of a buffer that isn't UTF-8,
+        OverflowError from 4,294,967,295 bytes on; then nothing has changed."""
+        new = _Text(new.encode() if isinstance(new, str) else new)
+        found = self._call(LIBRARY.bajofeki_edit, _size(start), _size(end), new.at, new.size)
+        if found.code == _NOT_UTF8:
+            raise NotUtf8Error(_first_bad(new.data))
+        if found.code:
+            raise _failed(found.code)
+        return Change(*(getattr(found, name) for name in Change._fields))
+
+    def pieces(self, start=0, end=None):
+        """The pieces that hold a byte from one offset to another, each whole; all pieces, if no offsets are given."""
+        with self._lock:
+            end, room = len(self) if end is None else end, _ROOM // 16
+            while True:
+                pieces = (_Piece * room)()
+                found = self._call(LIBRARY.bajofeki_pieces, _size(start), _size(end), pieces, room)
+                if found.code:
+                    raise _failed(found.code)
+                if found.count <= room:
+                    break
+                room = found.count
+            start, last = pieces[0].start, pieces[found.count - 1]
+            data = self._copy(start, last.start + last.length - start) if found.count else b""
+        return list(self._lexer._told(memoryview(pieces).cast("B")[: found.count * _PIECES.size], data, start, _str))
+
+    def piece_at(self, offset):
+        """The piece that holds the byte at an offset; None at the end of the text, and after it."""
+        return next(iter(self.pieces(offset, offset + 1)), None)
+
+    def place(self, offset, columns=Columns.CHARACTERS):
+        """The place of an offset. ValueError if it's in a character, or past the end."""
+        with self._lock:
+            found = self._call(LIBRARY.bajofeki_place, _size(offset))
+            if not found.line:
+                raise _failed(_BAD_RANGE)
+            start = self._call(LIBRARY.bajofeki_offset, found.line, 1).at
+            return Place(found.line, 1 + _width(self._copy(start, offset - start), columns))
+
+    def offset(self, line, column, columns=Columns.CHARACTERS):
+        """The offset of a place, of which the column may be the one after the last of its line. ValueError if there is no such place."""
+        with self._lock:
+            found, codec, unit = self._call(LIBRARY.bajofeki_offset, _size(line), 1), *_UNITS[columns]
+            # A column takes four bytes at most.
+            line = self._copy(found.at, min(4 * _size(column - 1), len(self) - found.at)).decode("utf-8", "ignore").partition("\n")[0]
+        front = line.encode(codec)[: unit * (column - 1)].decode(codec, "ignore")
+        if not found.line or _width(front, columns) < column - 1:
+            raise ValueError("the text has no such place")
+        return found.at + len(front.encode())
+
+    @property
+    def text(self):
+        """The text."""
+        with self._lock:
+            return self._copy(0, len(self)).decode()
+
+    def __len__(self):
+        """How many bytes the text has."""
+        return self._call(LIBRARY.bajofeki_copy, 0, b"", 0)
+
+    def _copy(self, start, size):
+        out = create_string_buffer(size or 1)
+        self._call(LIBRARY.bajofeki_copy, start, out, size)
+        return out.raw[:size]
+
+
+class Stream(_Open):
+    """A text that comes in chunks. Going over it gives the Pieces that no later chunk can change, each once.
+
+    >>> with Stream(Lexer("NAME = /[a-z]+/\\nSPACE skip = ' '\\n")) as stream:
+    ...     stream.feed("let x")
+    ...     print([piece.text for piece in stream])
+    ...     stream.feed(b"y")
+    ...     stream.finish()
+    ...     print([piece.text for piece in stream])
+    ['let', ' ']
+    ['xy']
+    """
+
+    def __init__(self, lexer):
+        super().__init__(lexer, "stream")
+        # What has come of the text and stands in no piece, where that begins, pieces to be given, and where the text isn't UTF-8.
+        self._rest, self._at, self._given, self._bad = bytearray(), 0, deque(), None
+
+    def feed(self, chunk):
+        """More of the text comes: a str, or a buffer, which may end in a character. NotUtf8Error from the chunk on in which the text isn't
+        UTF-8: what came before is cut, and no more. ValueError once the text has ended."""
+        self._feed(chunk, False)
+
+    def finish(self):
+        """The text has ended. NotUtf8Error if that is in a character."""
+        self._feed(b"", True)
+
+    def _feed(self, chunk, is_last):
+        chunk = _Text(chunk.encode() if isinstance(chunk, str) else chunk)
+        with self._lock:
+            code = self._call(LIBRARY.bajofeki_feed, chunk.at, chunk.size, is_last)
+            if code not in (_DONE, _NOT_UTF8):
+                raise _failed(code)
+            if self._bad is None:
+                self._rest += chunk.data
+            if code == _NOT_UTF8:
+                self._bad = self._at + _first_bad(self._rest) if self._bad is None else self._bad
+                raise NotUtf8Error(self._bad)
+
+    def __iter__(self):
+        while True:
+            with self._lock:
+                if not self._given and not self._takes_pieces():
+                    return
+                piece = self._given.popleft()
+            yield piece
+
+    def _takes_pieces(self):
+        """Whether there are pieces to be given."""
+        pieces = (_Piece * (_ROOM // 16))()
+        found = self._call(LIBRARY.bajofeki_next, pieces, len(pieces))
+        self._given += self._lexer._told(memoryview(pieces).cast("B")[: found.count * _PIECES.size], self._rest, self._at, _str)
+        if found.count:
+            end = self._given[-1].end
+            del self._rest[: end - self._at]
+            self._at = end
+        if found.code not in (_DONE, _FULL):
+            raise _failed(found.code)
+        return found.count

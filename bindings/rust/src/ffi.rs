@@ -1,7 +1,18 @@
 //! The library's functions, and safe calls of them. Their contracts are in `crates/bajofeki_c/src/lib.rt`.
 
+use std::cell::Cell;
 use std::ffi::c_void;
 use std::fmt;
+use std::marker::PhantomData;
+
+/// The codes of a cut, an edit or chunks.
+pub const DONE: u32 = 0;
+pub const BAD_RANGE: u32 = 1;
+pub const FULL: u32 = 2;
+pub const NOT_UTF8: u32 = 3;
+pub const TOO_DEEP: u32 = 4;
+pub const TOO_LARGE: u32 = 6;
+pub const ENDED: u32 = 8;
 
 /// What became of the rules.
 #[repr(C)]
@@ -57,6 +68,26 @@ pub struct Look {
     pub count: usize,
 }
 
+/// What an edit changed.
+#[repr(C)]
+#[derive(Clone, Copy, Debug)]
+pub struct Edit {
+    pub code: u32,
+    pub first: usize,
+    pub removed: usize,
+    pub inserted: usize,
+    pub start: usize,
+    pub old_end: usize,
+    pub new_end: usize,
+}
+
+#[repr(C)]
+#[derive(Clone, Copy, Debug)]
+pub struct Count {
+    pub code: u32,
+    pub count: usize,
+}
+
 extern "C" {
     fn bajofeki_lexer_size() -> usize;
     fn bajofeki_cutter_size() -> usize;
@@ -93,6 +124,33 @@ extern "C" {
         room: usize,
     ) -> Cut;
     fn bajofeki_end(cutter: *mut c_void);
+    fn bajofeki_document_size() -> usize;
+    fn bajofeki_document_begin(lexer: *const c_void, document: *mut c_void);
+    fn bajofeki_edit(
+        document: *mut c_void,
+        from: usize,
+        to: usize,
+        bytes: *const u8,
+        length: usize,
+    ) -> Edit;
+    fn bajofeki_pieces(
+        document: *const c_void,
+        from: usize,
+        to: usize,
+        out: *mut Piece,
+        room: usize,
+    ) -> Count;
+    fn bajofeki_place(document: *const c_void, at: usize) -> Place;
+    fn bajofeki_offset(document: *const c_void, line: usize, column: usize) -> Place;
+    // The crate keeps the text of a document itself.
+    #[allow(dead_code)]
+    fn bajofeki_copy(document: *const c_void, from: usize, out: *mut u8, room: usize) -> usize;
+    fn bajofeki_document_end(document: *mut c_void);
+    fn bajofeki_stream_size() -> usize;
+    fn bajofeki_stream_begin(lexer: *const c_void, stream: *mut c_void);
+    fn bajofeki_feed(stream: *mut c_void, bytes: *const u8, length: usize, is_last: bool) -> u32;
+    fn bajofeki_next(stream: *mut c_void, out: *mut Piece, room: usize) -> Count;
+    fn bajofeki_stream_end(stream: *mut c_void);
     fn bajofeki_position(text: *const u8, length: usize, at: usize) -> Place;
     fn bajofeki_version() -> u32;
 }
@@ -104,28 +162,59 @@ pub enum Markup {
     Ansi,
 }
 
-/// Room of this many bytes at a multiple of 8.
-fn room(bytes: usize) -> Box<[u64]> {
-    vec![0; (bytes + 7) / 8].into_boxed_slice()
+/// Room at a multiple of 8, and what has begun in it, which ends with it.
+struct Begun {
+    room: Box<[u64]>,
+    end: unsafe extern "C" fn(*mut c_void),
 }
 
-/// A lexer, or why there is none. It owns the room that it lies in. Threads may share it, since all calls but the drop only read it.
+impl Begun {
+    /// Room of this many bytes, where `begin` leaves what `end` takes.
+    fn new(
+        size: usize,
+        end: unsafe extern "C" fn(*mut c_void),
+        begin: impl FnOnce(*mut c_void),
+    ) -> Begun {
+        let mut room = vec![0; (size + 7) / 8].into_boxed_slice();
+        begin(room.as_mut_ptr().cast());
+        Begun { room, end }
+    }
+
+    /// The pointer, for calls that only read what lies there.
+    fn at(&self) -> *const c_void {
+        self.room.as_ptr().cast()
+    }
+
+    fn at_mut(&mut self) -> *mut c_void {
+        self.room.as_mut_ptr().cast()
+    }
+}
+
+impl Drop for Begun {
+    fn drop(&mut self) {
+        // SAFETY: what has begun lies there, and is ended once. What borrows it has ended.
+        unsafe { (self.end)(self.at_mut()) };
+    }
+}
+
+/// A lexer, or why there is none. Threads may share it, since all calls but the drop only read it.
 pub struct Held {
-    room: Box<[u64]>,
+    begun: Begun,
 }
 
 impl Held {
     pub fn build(rules: &[u8]) -> Held {
         // SAFETY: the call asks for nothing.
-        let mut room = room(unsafe { bajofeki_lexer_size() });
-        // SAFETY: the room has that size, is at a multiple of 8, and is given to this build alone; a slice's pointer isn't null.
-        unsafe { bajofeki_build(room.as_mut_ptr().cast(), rules.as_ptr(), rules.len()) };
-        Held { room }
+        let size = unsafe { bajofeki_lexer_size() };
+        let begun = Begun::new(size, bajofeki_free, |room| {
+            // SAFETY: the room has that size, and is given to this build alone; a slice's pointer isn't null.
+            unsafe { bajofeki_build(room, rules.as_ptr(), rules.len()) }
+        });
+        Held { begun }
     }
 
-    /// The pointer, for calls that only read what lies there, as all do that take it.
     fn at(&self) -> *const c_void {
-        self.room.as_ptr().cast()
+        self.begun.at()
     }
 
     pub fn report(&self) -> Report {
@@ -201,16 +290,9 @@ impl Held {
     }
 }
 
-impl Drop for Held {
-    fn drop(&mut self) {
-        // SAFETY: what was built lies there, and is freed once. What borrows it has ended.
-        unsafe { bajofeki_free(self.room.as_mut_ptr().cast()) };
-    }
-}
-
-/// The cut of a text. It owns the room that it lies in, and borrows the lexer and the text, so they are the same at each call.
+/// The cut of a text. It borrows the lexer and the text, so they are the same at each call.
 pub struct Cutting<'a> {
-    room: Box<[u64]>,
+    begun: Begun,
     held: &'a Held,
     text: &'a [u8],
     code: u32,
@@ -218,12 +300,15 @@ pub struct Cutting<'a> {
 
 impl<'a> Cutting<'a> {
     pub fn begin(held: &'a Held, text: &'a [u8]) -> Cutting<'a> {
+        let mut code = DONE;
         // SAFETY: the call asks for nothing.
-        let mut room = room(unsafe { bajofeki_cutter_size() });
-        // SAFETY: a lexer, or why there is none, lies there; the room has that size, is at a multiple of 8, and is this cut's alone.
-        let code = unsafe { bajofeki_begin(held.at(), room.as_mut_ptr().cast(), text.len()) };
+        let size = unsafe { bajofeki_cutter_size() };
+        let begun = Begun::new(size, bajofeki_end, |room| {
+            // SAFETY: a lexer, or why there is none, lies there; the room has that size, and is this cut's alone.
+            code = unsafe { bajofeki_begin(held.at(), room, text.len()) };
+        });
         Cutting {
-            room,
+            begun,
             held,
             text,
             code,
@@ -241,7 +326,7 @@ impl<'a> Cutting<'a> {
         unsafe {
             bajofeki_cut(
                 self.held.at(),
-                self.room.as_mut_ptr().cast(),
+                self.begun.at_mut(),
                 self.text.as_ptr(),
                 self.text.len(),
                 out.as_mut_ptr(),
@@ -251,18 +336,85 @@ impl<'a> Cutting<'a> {
     }
 }
 
-impl Drop for Cutting<'_> {
-    fn drop(&mut self) {
-        // SAFETY: what `begin` left lies there, and is ended once.
-        unsafe { bajofeki_end(self.room.as_mut_ptr().cast()) };
-    }
-}
-
 impl fmt::Debug for Cutting<'_> {
     fn fmt(&self, f: &mut fmt::Formatter<'_>) -> fmt::Result {
         f.debug_struct("Cutting")
             .field("code", &self.code)
             .finish_non_exhaustive()
+    }
+}
+
+/// A text that is edited. It borrows the lexer. The header lets threads read it in turn only, so it isn't `Sync`.
+pub struct HeldDocument<'a> {
+    begun: Begun,
+    lexer: PhantomData<(&'a Held, Cell<()>)>,
+}
+
+impl<'a> HeldDocument<'a> {
+    pub fn begin(held: &'a Held) -> HeldDocument<'a> {
+        // SAFETY: the call asks for nothing.
+        let size = unsafe { bajofeki_document_size() };
+        let begun = Begun::new(size, bajofeki_document_end, |room| {
+            // SAFETY: as in `Cutting::begin`.
+            unsafe { bajofeki_document_begin(held.at(), room) }
+        });
+        HeldDocument {
+            begun,
+            lexer: PhantomData,
+        }
+    }
+
+    pub fn edit(&mut self, from: usize, to: usize, new: &[u8]) -> Edit {
+        // SAFETY: the document lies there, and its lexer; the slice is what it is.
+        unsafe { bajofeki_edit(self.begun.at_mut(), from, to, new.as_ptr(), new.len()) }
+    }
+
+    /// Writes the pieces that hold a byte of the range, as many as the array takes, and says how many there are.
+    pub fn pieces(&self, from: usize, to: usize, out: &mut [Piece]) -> Count {
+        // SAFETY: as for `edit`.
+        unsafe { bajofeki_pieces(self.begun.at(), from, to, out.as_mut_ptr(), out.len()) }
+    }
+
+    pub fn place(&self, at: usize) -> Place {
+        // SAFETY: as for `edit`.
+        unsafe { bajofeki_place(self.begun.at(), at) }
+    }
+
+    pub fn offset(&self, line: usize, column: usize) -> Place {
+        // SAFETY: as for `edit`.
+        unsafe { bajofeki_offset(self.begun.at(), line, column) }
+    }
+}
+
+/// A text that comes in chunks. It borrows the lexer.
+pub struct HeldStream<'a> {
+    begun: Begun,
+    lexer: PhantomData<&'a Held>,
+}
+
+impl<'a> HeldStream<'a> {
+    pub fn begin(held: &'a Held) -> HeldStream<'a> {
+        // SAFETY: the call asks for nothing.
+        let size = unsafe { bajofeki_stream_size() };
+        let begun = Begun::new(size, bajofeki_stream_end, |room| {
+            // SAFETY: as in `Cutting::begin`.
+            unsafe { bajofeki_stream_begin(held.at(), room) }
+        });
+        HeldStream {
+            begun,
+            lexer: PhantomData,
+        }
+    }
+
+    pub fn feed(&mut self, bytes: &[u8], is_last: bool) -> u32 {
+        // SAFETY: the stream lies there, and its lexer; the slice is what it is.
+        unsafe { bajofeki_feed(self.begun.at_mut(), bytes.as_ptr(), bytes.len(), is_last) }
+    }
+
+    /// The next pieces that are final, as many as the array takes.
+    pub fn next(&mut self, out: &mut [Piece]) -> Count {
+        // SAFETY: as for `feed`.
+        unsafe { bajofeki_next(self.begun.at_mut(), out.as_mut_ptr(), out.len()) }
     }
 }
 

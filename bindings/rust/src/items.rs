@@ -5,16 +5,11 @@ use std::fmt::{self, Display, Formatter};
 use std::iter::FusedIterator;
 use std::ops::Range;
 
-use crate::ffi::{Cutting, Piece};
+use crate::ffi::{Cutting, Piece, DONE, FULL, TOO_DEEP};
 use crate::Lexer;
 
-/// The codes of a cut.
-const DONE: u32 = 0;
-const FULL: u32 = 2;
-const TOO_DEEP: u32 = 4;
-
 /// So many pieces are asked for at once.
-const ROOM: usize = 512;
+pub(crate) const ROOM: usize = 512;
 
 /// What an item is.
 #[derive(Clone, Copy, Debug, PartialEq, Eq, Hash)]
@@ -29,9 +24,46 @@ pub enum Kind {
     TooDeep,
 }
 
+/// What can be cut: a `str`, or bytes, which needn't be UTF-8.
+pub trait Text: AsRef<[u8]> {
+    /// What its parts are.
+    type Part: Text<Part = Self::Part> + ?Sized;
+
+    /// The part in this range of bytes.
+    fn part(&self, range: Range<usize>) -> &Self::Part;
+}
+
+macro_rules! is_text {
+    ($($of:ty, $part:ty, [$($more:tt)*];)*) => {
+        $(impl<$($more)*> Text for $of {
+            type Part = $part;
+
+            fn part(&self, range: Range<usize>) -> &$part {
+                &self[range]
+            }
+        })*
+    };
+}
+
+is_text! {
+    str, str, [];
+    String, str, [];
+    [u8], [u8], [];
+    [u8; N], [u8], [const N: usize];
+    Vec<u8>, [u8], [];
+}
+
+impl<T: Text + ?Sized> Text for &T {
+    type Part = T::Part;
+
+    fn part(&self, range: Range<usize>) -> &T::Part {
+        (**self).part(range)
+    }
+}
+
 /// A part of a text.
-#[derive(Clone, Copy, Debug, PartialEq, Eq, Hash)]
-pub struct Item<'a> {
+#[derive(Debug, PartialEq, Eq, Hash)]
+pub struct Item<'a, T: ?Sized = str> {
     /// What it is.
     pub kind: Kind,
     /// The name of its rule; empty if it isn't a token.
@@ -39,30 +71,58 @@ pub struct Item<'a> {
     /// The number of its rule in [`Lexer::rules`]; `None` if it isn't a token. Of rules that are one kind it is the first.
     pub number: Option<usize>,
     /// What stands there.
-    pub text: &'a str,
+    pub text: &'a T,
     /// Where it begins, in bytes.
     pub start: usize,
 }
 
-impl Item<'_> {
+impl<T: ?Sized> Clone for Item<'_, T> {
+    fn clone(&self) -> Self {
+        *self
+    }
+}
+
+impl<T: ?Sized> Copy for Item<'_, T> {}
+
+impl<T: AsRef<[u8]> + ?Sized> Item<'_, T> {
     /// Where it stands, in bytes.
     pub fn range(&self) -> Range<usize> {
-        self.start..self.start + self.text.len()
+        self.start..self.start + self.text.as_ref().len()
+    }
+}
+
+/// The item of a lexer that this piece of a text is.
+pub(crate) fn item<'a, T: Text + ?Sized>(
+    lexer: &'a Lexer,
+    text: &'a T,
+    piece: Piece,
+) -> Item<'a, T::Part> {
+    let (kind, number) = match piece.kind {
+        0 => (Kind::Token, Some(piece.rule)),
+        1 => (Kind::Skipped, Some(piece.rule)),
+        2 => (Kind::Fault, None),
+        _ => (Kind::TooDeep, None),
+    };
+    Item {
+        kind,
+        rule: number.map_or("", |it| lexer.rules[it].name.as_str()),
+        number,
+        text: text.part(piece.start..piece.start + piece.length),
+        start: piece.start,
     }
 }
 
 /// The items of a text, one after another: [`Lexer::items`].
 #[derive(Debug)]
-pub struct Items<'a> {
+pub struct Items<'a, T: ?Sized = str> {
     lexer: &'a Lexer,
-    text: &'a str,
+    text: &'a T,
     cutting: Cutting<'a>,
     pieces: Vec<Piece>,
     /// Of `pieces`, those from `next` to `count` are still to come.
     next: usize,
     count: usize,
-    /// Behind them the cut goes on from `end`, unless the code says that it ended.
-    end: usize,
+    /// After them the cut goes on, unless the code says that it ended.
     code: u32,
 }
 
@@ -78,11 +138,12 @@ impl Display for OutOfMemory {
 
 impl Error for OutOfMemory {}
 
-impl<'a> Items<'a> {
-    pub(crate) fn new(lexer: &'a Lexer, text: &'a str) -> Result<Items<'a>, OutOfMemory> {
-        let cutting = Cutting::begin(&lexer.held, text.as_bytes());
+impl<'a, T: Text + ?Sized> Items<'a, T> {
+    pub(crate) fn new(lexer: &'a Lexer, text: &'a T) -> Result<Items<'a, T>, OutOfMemory> {
+        let bytes = text.as_ref();
+        let cutting = Cutting::begin(&lexer.held, bytes);
         let mut pieces = Vec::new();
-        let room = ROOM.min(text.len());
+        let room = bytes.len().clamp(1, ROOM);
         if cutting.code() != DONE || pieces.try_reserve_exact(room).is_err() {
             return Err(OutOfMemory);
         }
@@ -94,51 +155,36 @@ impl<'a> Items<'a> {
             pieces,
             next: 0,
             count: 0,
-            end: 0,
             code: FULL,
         })
     }
 
-    fn item(&self, piece: Piece) -> Item<'a> {
-        let (kind, number) = match piece.kind {
-            0 => (Kind::Token, Some(piece.rule)),
-            1 => (Kind::Skipped, Some(piece.rule)),
-            _ => (Kind::Fault, None),
-        };
-        Item {
-            kind,
-            rule: number.map_or("", |it| self.lexer.rules[it].name.as_str()),
-            number,
-            text: &self.text[piece.start..piece.start + piece.length],
-            start: piece.start,
+    fn cut_on(&mut self) {
+        let cut = self.cutting.cut(&mut self.pieces);
+        (self.next, self.count, self.code) = (0, cut.count, cut.code);
+        if self.count == 0 && self.code == TOO_DEEP {
+            self.pieces[0] = Piece {
+                kind: TOO_DEEP,
+                rule: 0,
+                start: cut.end,
+                length: self.text.as_ref().len() - cut.end,
+            };
+            (self.count, self.code) = (1, DONE);
         }
     }
 }
 
-impl<'a> Iterator for Items<'a> {
-    type Item = Item<'a>;
+impl<'a, T: Text + ?Sized> Iterator for Items<'a, T> {
+    type Item = Item<'a, T::Part>;
 
-    fn next(&mut self) -> Option<Item<'a>> {
-        if self.next == self.count && self.code == FULL {
-            let cut = self.cutting.cut(&mut self.pieces);
-            (self.next, self.count, self.end, self.code) = (0, cut.count, cut.end, cut.code);
+    fn next(&mut self) -> Option<Item<'a, T::Part>> {
+        if self.next == self.count && self.code != DONE {
+            self.cut_on();
         }
-        if self.next < self.count {
-            self.next += 1;
-            return Some(self.item(self.pieces[self.next - 1]));
-        }
-        if self.code != TOO_DEEP {
-            return None;
-        }
-        self.code = DONE;
-        Some(Item {
-            kind: Kind::TooDeep,
-            rule: "",
-            number: None,
-            text: &self.text[self.end..],
-            start: self.end,
-        })
+        let piece = *self.pieces[..self.count].get(self.next)?;
+        self.next += 1;
+        Some(item(self.lexer, self.text, piece))
     }
 }
 
-impl FusedIterator for Items<'_> {}
+impl<T: Text + ?Sized> FusedIterator for Items<'_, T> {}

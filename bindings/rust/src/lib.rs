@@ -22,15 +22,21 @@
 #![deny(unsafe_code)]
 #![deny(missing_docs)]
 
+mod document;
 #[allow(unsafe_code)]
 mod ffi;
 mod items;
 mod places;
 mod rules_error;
+mod stream;
+mod text_error;
 
-pub use items::{Item, Items, Kind, OutOfMemory};
-pub use places::{Place, Places};
+pub use document::{Change, Document};
+pub use items::{Item, Items, Kind, OutOfMemory, Text};
+pub use places::{Columns, Place, Places};
 pub use rules_error::{RulesError, RulesErrorKind};
+pub use stream::Stream;
+pub use text_error::TextError;
 
 use std::alloc::{handle_alloc_error, Layout};
 use std::fmt;
@@ -120,11 +126,19 @@ impl Lexer {
         &self.rules
     }
 
-    /// Cuts a text: its items are what it consists of, from its beginning to its end, skipped tokens and faults too.
+    /// Cuts a text, which is a `str` or bytes: its items are what it consists of, from its beginning to its end, skipped tokens and
+    /// faults too.
     ///
     /// By its code it takes time linear in the text, and some memory for each byte of it. If that is refused, it ends the process
     /// as `Vec` does.
-    pub fn items<'a>(&'a self, text: &'a str) -> Items<'a> {
+    ///
+    /// ```
+    /// let lexer = bajofeki::Lexer::new("A = /a+/\n")?;
+    /// let parts: Vec<_> = lexer.items(b"aa\xFF").map(|item| item.text).collect();
+    /// assert_eq!(parts, [&b"aa"[..], b"\xFF"]);
+    /// # Ok::<(), bajofeki::RulesError>(())
+    /// ```
+    pub fn items<'a, T: Text + ?Sized>(&'a self, text: &'a T) -> Items<'a, T::Part> {
         match self.try_items(text) {
             Ok(items) => items,
             Err(OutOfMemory) => handle_alloc_error(Layout::for_value(text)),
@@ -143,8 +157,11 @@ impl Lexer {
     /// assert_eq!(numbers, [Some(1), Some(0), None]);
     /// # Ok::<(), Box<dyn std::error::Error>>(())
     /// ```
-    pub fn try_items<'a>(&'a self, text: &'a str) -> Result<Items<'a>, OutOfMemory> {
-        Items::new(self, text)
+    pub fn try_items<'a, T: Text + ?Sized>(
+        &'a self,
+        text: &'a T,
+    ) -> Result<Items<'a, T::Part>, OutOfMemory> {
+        Items::new(self, text.part(0..text.as_ref().len()))
     }
 
     /// The text as HTML: each token in a `span` whose class is the name of its rule, each fault in a `mark`, and skipped tokens in
@@ -215,10 +232,11 @@ pub fn version() -> u32 {
     ffi::version()
 }
 
-// Lexers and items go from thread to thread.
+// Lexers, items and streams go from thread to thread, and threads may share them. Of a document the latter isn't so.
 const _: () = {
     const fn is_shared<T: Send + Sync>() {}
     is_shared::<Lexer>();
     is_shared::<Items<'_>>();
+    is_shared::<Stream<'_>>();
     is_shared::<RulesError>();
 };

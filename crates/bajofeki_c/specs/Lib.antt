@@ -5,5 +5,8 @@ pub mod Look
 pub mod Page
 pub mod Cutting
 pub mod Cut
+pub mod Document
+pub mod Stream
 pub mod Room
+pub mod Lent
 pub mod Place

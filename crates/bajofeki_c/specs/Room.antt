@@ -19,14 +19,14 @@ use Rattle.bajofeki_c.specs.declared.cutting.Cutting.{Cutting}
 use Rattle.bajofeki_c.specs.declared.held.Held.{Held}
 
 -- room for a value of the type has this many bytes, and lies at a multiple of this
-abbrev room_size : RattleType → ℕ
+abbrev pub room_size : RattleType → ℕ
 room_size T = size (lone T.mir)
 
-abbrev room_align : RattleType → ℕ
+abbrev pub room_align : RattleType → ℕ
 room_align T = align (lone T.mir)
 
 -- P holds, and no memory is said of
-abbrev said : Type 0 → Fml
+abbrev pub said : Type 0 → Fml
 said P = fex P (λ _. ftrue)
 
 -- ---- a lexer

@@ -21,21 +21,25 @@
 
 mod cut;
 mod cutting;
+mod document;
 mod held;
 mod look;
 mod page;
 mod position;
 mod report;
 mod rules;
+mod stream;
 
-ghost use Rattle.std.specs.Prelude.{◌≡◌};
+ghost use Rattle.std.specs.Prelude.{◌≡◌, drop};
 ghost use Rattle.std.specs.Borrow.{sem};
 ghost use Rattle.bajofeki_c.specs.Cut.{GoesOn};
+ghost use Rattle.bajofeki_c.specs.Document.{ArePiecesTold, IsOffset, IsPlace, text_of};
 ghost use Rattle.bajofeki_c.specs.Look.{IsLookOf, mode_count};
 ghost use Rattle.bajofeki_c.specs.Page.{IsShown};
 ghost use Rattle.bajofeki_c.specs.Place.{place_in};
 ghost use Rattle.bajofeki_c.specs.Report.{report};
 ghost use Rattle.bajofeki_c.specs.Room.{Cutter, View, begun_at, cut_at, cutting_align, cutting_at, cutting_size, freed_at, held_align, held_at, held_size, made_at, room_for_cutting, room_for_held, seen_at};
+ghost use Rattle.bajofeki_c.specs.Lent.{HeldDocument, HeldStream, document_align, document_at, document_begun_at, document_ended_at, document_size, edited_at, fed_at, given_at, room_for_document, room_for_stream, stream_align, stream_at, stream_begun_at, stream_ended_at, stream_size};
 ghost use Rattle.bajofeki_c.specs.Rules.{IsWritten, count_of, name_of, skips_rule, word_of};
 ghost use Rattle.bajofeki_c.specs.declared.cutting.Cutting.{Cutting as CuttingValue};
 ghost use Rattle.bajofeki_c.specs.declared.held.Held.{Held as HeldValue};
@@ -43,6 +47,10 @@ ghost use Rattle.bajofeki_c.specs.declared.page.Markup.TheVariants.{Ansi, Html};
 
 pub use cut::{Cut, Piece, cut_on};
 pub use cutting::{BeginError, Cutting, begin, code_of, let_cutting_go};
+pub use document::{
+    Count, Document, DocumentError, Edit, begin_document, edit_document, let_document_go,
+    offset_in_document, pieces_into, place_in_document, text_into,
+};
 pub use held::{BuildError, BuiltLexer, Held, NamedRule, let_go, make};
 use lalrpop_emit::{EmitError, LexerNumbers};
 use lalrpop_lexer::Lexer;
@@ -56,6 +64,9 @@ pub use position::{Place, place_of};
 pub use report::{Report, report_of};
 pub use rules::{is_rule_skipped, name_into, rule_count, word_into};
 use std::alloc::Global;
+pub use stream::{
+    OpenStream, Stream, StreamError, begin_stream, feed_stream, let_stream_go, next_in_stream,
+};
 
 // What a lexer and a cut are made of may go to another thread, and several threads may see it.
 fn may_go_to_threads<T: Send + Sync>() {}
@@ -287,6 +298,161 @@ pub unsafe extern "C" fn bajofeki_end(cutter: *mut u8)
     ensures* room { sem 𝓛 (room_for_cutting cutter) }
 {
     let_cutting_go(std::ptr::read(cutter as *const Cutting));
+}
+
+/// The bytes that a document takes. They lie at a multiple of 8.
+#[unsafe(no_mangle)]
+pub extern "C" fn bajofeki_document_size() -> usize
+    ensures size { result ≡ document_size }
+    ensures aligned { document_align ≡ 8 }
+{
+    size_of::<Document>()
+}
+
+/// Begins, in the room at `document`, an empty text that is edited, by a lexer that is seen as long as it.
+#[unsafe(no_mangle)]
+pub unsafe extern "C" fn bajofeki_document_begin(lexer: *const u8, document: *mut u8, alloc: Global)
+    ghost view: { View }
+    requires* room { sem 𝓛 (seen_at lexer view) ∗ sem 𝓛 (room_for_document document) }
+    ensures* begun { sem 𝓛 (seen_at lexer view) ∗ sem 𝓛 (document_begun_at document view) }
+{
+    std::ptr::write(
+        document as *mut Document,
+        begin_document(&*(lexer as *const Held), alloc),
+    );
+}
+
+/// Replaces the bytes from `from` to `to` of the text by these, and says which of its pieces changed.
+#[unsafe(no_mangle)]
+pub unsafe extern "C" fn bajofeki_edit(
+    document: *mut u8,
+    alloc: Global,
+    from: usize,
+    to: usize,
+    new: &[u8],
+) -> Edit
+    ghost held: { HeldDocument }
+    requires* held { sem 𝓛 (document_at document held) }
+    ensures* edited { sem 𝓛 (edited_at document held from to new.now result) }
+{
+    edit_document(&mut *(document as *mut Document), alloc, from, to, new)
+}
+
+/// Writes the pieces that hold a byte of the range, each whole, as many as fit, and says how many there are.
+#[unsafe(no_mangle)]
+pub unsafe extern "C" fn bajofeki_pieces(
+    document: *const u8,
+    alloc: Global,
+    from: usize,
+    to: usize,
+    out: &mut [Piece],
+) -> Count
+    ghost held: { HeldDocument }
+    requires* held { sem 𝓛 (document_at document held) }
+    ensures* held { sem 𝓛 (document_at document held) }
+    ensures pieces { ArePiecesTold held.document from to out.old result out.new }
+{
+    pieces_into(&*(document as *const Document), alloc, from, to, out)
+}
+
+/// The line and the column of an offset in bytes: zeros inside a character, past the end, and without a lexer.
+#[unsafe(no_mangle)]
+pub unsafe extern "C" fn bajofeki_place(document: *const u8, at: usize) -> Place
+    ghost held: { HeldDocument }
+    requires* held { sem 𝓛 (document_at document held) }
+    ensures* held { sem 𝓛 (document_at document held) }
+    ensures place { IsPlace held.document at result }
+{
+    place_in_document(&*(document as *const Document), at)
+}
+
+/// The offset of a line and a column: zeros if the text has no such place.
+#[unsafe(no_mangle)]
+pub unsafe extern "C" fn bajofeki_offset(document: *const u8, line: usize, column: usize) -> Place
+    ghost held: { HeldDocument }
+    requires* held { sem 𝓛 (document_at document held) }
+    ensures* held { sem 𝓛 (document_at document held) }
+    ensures place { IsOffset held.document line column result }
+{
+    offset_in_document(&*(document as *const Document), line, column)
+}
+
+/// Writes the text from a byte on, as many bytes as fit, and says how many there are.
+#[unsafe(no_mangle)]
+pub unsafe extern "C" fn bajofeki_copy(document: *const u8, from: usize, out: &mut [u8]) -> usize
+    ghost held: { HeldDocument }
+    requires* held { sem 𝓛 (document_at document held) }
+    ensures* held { sem 𝓛 (document_at document held) }
+    ensures written { IsWritten (drop from (text_of held.document)) out.old out.new result }
+{
+    text_into(&*(document as *const Document), from, out)
+}
+
+/// Gives the memory of a document back: only its room is left.
+#[unsafe(no_mangle)]
+pub unsafe extern "C" fn bajofeki_document_end(document: *mut u8)
+    ghost held: { HeldDocument }
+    requires* held { sem 𝓛 (document_at document held) }
+    ensures* room { sem 𝓛 (document_ended_at document held) }
+{
+    let_document_go(std::ptr::read(document as *const Document));
+}
+
+/// The bytes that a stream takes. They lie at a multiple of 8.
+#[unsafe(no_mangle)]
+pub extern "C" fn bajofeki_stream_size() -> usize
+    ensures size { result ≡ stream_size }
+    ensures aligned { stream_align ≡ 8 }
+{
+    size_of::<Stream>()
+}
+
+/// Begins, in the room at `stream`, a text of which nothing has come, by a lexer that is seen as long as it.
+#[unsafe(no_mangle)]
+pub unsafe extern "C" fn bajofeki_stream_begin(lexer: *const u8, stream: *mut u8, alloc: Global)
+    ghost view: { View }
+    requires* room { sem 𝓛 (seen_at lexer view) ∗ sem 𝓛 (room_for_stream stream) }
+    ensures* begun { sem 𝓛 (seen_at lexer view) ∗ sem 𝓛 (stream_begun_at stream view) }
+{
+    std::ptr::write(
+        stream as *mut Stream,
+        begin_stream(&*(lexer as *const Held), alloc),
+    );
+}
+
+/// More bytes of the text come.
+#[unsafe(no_mangle)]
+pub unsafe extern "C" fn bajofeki_feed(
+    stream: *mut u8,
+    alloc: Global,
+    bytes: &[u8],
+    is_last: bool,
+) -> u32
+    ghost held: { HeldStream }
+    requires* held { sem 𝓛 (stream_at stream held) }
+    ensures* fed { sem 𝓛 (fed_at stream held bytes.now is_last result) }
+{
+    feed_stream(&mut *(stream as *mut Stream), alloc, bytes, is_last)
+}
+
+/// Writes the next pieces that no later byte can change, as many as the array has room for.
+#[unsafe(no_mangle)]
+pub unsafe extern "C" fn bajofeki_next(stream: *mut u8, out: &mut [Piece]) -> Count
+    ghost held: { HeldStream }
+    requires* held { sem 𝓛 (stream_at stream held) }
+    ensures* given { sem 𝓛 (given_at stream held out.old result out.new) }
+{
+    next_in_stream(&mut *(stream as *mut Stream), out)
+}
+
+/// Gives the memory of a stream back: only its room is left.
+#[unsafe(no_mangle)]
+pub unsafe extern "C" fn bajofeki_stream_end(stream: *mut u8)
+    ghost held: { HeldStream }
+    requires* held { sem 𝓛 (stream_at stream held) }
+    ensures* room { sem 𝓛 (stream_ended_at stream held) }
+{
+    let_stream_go(std::ptr::read(stream as *const Stream));
 }
 
 /// The line and the column of an offset in bytes.

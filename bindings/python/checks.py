@@ -1,0 +1,66 @@
+"""On random texts documents and streams have the pieces of a whole cut, and what is said of places, buffers and arrays is so.
+
+>>> for seed in range(40):
+...     check(random.Random(seed))
+>>> long = "let x?" * 3000
+>>> len(Document(LEXER, long).pieces()), len(LEXER.arrays(long).ends), sum(1 for _ in LEXER.items(long))
+(12000, 12000, 12000)
+"""
+import random
+
+from bajofeki import Columns, Document, Lexer, Places, Stream
+
+LEXER = Lexer("LET = 'let'\nNAME = /[a-z]+/\nSPACE skip = /\\s+/\nTEXT = /\"[^\"]*\"/\nOPEN push INITIAL = '('\n")
+
+
+def text(chance, most):
+    return "".join(chance.choices('ab let(\n"é漢😀 ?', k=chance.randint(0, most)))
+
+
+def pieces_of(data):
+    return [piece._replace(text=piece.text.decode()) for piece in LEXER.items(data)]
+
+
+def has_place(document, line, column, columns):
+    try:
+        at = document.offset(line, column, columns)
+    except ValueError:
+        return False
+    assert document.place(at, columns) == (line, column)
+    return True
+
+
+def check_places(document, data, offsets):
+    for columns in Columns:
+        places = [document.place(at, columns) for at in offsets]
+        assert places == list(map(Places(data, columns).at, offsets)) and offsets == [document.offset(*it, columns) for it in places]
+        assert places == [Places(data.decode(), columns).at(len(data[:at].decode())) for at in offsets]
+        near = [(line, column) for line in range(-1, 9) for column in range(-1, 30)]
+        assert [it for it in near if has_place(document, *it, columns)] == [it for it in near if it in places]
+
+
+def check(chance):
+    document = Document(LEXER, text(chance, 60))
+    data = document.text.encode()
+    for _ in range(4):
+        offsets = [at for at in range(len(data) + 1) if data[at : at + 1] < b"\x80" or data[at : at + 1] > b"\xbf"]
+        check_places(document, data, offsets)
+        (start, end), new, old = sorted(chance.choices(offsets, k=2)), text(chance, 6), document.pieces()
+        change = document.edit(start, end, new)
+        data = data[:start] + new.encode() + data[end:]
+        pieces = pieces_of(data)
+        assert document.text.encode() == data and document.pieces() == pieces
+        assert old[: change.first] == pieces[: change.first] and len(pieces) == len(old) - change.removed + change.inserted
+        for at, piece in enumerate(pieces):
+            assert document.piece_at(piece.end - 1) == piece and document.pieces(piece.start, piece.end + 1) == pieces[at : at + 2]
+    for same in (bytearray(data), memoryview(data), memoryview(b"?" + data)[1:], data.decode()):
+        assert list(LEXER.arrays(same).ends) == [piece.end for piece in pieces]
+    assert [(item.start_byte, item.text) for item in LEXER.items(data.decode())] == [(piece.start, piece.text) for piece in pieces]
+    with Stream(LEXER) as stream:
+        given, at = [], 0
+        while at < len(data):
+            size = chance.randint(0, 20)
+            stream.feed(data[at : at + size])
+            given, at = given + list(stream), at + size
+        stream.finish()
+        assert given + list(stream) == pieces

@@ -1,0 +1,151 @@
+//! A text that comes in chunks.
+
+use std::fmt;
+use std::str;
+
+use crate::ffi::{HeldStream, Piece, DONE, FULL, NOT_UTF8};
+use crate::items::{item, ROOM};
+use crate::{Item, Lexer, TextError};
+
+/// A text that comes in chunks. Each of its pieces is given once no later chunk can change it.
+///
+/// ```
+/// use bajofeki::{Lexer, Stream};
+///
+/// let lexer = Lexer::new("NAME = /[a-z]+/\nSPACE skip = ' '\n")?;
+/// let mut stream = Stream::new(&lexer);
+/// stream.feed("let x")?;
+/// let parts: Vec<_> = stream.pieces()?.iter().map(|piece| piece.text).collect();
+/// assert_eq!(parts, ["let", " "]);
+/// stream.feed(b"y")?;
+/// stream.finish()?;
+/// assert_eq!(stream.pieces()?[0].text, "xy");
+/// # Ok::<(), Box<dyn std::error::Error>>(())
+/// ```
+pub struct Stream<'a> {
+    lexer: &'a Lexer,
+    held: HeldStream<'a>,
+    /// What has come from the offset `at` on, of which the front stands in pieces.
+    text: Vec<u8>,
+    at: usize,
+    pieces: Vec<Piece>,
+    /// So many of `pieces` were given.
+    given: usize,
+    /// The offset of the first byte that isn't UTF-8.
+    bad: Option<usize>,
+}
+
+impl<'a> Stream<'a> {
+    /// A text of which nothing has come.
+    pub fn new(lexer: &'a Lexer) -> Stream<'a> {
+        Stream {
+            lexer,
+            held: HeldStream::begin(&lexer.held),
+            text: Vec::new(),
+            at: 0,
+            pieces: Vec::new(),
+            given: 0,
+            bad: None,
+        }
+    }
+
+    /// More of the text comes, as a `str` or as bytes, which may end in a character.
+    ///
+    /// # Errors
+    ///
+    /// [`TextError::NotUtf8`] from the chunk on in which the text isn't UTF-8: what came before is cut, and no more.
+    /// [`TextError::Ended`] after [`Stream::finish`], or [`TextError::OutOfMemory`].
+    pub fn feed(&mut self, chunk: impl AsRef<[u8]>) -> Result<(), TextError> {
+        self.take(chunk.as_ref(), false)
+    }
+
+    /// The text has ended.
+    ///
+    /// # Errors
+    ///
+    /// As for [`Stream::feed`]; [`TextError::NotUtf8`] if the text ends in a character.
+    pub fn finish(&mut self) -> Result<(), TextError> {
+        self.take(&[], true)
+    }
+
+    fn take(&mut self, chunk: &[u8], is_last: bool) -> Result<(), TextError> {
+        self.let_given_go();
+        if self.text.try_reserve(chunk.len()).is_err() {
+            return Err(TextError::OutOfMemory);
+        }
+        let code = self.held.feed(chunk, is_last);
+        if code != DONE && code != NOT_UTF8 {
+            return Err(TextError::new(code));
+        }
+        if self.bad.is_none() {
+            self.text.extend_from_slice(chunk);
+        }
+        if code == DONE {
+            return Ok(());
+        }
+        let first_bad = |text| str::from_utf8(text).map_or_else(|it| it.valid_up_to(), str::len);
+        let place = self.bad.unwrap_or_else(|| self.at + first_bad(&self.text));
+        self.bad = Some(place);
+        Err(TextError::NotUtf8(place))
+    }
+
+    /// The further pieces that no later chunk can change.
+    ///
+    /// # Errors
+    ///
+    /// [`TextError::OutOfMemory`]; then a later call gives them.
+    pub fn pieces(&mut self) -> Result<Vec<Item<'_>>, TextError> {
+        self.let_given_go();
+        let mut code = FULL;
+        while code == FULL {
+            let count = self.pieces.len();
+            if self.pieces.try_reserve(ROOM).is_err() {
+                return Err(TextError::OutOfMemory);
+            }
+            self.pieces.resize(count + ROOM, Piece::default());
+            let found = self.held.next(&mut self.pieces[count..]);
+            self.pieces.truncate(count + found.count);
+            code = found.code;
+        }
+        if code != DONE {
+            return Err(TextError::new(code));
+        }
+        let mut items = Vec::new();
+        if items.try_reserve_exact(self.pieces.len()).is_err() {
+            return Err(TextError::OutOfMemory);
+        }
+        self.given = self.pieces.len();
+        let text = &self.text[..self.given_bytes()];
+        let text = str::from_utf8(text).expect("pieces are whole characters");
+        for piece in &self.pieces {
+            let start = piece.start - self.at;
+            let found = item(self.lexer, text, Piece { start, ..*piece });
+            items.push(Item {
+                start: piece.start,
+                ..found
+            });
+        }
+        Ok(items)
+    }
+
+    /// How many bytes of `text` stand in pieces that were given.
+    fn given_bytes(&self) -> usize {
+        let last = self.pieces[..self.given].last();
+        last.map_or(0, |it| it.start + it.length - self.at)
+    }
+
+    fn let_given_go(&mut self) {
+        let bytes = self.given_bytes();
+        self.text.drain(..bytes);
+        self.pieces.drain(..self.given);
+        (self.at, self.given) = (self.at + bytes, 0);
+    }
+}
+
+impl fmt::Debug for Stream<'_> {
+    fn fmt(&self, f: &mut fmt::Formatter<'_>) -> fmt::Result {
+        f.debug_struct("Stream")
+            .field("at", &self.at)
+            .finish_non_exhaustive()
+    }
+}

@@ -1,0 +1,116 @@
+//! On random texts documents and streams have the items of a whole cut, and places are found back.
+
+use bajofeki::{Columns, Document, Item, Kind, Lexer, Place, Places, Stream, TextError};
+
+const RULES: &str = "LET = 'let'
+NAME = /[a-z]+/
+SPACE skip = /\\s+/
+TEXT = /\"[^\"]*\"/
+OPEN push INITIAL = '('
+";
+
+/// Numbers that look random, the same at each run.
+struct Chance(u64);
+
+impl Chance {
+    fn below(&mut self, count: usize) -> usize {
+        self.0 = self
+            .0
+            .wrapping_mul(6_364_136_223_846_793_005)
+            .wrapping_add(1);
+        (self.0 >> 33) as usize % count
+    }
+
+    fn text(&mut self, most: usize) -> String {
+        let characters: Vec<_> = "ab let(\n\"é漢😀 ?".chars().collect();
+        let length = self.below(most + 1);
+        (0..length)
+            .map(|_| characters[self.below(characters.len())])
+            .collect()
+    }
+}
+
+fn check_places(document: &Document<'_>) {
+    let text = document.text();
+    for columns in [Columns::Bytes, Columns::Characters, Columns::Utf16] {
+        let (mut places, mut finds) = (Vec::new(), Places::new(text).columns(columns));
+        for at in 0..text.len() + 2 {
+            let place = document.place(at, columns);
+            assert_eq!(place.is_some(), text.is_char_boundary(at));
+            if let Some(place) = place {
+                assert_eq!(place, finds.at(at));
+                assert_eq!(place, Places::new(text).columns(columns).at(at));
+                assert_eq!(document.offset(place, columns), Some(at));
+                places.push(place);
+            }
+        }
+        for (line, column) in (0..300).map(|it| (it / 30, it % 30)) {
+            let place = Place { line, column };
+            let is_place = document.offset(place, columns).is_some();
+            assert_eq!(is_place, places.contains(&place));
+        }
+    }
+}
+
+#[test]
+fn documents() -> Result<(), Box<dyn std::error::Error>> {
+    let (lexer, mut chance) = (Lexer::new(RULES)?, Chance(1));
+    for _ in 0..40 {
+        let mut text = chance.text(200);
+        let mut document = Document::new(&lexer, &text)?;
+        for _ in 0..10 {
+            let (a, b) = (chance.below(text.len() + 1), chance.below(text.len() + 1));
+            let (range, new) = (a.min(b)..a.max(b), chance.text(6));
+            let old = document.pieces(0..text.len())?.len();
+            let is_range = text.is_char_boundary(a) && text.is_char_boundary(b);
+            match document.edit(range.clone(), &new) {
+                Ok(change) => {
+                    text.replace_range(range, &new);
+                    let items: Vec<_> = lexer.items(&text).collect();
+                    assert_eq!(items.len() + change.removed, old + change.inserted);
+                    assert_eq!(document.pieces(0..usize::MAX)?, items);
+                    for item in items {
+                        assert_eq!(document.piece_at(item.range().end - 1)?, Some(item));
+                    }
+                }
+                Err(error) => assert!(error == TextError::NoBoundary && !is_range),
+            }
+            assert_eq!(document.text(), text);
+        }
+        check_places(&document);
+    }
+    Ok(())
+}
+
+/// An item without what borrows the text.
+type Part = (Kind, Option<usize>, usize, String);
+
+fn parts<'a>(items: impl IntoIterator<Item = Item<'a>>) -> Vec<Part> {
+    let part = |item: Item<'_>| (item.kind, item.number, item.start, item.text.to_string());
+    items.into_iter().map(part).collect()
+}
+
+#[test]
+fn streams() -> Result<(), Box<dyn std::error::Error>> {
+    let (lexer, mut chance) = (Lexer::new(RULES)?, Chance(2));
+    for _ in 0..200 {
+        let text = chance.text(80);
+        let (mut stream, mut given, mut rest) = (Stream::new(&lexer), Vec::new(), text.as_bytes());
+        while !rest.is_empty() {
+            let (chunk, more) = rest.split_at(rest.len().min(chance.below(20)));
+            stream.feed(chunk)?;
+            given.extend(parts(stream.pieces()?));
+            rest = more;
+        }
+        stream.finish()?;
+        given.extend(parts(stream.pieces()?));
+        assert_eq!(given, parts(lexer.items(&text)));
+        assert_eq!(stream.feed(""), Err(TextError::Ended));
+    }
+    let mut stream = Stream::new(&lexer);
+    stream.feed(b"let \xC3")?;
+    assert_eq!(stream.feed("("), Err(TextError::NotUtf8(4)));
+    assert_eq!(stream.finish(), Err(TextError::NotUtf8(4)));
+    assert_eq!(parts(stream.pieces()?).len(), 2);
+    Ok(())
+}

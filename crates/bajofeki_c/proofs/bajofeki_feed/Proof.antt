@@ -1,0 +1,87 @@
+-- The stream is lent for a lifetime that is made for the call; the handle, the bytes and whether they are the last are passed on.
+use Rattle.bajofeki_c.proofs.Walking.{ℕ, uint_Lawful, bool, [], ◌∷◌, refl, proved, full_share, id⊢, Lft, ftrue, flft, flent, fsep, fex, named, vptr, fact, tables, ‵, raw, ◌⊛◌, some, later, prop, ◌$◌, ◌∵◌, !, qed, done, move, drop, use1, use2, use3, split, fsplit, join, fjoin, fpack, pick, await, regoal, suffices, group, enter, of_opd, addr, stop, no_more, and_then, returns, alloc_all, pass_all, free_all, look_at, get, through, sets, lands_as, lft_new, lft_end, u8, yes, Is, shows, Ptr, RawPtr, block_ptr, in_a_block, rawptr_vals, rawptr_Tells, MutRef, MutBor, plain, nothing, heard, peeks, calls_at, lasts, triple_of, Stays, walk_of, stay_dropped, Goes-dropped, ends_at, framed, WpFn}
+use Rattle.std.proofs.Common.{◌++◌, w32}
+use denote.RattleType.{owns}
+use denote.Signature.{types_at}
+use denote.Builtin.{SliceRefOf, u32}
+use denote.Plain.{bool_vals, bool_Tells, bool_Lawful}
+use denote.Lend.{lends_ref, ref_back}
+use denote.Memory.{mem}
+use denote.Slice.{shr_slice_vals, shr_slice_Tells, shr_slice_Lawful}
+use types.SemTy.{Body}
+use Rattle.std.specs.contracts.alloc.Global as heap
+use Rattle.std.proofs.alloc.Global.TheLaws as heap_laws
+use Rattle.std_heap.proofs.Handle.{heap_val, heap_Tells}
+use Rattle.bajofeki_c.specs.Lent.{stream_at, stream_lies_at}
+use Rattle.bajofeki_c.specs.contracts.stream.Stream as stream
+use Rattle.bajofeki_c.specs.declared.stream.Stream.{Stream}
+use Rattle.bajofeki_c.specs.Stream.{IsFed}
+use Rattle.bajofeki_c.specs.contracts.bajofeki_feed as f
+use Rattle.bajofeki_c.proofs.bajofeki_feed.Statement.{statement}
+use Rattle.bajofeki_c.proofs.bajofeki_feed.Code as code
+use Rattle.bajofeki_c.specs.contracts.stream.feed_stream as g
+use Rattle.bajofeki_c.proofs.stream.feed_stream.Met.{met}
+
+abbrev stayed : Stays f.ended.signature.params f.ended.kept
+stayed = (stay_dropped _ yes, (stay_dropped _ yes, (stay_dropped _ yes, (stay_dropped _ yes, tt))))
+
+pub bajofeki_feed_spec : {M : Type 1} → statement M
+bajofeki_feed_spec 𝓤 𝓛 𝓜 𝓡 wired =
+    let c = f.clauses 𝓛 𝓜.mem 𝓡.returns in let W = walk_of 𝓛 f.ended stayed c in let 𝓣 = tables 𝓤 𝓛.H 𝓜 𝓡 𝓡.env in
+    proved 𝓛 f.ended stayed c 𝓜 𝓡 (
+      Goes-dropped 𝓛 1 (plain (λ _. RawPtr)) yes (λ κs x w. refl),
+      (
+        Goes-dropped 𝓛 1 (plain (λ _. heap.the_row)) yes (λ κs x w. refl),
+        (Goes-dropped 𝓛 1 (SliceRefOf (0 ∷ []) tt (plain (λ _. u8)) (λ κs. tt)) yes (λ κs x w. refl), (Goes-dropped 𝓛 1 (plain (λ _. bool)) yes (λ κs x w. refl), tt)),
+      ),
+    )
+    f.Key.name code.function (code.unfolded 𝓤 𝓛.H 𝓜 𝓡 wired)
+    (λ κs. (rawptr_vals, ((λ _. heap_val ∷ []), (shr_slice_vals, (bool_vals, tt)))))
+    (λ κs. (rawptr_Tells, (heap_Tells, (shr_slice_Tells (named 0) κs.0 u8, (bool_Tells, tt))))) (λ κs qs bounds a h are.
+    let s = a.1.1.0 in let last = a.1.1.1.0 in let κ = h.lifetime in let q = h.share in
+    let row = stream.the_row (record { mir = named 1; lft = κ }) in
+    let vals = heap_val ∷ (shr_slice_vals s ++ bool_vals last) in
+    let y : Ptr → W.Ghost = λ p. ((κs, qs, bounds, (p, a.1), (rawptr_vals p, (heap_val ∷ [], (shr_slice_vals s, (bool_vals last, tt))))), h) in
+    let G = triple_of 𝓛 g.signature (g.spec 𝓛 𝓜.mem 𝓡.returns) in
+    let toks = ‵ (flft κs.0 qs.0) ⊛ ‵ ftrue in
+    qed 𝓛 ((toks ⊛ ‵ (owns (types_at f.signature.params κs) a (y a.0).0.4)) ∷ ‵ (stream_at a.0 h) ∷ []) ∵
+    split ! $ move ! (1 ∷ []) $ fsplit ! $ drop ! $ move ! (2 ∷ []) $ fsplit ! $
+    -- [the stream; the token of its lexer; what is passed on; the tokens]
+    in_a_block ! a.0 (λ p. stream_lies_at p κ h.stream) (id⊢ 𝓤 _) (λ b o e.
+    regoal ! (λ p. prop (WpFn 𝓤 𝓛.H 𝓣.C 𝓣.Λ code.function (rawptr_vals p ++ vals) (W.post (y p)))) e refl $
+    enter ! _ _ _ _ _ $ alloc_all ! (λ l. pass_all ! refl (
+      (tt, tt),
+      (
+        ((heap_laws.the_row_laws.lawful 𝓛).typed a.1.0 _ are.1.0).0,
+        (((shr_slice_Lawful 𝓛 (named 0) κs.0 u8).typed s _ are.1.1.0).0, (((bool_Lawful 𝓛).typed last _ are.1.1.1.0).0, tt)),
+      ),
+    ) $
+    sets ! (of_opd ! (get ! refl)) refl (tt, tt) $ sets ! (addr ! (through ! refl (stop !))) refl (tt, tt) $
+    lft_new ! tt (λ α. let ν : Lft = α ∷ [] in move ! (1 ∷ []) $
+    use1 𝓛 (later (some (λ (γ : ℕ). ‵ ((MutRef (named 0) ν row).own_val (record { ref_ptr = (b, o); ghost_name = γ; now = h.stream }) (vptr b o ∷ []))
+    ⊛ ‵ (flent ν (Body (mem row) b o γ)))))
+    (lends_ref 𝓛 row (named 0) ν h.stream b o) $ await ! tt $ pick ! (λ γ. split ! $
+    -- [the `&mut`; the right to the stream; its token; that of the lexer; what is passed on; the tokens]
+    let lent : MutBor Stream = record { ref_ptr = (b, o); ghost_name = γ; now = h.stream } in
+    let z : G.Ghost = (((ν, (κ, κs)), (full_share, (q, qs)), tt, (lent, a.1), (vptr b o ∷ [], (heap_val ∷ [], (shr_slice_vals s, (bool_vals last, tt))))), tt) in
+    move ! (0 ∷ 4 ∷ []) $ fjoin ! $ move ! (3 ∷ 4 ∷ []) $ join ! $ move ! (3 ∷ 0 ∷ []) $ join ! $ join ! $
+    nothing ! $ move ! (1 ∷ 0 ∷ []) $ use2 𝓛 (raw (G.pre z)) (id⊢ 𝓤 _) $
+    calls_at ! (framed 𝓤 𝓛.H 𝓜 𝓣) G (met 𝓤 𝓛 𝓜 𝓡 (code.calls-bajofeki_c::stream::feed_stream 𝓡.env wired)) z
+    (and_then ! (get ! refl) (and_then ! (get ! refl) (and_then ! (get ! refl) (and_then ! (get ! refl) (no_more !))))) (λ v.
+    use1 𝓛 (later (some (λ (r : ℕ). ((‵ (flft ν full_share) ⊛ ‵ (flft κ q) ⊛ toks) ⊛ ‵ (u32.own_val r (v ∷ []))) ⊛
+    some (λ (ws : Stream × (Unit {0} × (Unit {0} × (Unit {0} × Unit {0})))). ‵ (lasts g.ended z.0.0 z.0.3 ws) ⊛ raw (fact 𝓤 (IsFed h.stream s.now last r ws.0)))))) (id⊢ 𝓤 _) $
+    await ! tt $ pick ! (λ r. split ! $ split ! $ split ! $ lft_end ! tt $ move ! (1 ∷ []) $ split ! $
+    -- [the token of the lexer; the tokens; the stream's lifetime is over; the result; what the callee says; the right to the stream]
+    move ! (3 ∷ []) $ peeks ! u32 (Is u32) (shows 𝓛 u32) r (v ∷ []) (λ is.
+    lands_as ! refl refl ((uint_Lawful 𝓛 w32).typed r _ is).0 $
+    move ! (4 ∷ []) $ pick ! (λ ws. split ! $ move ! (1 ∷ []) $ heard ! (IsFed h.stream s.now last r ws.0) (λ fed.
+    fsplit ! $ fsplit ! $ move ! (1 ∷ 2 ∷ []) $ drop ! $ drop ! $
+    -- [the stream's last value; the result; the token of the lexer; the tokens; the stream's lifetime is over; the right to the stream]
+    move ! (4 ∷ 5 ∷ 0 ∷ []) $ use3 𝓛 (later (‵ (stream_lies_at (block_ptr b o) κ ws.0))) (ref_back 𝓛 row ν γ ws.0 b o) $ await ! tt $
+    -- [the stream; the result; the token of the lexer; the tokens]
+    returns ! (look_at ! 0 refl) $ free_all ! refl $
+    nothing ! $ fpack ! (IsFed h.stream s.now last r ws.0) (λ _. ftrue) fed $ move ! (1 ∷ 0 ∷ []) $ fjoin ! $
+    fpack ! Stream (λ d. fsep (stream_lies_at (block_ptr b o) κ d) (fex (IsFed h.stream s.now last r d) (λ _. ftrue))) ws.0 $
+    move ! (0 ∷ 2 ∷ []) $ fjoin ! $ move ! (1 ∷ 0 ∷ []) $
+    suffices ! _ (ends_at 𝓛 f.ended stayed c (y (block_ptr b o)) v r (tt, (tt, (tt, (tt, tt)))) (tt, (tt, (tt, (tt, tt))))) $
+    nothing ! $ nothing ! $ join ! $ nothing ! $ join ! $ nothing ! $ join ! $ nothing ! $ join ! $ move ! (3 ∷ []) $ group ! 3 $ done !))))))))))
