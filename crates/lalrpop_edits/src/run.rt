@@ -103,6 +103,16 @@ fn note_all(
     }
 }
 
+// How many bytes settle that no match comes from the place where the text ends: none, or one if some character leads on.
+fn left_open(walker: &Walker<'_>, place: usize) -> usize
+    requires right { IsRight walker.now }
+    requires met { IsMet walker.now place }
+    ensures over { IsOver walker.now place [] result }
+    ensures few { result ≤ 1 }
+{
+    if walker.is_last(place) { 0 } else { 1 }
+}
+
 // Runs along the text, up to where it is settled that no match comes any more. It begins at the byte `at` of a longer one.
 fn run_along(
     walker: &Walker<'_>,
@@ -118,12 +128,12 @@ fn run_along(
     ensures stand { (best : Option (ℕ × List ℕ))
         × IsStand walker.now text.now result.end result.place best }
     ensures order { result.end ≤ result.read }
-    ensures over { (n : ℕ) × ((result.reach ≡ result.end + n)
-        × IsOver walker.now result.place (chars (drop result.end text.now)) n) }
-    ensures vain { (vain : List ℕ)
-        × IsVain walker.now memo.now mode at text.now result.end result.place result.read vain }
-    ensures cost { steps.new ≤ steps.old + result.read }
-    ensures read { steps.old + length (chars (take result.read text.now)) ≤ steps.new }
+    ensures found { ((n : ℕ) × ((result.reach ≡ result.end + n)
+        × IsOver walker.now result.place (chars (drop result.end text.now)) n))
+        × ((vain : List ℕ)
+        × IsVain walker.now memo.now mode at text.now result.end result.place result.read vain)
+        × (steps.new ≤ steps.old + result.read)
+        × (steps.old + length (chars (take result.read text.now)) ≤ steps.new) }
 {
     let mut matched = 0;
     let mut there = walker.start();
@@ -158,20 +168,11 @@ fn run_along(
             }
         }
     }
-    let read = text.len();
-    if walker.is_last(place) {
-        return Run {
-            end: matched,
-            place: there,
-            read,
-            reach: read,
-        };
-    }
     Run {
         end: matched,
         place: there,
-        read,
-        reach: read + 1,
+        read: end,
+        reach: end + left_open(walker, place),
     }
 }
 

@@ -39,13 +39,13 @@ pub(crate) fn longest_remembering<'text>(
     requires places { start + length (chars text.now) < 64 * memo.old.places }
     requires index { start + length (chars text.now) ≤ usize.MAX }
     requires sound { IsSound dfa.now memo.old start (chars text.now) }
-    ensures answer { (ts : List Tree) (ps : List ℕ) → Recognizes dfa.now ts ps
-        → IsLongest ts ps text.now (option_map (λ m. (m.0, m.1.now)) result.longest) }
+    ensures found { ((ts : List Tree) (ps : List ℕ) → Recognizes dfa.now ts ps
+        → IsLongest ts ps text.now (option_map (λ m. (m.0, m.1.now)) result.longest))
+        × ((k : ℕ) → result.end ≡ start + k
+        → IsSound dfa.now memo.new result.end (drop k (chars text.now))) }
     ensures prefix { IfSome result.longest (λ m. IsPrefix m.1.now text.now × (m.1.now ≢ [])) }
     ensures end { result.end ≡ start + characters_of (option_map (λ m. m.1.now) result.longest) }
     ensures same { memo.new ≡ record memo.old { marks = memo.new.marks } }
-    ensures sound { (k : ℕ) → result.end ≡ start + k
-        → IsSound dfa.now memo.new result.end (drop k (chars text.now)) }
     ensures never_falls { steps.old ≤ steps.new }
     ensures paid { steps.new + start + 64 * room memo.new
         ≤ steps.old + result.end + 64 * room memo.old + 64 }

@@ -31,7 +31,7 @@ returns-clause-answer c = λ d ts ps walks h.
     let stand = c.match_at-longest.ensures.stand in
     let best = option_map (λ m. (m.0, m.1.now)) c.match_at-longest.result in
     let cut = stand_cut w text run.end run.place best stand in
-    let over = c.run_along-run.ensures.over in
+    let over = c.run_along-run.ensures.found.0 in
     over_longest w d ts ps walks h text (drop run.end text) run.end over.0 best cut
     (subst (λ (p : ℕ). IsOver w p (chars (drop run.end text)) over.0) stand.reached over.1.1)
     (last_up_to w d ts ps walks h text (drop run.end text) run.end run.place best cut stand.reached stand.last)
@@ -43,7 +43,7 @@ returns-clause-settled c = λ d ts ps walks h.
     let run = c.run_along-run.result in
     let stand = c.match_at-longest.ensures.stand in
     let cut = stand_cut w text run.end run.place (option_map (λ m. (m.0, m.1.now)) c.match_at-longest.result) stand in
-    let over = c.run_along-run.ensures.over in
+    let over = c.run_along-run.ensures.found.0 in
     subst (IsSettledBy ts text) (sym over.1.0)
     (over_settles w d ts ps walks h text (drop run.end text) (chars (drop run.end text)) run.end over.0 c.utf8.text cut refl
     (subst (λ (p : ℕ). IsOver w p (chars (drop run.end text)) over.0) stand.reached over.1.1))
@@ -63,7 +63,7 @@ returns-clause-within c =
     let text = c.args.text.now in
     let run = c.run_along-run.result in
     let stand = c.match_at-longest.ensures.stand in
-    let over = c.run_along-run.ensures.over in
+    let over = c.run_along-run.ensures.found.0 in
     omega (arith, over.1.0, over_within w run.place over.0 (drop run.end text) (chars (drop run.end text)) stand.rest refl over.1.1, length-drop run.end text, stand.within)
 
 pub returns-clause-earliest : goal.returns-clause-earliest
@@ -73,7 +73,7 @@ returns-clause-earliest c = λ past d ts ps walks trim h.
     let run = c.run_along-run.result in
     let stand = c.match_at-longest.ensures.stand in
     let cut = stand_cut w text run.end run.place (option_map (λ m. (m.0, m.1.now)) c.match_at-longest.result) stand in
-    let over = c.run_along-run.ensures.over in
+    let over = c.run_along-run.ensures.found.0 in
     over_earliest w d ts ps walks h text (drop run.end text) run.end over.0 trim c.utf8.text cut
     (subst (λ (p : ℕ). IsOver w p (chars (drop run.end text)) over.0) stand.reached over.1.1)
     (omega (arith, past, over.1.0, length-drop run.end text, stand.within))
@@ -92,7 +92,7 @@ returns-clause-all_open c = λ n above below within utf8.
     let run = c.run_along-run.result in
     let stand = c.match_at-longest.ensures.stand in
     let best : Option (ℕ × List ℕ) = option_map (λ m. (m.0, m.1.now)) c.match_at-longest.result in
-    let over = c.run_along-run.ensures.over in
+    let over = c.run_along-run.ensures.found.0 in
     open_behind w text run.end n over.0 (stand_cut w text run.end run.place best stand)
     (subst (λ (p : ℕ). IsOver w p (chars (drop run.end text)) over.0) stand.reached over.1.1)
     (omega (arith, above, stand_size w text run.end run.place best stand)) (omega (arith, below, over.1.0)) within utf8
@@ -103,11 +103,11 @@ returns-clause-paid c = λ whole.
     let text = c.args.text.now in
     let run = c.run_along-run.result in
     let best : Option (ℕ × List ℕ) = option_map (λ m. (m.0, m.1.now)) c.match_at-longest.result in
-    let vain = c.run_along-run.ensures.vain in
+    let vain = c.run_along-run.ensures.found.1 in
     let old = c.args.memo.now in
     let new = c.note_all.new.memo in
     run_paid w old new c.args.mode c.args.at text run.end run.place run.read c.args.steps.now c.run_along-run.new.steps c.note_all.new.steps best vain.0
-    c.match_at-longest.ensures.stand vain.1 c.run_along-run.ensures.cost c.note_all.ensures.cost c.note_all.ensures.few
+    c.match_at-longest.ensures.stand vain.1 c.run_along-run.ensures.found.2 c.note_all.ensures.cost c.note_all.ensures.few
     (subst (λ (t : List ℕ). 64 ≤ run.read - run.end → (more : List ℕ) → chars t ≡ vain.0 ++ more → AreUnknown w old c.args.mode (c.args.at + run.end) run.place vain.0
     → length (encode_utf8_all vain.0) ≤ run.read - run.end → run.read - run.end ≤ length (encode_utf8_all vain.0) + 4 → run.read - run.end ≤ length t
     → (news : List (ℕ × (ℕ × ℕ))) × (All (IsNew w old new c.args.mode (c.args.at + run.end) t (length (encode_utf8_all vain.0))) news

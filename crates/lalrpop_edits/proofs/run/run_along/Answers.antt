@@ -118,8 +118,8 @@ walk-preserved-in-Accepts c =
       cost = omega (arith, inv.cost, c.tick.ensures.counted, t.forward);
     }
 
-pub returns-in-Reject-clause-over : goal.returns-in-Reject-clause-over
-returns-in-Reject-clause-over c =
+pub returns-in-Reject-clause-found : goal.returns-in-Reject-clause-found
+returns-in-Reject-clause-found c =
     let s = c.read-place.ensures.read in
     let inv = c.walk.invariant in
     let w = c.args.walker.now in
@@ -130,31 +130,16 @@ returns-in-Reject-clause-over c =
     let reject : says w (next_of w c.walk.place s.character) ≡ Reject = ap (says w) (sym s.leads) ∙ sym c.kind.ensures ∙ c.in-Reject.is in
     let over : IsOver w c.walk.place (chars (drop at text)) (length (encode_utf8 s.character)) = rw t.first (inr (inl (refl, reject))) in
     let n : ℕ = end - c.walk.matched in
-    let sum : end ≡ c.walk.matched + n = omega (arith, inv.order, t.forward) in
-    (n, (sum, inv.back (length (encode_utf8 s.character)) n (omega (arith, sum, s.size)) over))
-
-pub returns-in-Reject-clause-vain : goal.returns-in-Reject-clause-vain
-returns-in-Reject-clause-vain c =
-    let inv = c.walk.invariant in
-    let w = c.args.walker.now in
-    let text = c.args.text.now in
-    let at = c.walk.end in
-    let end = c.read-place.new.at in
-    let t = step w text c.walk.place at c.read-place.result end c.utf8.text inv.cut c.read-place.ensures.read in (
-      inv.vain.0,
-      vain_stop w c.args.memo.now c.args.mode c.args.at text c.walk.matched c.walk.there at c.walk.place end (drop at text) inv.vain.0 inv.vain.1
-          (omega (arith, t.forward)) t.near (omega (arith, t.whole)),
+    let sum : end ≡ c.walk.matched + n = omega (arith, inv.order, t.forward) in (
+      (n, (sum, inv.back (length (encode_utf8 s.character)) n (omega (arith, sum, s.size)) over)),
+      (
+        inv.vain.0,
+        vain_stop w c.args.memo.now c.args.mode c.args.at text c.walk.matched c.walk.there at c.walk.place end (drop at text) inv.vain.0 inv.vain.1
+            (omega (arith, t.forward)) t.near (omega (arith, t.whole)),
+      ),
+      omega (arith, inv.cost, c.tick.ensures.counted, t.forward),
+      omega (arith, inv.read, c.tick.ensures.counted, t.count),
     )
-
-pub returns-in-Reject-clause-cost : goal.returns-in-Reject-clause-cost
-returns-in-Reject-clause-cost c =
-    let t = step c.args.walker.now c.args.text.now c.walk.place c.walk.end c.read-place.result c.read-place.new.at c.utf8.text c.walk.invariant.cut c.read-place.ensures.read in
-    omega (arith, c.walk.invariant.cost, c.tick.ensures.counted, t.forward)
-
-pub returns-in-Reject-clause-read : goal.returns-in-Reject-clause-read
-returns-in-Reject-clause-read c =
-    let t = step c.args.walker.now c.args.text.now c.walk.place c.walk.end c.read-place.result c.read-place.new.at c.utf8.text c.walk.invariant.cut c.read-place.ensures.read in
-    omega (arith, c.walk.invariant.read, c.tick.ensures.counted, t.count)
 
 pub overflow_add-result : goal.overflow_add-result
 overflow_add-result c =
@@ -165,8 +150,8 @@ overflow_add-result c =
     let most = over_within c.args.walker.now c.read-place.result c.in-Some.size (drop end text) (chars (drop end text)) t.cut.rest_utf8 refl there.1 in
     omega (arith, most, t.whole)
 
-pub returns-in-Some-clause-over : goal.returns-in-Some-clause-over
-returns-in-Some-clause-over c =
+pub returns-in-Some-clause-found : goal.returns-in-Some-clause-found
+returns-in-Some-clause-found c =
     let s = c.read-place.ensures.read in
     let inv = c.walk.invariant in
     let w = c.args.walker.now in
@@ -180,31 +165,16 @@ returns-in-Some-clause-over c =
     let neither : says w (next_of w c.walk.place s.character) ≡ Neither = ap (says w) (sym s.leads) ∙ sym c.kind.ensures ∙ c.in-Neither.is in
     let over : IsOver w c.walk.place (chars (drop at text)) (length (encode_utf8 s.character) + c.in-Some.size) = rw t.first (inr (inr (neither, (c.in-Some.size, (refl, later))))) in
     let n : ℕ = end + c.in-Some.size - c.walk.matched in
-    let sum : end + c.in-Some.size ≡ c.walk.matched + n = omega (arith, inv.order, t.forward) in
-    (n, (sum, inv.back (length (encode_utf8 s.character) + c.in-Some.size) n (omega (arith, sum, s.size)) over))
-
-pub returns-in-Some-clause-vain : goal.returns-in-Some-clause-vain
-returns-in-Some-clause-vain c =
-    let inv = c.walk.invariant in
-    let w = c.args.walker.now in
-    let text = c.args.text.now in
-    let at = c.walk.end in
-    let end = c.read-place.new.at in
-    let t = step w text c.walk.place at c.read-place.result end c.utf8.text inv.cut c.read-place.ensures.read in (
-      inv.vain.0,
-      vain_stop w c.args.memo.now c.args.mode c.args.at text c.walk.matched c.walk.there at c.walk.place end (drop at text) inv.vain.0 inv.vain.1
-          (omega (arith, t.forward)) t.near (omega (arith, t.whole)),
+    let sum : end + c.in-Some.size ≡ c.walk.matched + n = omega (arith, inv.order, t.forward) in (
+      (n, (sum, inv.back (length (encode_utf8 s.character) + c.in-Some.size) n (omega (arith, sum, s.size)) over)),
+      (
+        inv.vain.0,
+        vain_stop w c.args.memo.now c.args.mode c.args.at text c.walk.matched c.walk.there at c.walk.place end (drop at text) inv.vain.0 inv.vain.1
+            (omega (arith, t.forward)) t.near (omega (arith, t.whole)),
+      ),
+      omega (arith, inv.cost, c.tick.ensures.counted, t.forward),
+      omega (arith, inv.read, c.tick.ensures.counted, t.count),
     )
-
-pub returns-in-Some-clause-cost : goal.returns-in-Some-clause-cost
-returns-in-Some-clause-cost c =
-    let t = step c.args.walker.now c.args.text.now c.walk.place c.walk.end c.read-place.result c.read-place.new.at c.utf8.text c.walk.invariant.cut c.read-place.ensures.read in
-    omega (arith, c.walk.invariant.cost, c.tick.ensures.counted, t.forward)
-
-pub returns-in-Some-clause-read : goal.returns-in-Some-clause-read
-returns-in-Some-clause-read c =
-    let t = step c.args.walker.now c.args.text.now c.walk.place c.walk.end c.read-place.result c.read-place.new.at c.utf8.text c.walk.invariant.cut c.read-place.ensures.read in
-    omega (arith, c.walk.invariant.read, c.tick.ensures.counted, t.count)
 
 pub walk-preserved : goal.walk-preserved
 walk-preserved c =
@@ -237,69 +207,26 @@ walk-preserved c =
       cost = omega (arith, inv.cost, c.tick.ensures.counted, t.forward);
     }
 
-pub is_last-requires-clause-met : goal.is_last-requires-clause-met
-is_last-requires-clause-met c =
+pub left_open-requires-clause-met : goal.left_open-requires-clause-met
+left_open-requires-clause-met c =
     let inv = c.walk.invariant in
     subst (IsMet c.args.walker.now) (sym inv.reached) (met_behind c.args.walker.now (chars (take c.walk.end c.args.text.now)) (text_scalars _ inv.cut.seen_utf8))
 
-pub returns-then-is_last-clause-over : goal.returns-then-is_last-clause-over
-returns-then-is_last-clause-over c =
+pub returns-clause-found : goal.returns-clause-found
+returns-clause-found c =
     let inv = c.walk.invariant in
     let text = c.args.text.now in
     let rest = drop c.walk.end text in
     let end = at_end text c.walk.end inv.cut c.walk-test.false in
-    let over : IsOver c.args.walker.now c.walk.place (chars rest) 0 = rw end.1 (inl (refl, c.is_last.ensures.last c.if-is_last.true)) in
-    let n : ℕ = length text - c.walk.matched in
-    let sum : length text ≡ c.walk.matched + n = omega (arith, inv.order, end.0) in
-    (n, (omega (arith, sum), inv.back 0 n (omega (arith, sum, end.0)) over))
-
-pub returns-then-is_last-clause-vain : goal.returns-then-is_last-clause-vain
-returns-then-is_last-clause-vain c =
-    let inv = c.walk.invariant in
-    let text = c.args.text.now in
-    let at = c.walk.end in
-    let end = (at_end text at inv.cut c.walk-test.false).0 in (
-      inv.vain.0,
-      vain_stop c.args.walker.now c.args.memo.now c.args.mode c.args.at text c.walk.matched c.walk.there at c.walk.place (length text) (drop at text) inv.vain.0 inv.vain.1
-          (omega (arith, end)) (omega (arith, end)) (omega arith),
+    let over : IsOver c.args.walker.now c.walk.place (chars rest) c.left_open.result = rw end.1 c.left_open.ensures.over in
+    let n : ℕ = c.walk.end + c.left_open.result - c.walk.matched in
+    let sum : c.walk.end + c.left_open.result ≡ c.walk.matched + n = omega (arith, inv.order) in (
+      (n, (sum, inv.back c.left_open.result n sum over)),
+      (
+        inv.vain.0,
+        vain_stop c.args.walker.now c.args.memo.now c.args.mode c.args.at text c.walk.matched c.walk.there c.walk.end c.walk.place c.walk.end rest inv.vain.0 inv.vain.1
+            (omega arith) (omega arith) (omega (arith, end.0)),
+      ),
+      inv.cost,
+      inv.read,
     )
-
-pub returns-then-is_last-clause-cost : goal.returns-then-is_last-clause-cost
-returns-then-is_last-clause-cost c =
-    let end = (at_end c.args.text.now c.walk.end c.walk.invariant.cut c.walk-test.false).0 in omega (arith, c.walk.invariant.cost, end)
-
-pub returns-then-is_last-clause-read : goal.returns-then-is_last-clause-read
-returns-then-is_last-clause-read c =
-    let end = (at_end c.args.text.now c.walk.end c.walk.invariant.cut c.walk-test.false).0 in
-    omega (arith, c.walk.invariant.read, ap (λ (n : ℕ). length (chars (take n c.args.text.now))) end)
-
-pub returns-clause-over : goal.returns-clause-over
-returns-clause-over c =
-    let inv = c.walk.invariant in
-    let text = c.args.text.now in
-    let rest = drop c.walk.end text in
-    let end = at_end text c.walk.end inv.cut c.walk-test.false in
-    let over : IsOver c.args.walker.now c.walk.place (chars rest) 1 = rw end.1 (inr (refl, c.is_last.ensures.goes_on c.if-is_last.false)) in
-    let n : ℕ = length text + 1 - c.walk.matched in
-    let sum : length text + 1 ≡ c.walk.matched + n = omega (arith, inv.order, end.0) in
-    (n, (omega (arith, sum), inv.back 1 n (omega (arith, sum, end.0)) over))
-
-pub returns-clause-vain : goal.returns-clause-vain
-returns-clause-vain c =
-    let inv = c.walk.invariant in
-    let text = c.args.text.now in
-    let at = c.walk.end in
-    let end = (at_end text at inv.cut c.walk-test.false).0 in (
-      inv.vain.0,
-      vain_stop c.args.walker.now c.args.memo.now c.args.mode c.args.at text c.walk.matched c.walk.there at c.walk.place (length text) (drop at text) inv.vain.0 inv.vain.1
-          (omega (arith, end)) (omega (arith, end)) (omega arith),
-    )
-
-pub returns-clause-cost : goal.returns-clause-cost
-returns-clause-cost c =
-    let end = (at_end c.args.text.now c.walk.end c.walk.invariant.cut c.walk-test.false).0 in omega (arith, c.walk.invariant.cost, end)
-
-pub returns-clause-read : goal.returns-clause-read
-returns-clause-read c =
-    let end = (at_end c.args.text.now c.walk.end c.walk.invariant.cut c.walk-test.false).0 in
-    omega (arith, c.walk.invariant.read, ap (λ (n : ℕ). length (chars (take n c.args.text.now))) end)

@@ -1,15 +1,16 @@
-use Rattle.std.proofs.Common.{ℕ, [], length, ◌≡◌, ◌<◌, ◌+◌, ◌-◌, take, ap, sym, subst, ◌∙◌, inl, inr, arith, refl}
+use Rattle.std.proofs.Common.{ℕ, List, [], length, ◌≡◌, ◌<◌, ◌+◌, ◌-◌, take, ap, sym, subst, ◌∙◌, inl, inr, arith, refl}
 use Rattle.std.specs.Str.{chars, IsCharBoundary}
 use Rattle.std.specs.Str.Iter.{char_indices_rest, char_indices_offset}
 use Rattle.std.specs.Option.{option_map}
 use Rattle.std.proofs.lemmas.Str.{chars-nil, len_utf8_bounds, length-encode, IsCharBoundary-from_take}
 use Rattle.lalrpop_nfa.proofs.CharLemmas.{chars-none}
 use Rattle.lalrpop_hir.proofs.Cuts.{cut_start, cut_within, cut_more, count_more, count_within}
-use Rattle.lalrpop_dfa.specs.Dfa.{step, IsReject}
+use Rattle.lalrpop_hir.specs.Tree.{Tree}
+use Rattle.lalrpop_dfa.specs.Dfa.{step, IsReject, Recognizes}
 use Rattle.lalrpop_dfa.specs.Lookahead.{IsOpen}
 use Rattle.lalrpop_dfa.specs.declared.Kind.TheVariants.{Accepts, Reject, Neither}
 use Rattle.lalrpop_dfa.proofs.EdgeTargets.{the_some}
-use Rattle.lalrpop_dfa.proofs.LongestLemmas.{after_start, after_more, says_of, reject_at, longest_start, longest_accept, part_accept, longest_pass, longest_end, longest_stop}
+use Rattle.lalrpop_dfa.proofs.LongestLemmas.{after_start, after_more, says_of, reject_at, longest_start, longest_accept, part_accept, longest_pass}
 use Rattle.lalrpop_hir.proofs.TextWords.{text_word}
 use Rattle.lalrpop_lexer.specs.Matching.{characters_of}
 use Rattle.lalrpop_lexer.specs.Internal.Memory.{room}
@@ -37,7 +38,7 @@ loop-offset-init c =
       fewer = omega arith;
       ends = omega arith;
       same = refl;
-      kept = λ bound e. kept_start c.args.dfa.now c.args.memo.now c.args.start bound (chars c.args.text.now) (chars c.args.text.now) 0 c.requires.sound;
+      kept = kept_start c.args.dfa.now c.args.memo.now c.args.start 0 (chars c.args.text.now) (chars c.args.text.now) 0 c.requires.sound;
       paid = omega arith;
     }
 
@@ -80,6 +81,7 @@ loop-offset-preserved-in-Accepts c =
     let is : c.range.result.now ≡ take at2 text = c.range.ensures.value ∙ ap (λ n. take n text) place in
     let more = count_more text rest rest2 at at2 c.in-Some.c inv.cut s.1 s.2 in
     let all = count_at text rest2 at2 cut in
+    let read : length (chars c.range.result.now) ≡ length (chars (take at2 text)) = ap (λ w. length (chars w)) is in
     record {
       cut = cut;
       after = after;
@@ -87,16 +89,15 @@ loop-offset-preserved-in-Accepts c =
           longest_accept ts ps text rest2 at2 c.in-Accepts.number c.range.result.now cut some is
           (says_of c.args.dfa.now ts ps (chars (take at2 text)) c.step-state.result row.0 c.kind.result.now (Accepts c.in-Accepts.number) (text_word (take at2 text) cut.seen_utf8) h after.reached row.1.0 (c.kind.ensures.kind ∙ row.1.1.kind) c.in-Accepts.is);
       prefix = part_accept text rest2 at2 c.range.result.now cut some is;
-      end = let read : length (chars c.range.result.now) ≡ length (chars (take at2 text)) = ap (λ w. length (chars w)) is in omega (arith, inv.index);
+      end = omega (arith, inv.index, read);
       index = omega (arith, inv.index);
       steps = omega (arith, inv.steps);
       fewer = inv.fewer;
       ends = omega arith;
       same = inv.same;
-      kept = λ bound e.
-          kept_accept c.args.dfa.now c.loop-offset.memo c.args.start (characters_of (option_map (λ m. m.1.now) c.loop-offset.longest)) bound c.in-Some.c c.loop-offset.state c.step-state.result (chars text) (chars rest2)
-          (omega (arith, inv.index)) (omega (arith, inv.end, inv.ends))
-          (rw (next_at text rest rest2 at c.in-Some.c inv.cut s.1) at (inv.kept (characters_of (option_map (λ m. m.1.now) c.loop-offset.longest)) inv.end));
+      kept =
+          kept_accept c.args.dfa.now c.loop-offset.memo c.args.start (characters_of (option_map (λ m. m.1.now) c.loop-offset.longest)) (length (chars c.range.result.now)) c.in-Some.c c.loop-offset.state
+          c.step-state.result (chars text) (chars rest2) (omega (arith, read, all)) (omega (arith, read, more, inv.index, inv.end, inv.ends)) (rw (next_at text rest rest2 at c.in-Some.c inv.cut s.1) at inv.kept);
       paid = omega (arith, inv.steps, inv.fewer);
     }
 
@@ -130,95 +131,54 @@ loop-offset-preserved c =
       fewer = omega (arith, inv.fewer, c.is_known.ensures.fewer);
       ends = omega (arith, inv.ends);
       same = same_twice c.args.memo.now c.loop-offset.memo c.is_known.new.self inv.same c.is_known.ensures.same;
-      kept = λ bound e.
-          kept_open c.args.dfa.now c.loop-offset.memo c.is_known.new.self c.args.start bound (length (chars (take at2 text))) (c.loop-offset.index + 1) c.in-Some.c c.loop-offset.state c.step-state.result (chars text) (chars rest2)
+      kept =
+          kept_open c.args.dfa.now c.loop-offset.memo c.is_known.new.self c.args.start (characters_of (option_map (λ m. m.1.now) c.loop-offset.longest)) (length (chars (take at2 text))) (c.loop-offset.index + 1) c.in-Some.c c.loop-offset.state c.step-state.result (chars text) (chars rest2)
           (left_at text rest2 at2 cut) (omega (arith, inv.index)) leads stays c.is_known.ensures.only
-          (rw (next_at text rest rest2 at c.in-Some.c inv.cut s.1) at (inv.kept bound e));
+          (rw (next_at text rest rest2 at c.in-Some.c inv.cut s.1) at inv.kept);
       paid =
           let pay = paid_next c.loop-offset.index (room c.is_known.new.self) (room c.loop-offset.memo) c.is_known.ensures.fewer
           (λ k e. c.is_known.ensures.noted k e (has_mark c.args.dfa.now c.args.memo.now c.loop-offset.memo c.step-state.result k inv.same c.requires.fits stays (omega (arith, e, inv.index, c.requires.places))) c.if-is_known.false) in
           omega (arith, pay, inv.paid);
     }
 
-pub returns-clause-answer : goal.returns-clause-answer
-returns-clause-answer c =
-    let text = c.args.text.now in
-    let at = char_indices_offset c.loop-offset.offset-iterator in
-    let at2 = char_indices_offset c.next.new.self in
-    let rest = char_indices_rest c.loop-offset.offset-iterator in
-    let rest2 = char_indices_rest c.next.new.self in
-    let best = option_map (λ m. (m.0, m.1.now)) c.loop-offset.longest in
-    let inv = c.loop-offset.invariant in
-    elim c.match-next.branch [
-      | in-None w ↦ (λ ts ps h. longest_end ts ps text rest at best inv.cut w.in-None.ensures.steps.0 (inv.best ts ps h))
-      | in-Some+in-Reject w ↦ (λ ts ps h.
-          let s = w.in-Some.ensures.steps in
-          let cut = cut_more text rest rest2 at at2 w.in-Some.c c.utf8.text inv.cut s.1 s.2 in
-          let row = the_some _ _ w.state.ensures.at in
-          let leads : w.step-state.result ≡ step c.args.dfa.now c.loop-offset.state w.in-Some.c = w.step-state.ensures.leads ∙ ap (step c.args.dfa.now c.loop-offset.state) w.from.ensures in
-          let after = after_more c.args.dfa.now text rest rest2 at at2 w.in-Some.c c.loop-offset.state w.step-state.result inv.cut s.1 s.2 inv.after leads w.step-state.ensures.within in
-          longest_stop c.args.dfa.now ts ps text rest2 at2 w.step-state.result best h cut after
-          (reject_at c.args.dfa.now w.step-state.result row.0 w.kind.result.now row.1.0 (w.kind.ensures.kind ∙ row.1.1.kind) w.in-Reject.is)
-          (longest_pass ts ps text rest rest2 at at2 w.in-Some.c best inv.cut s.1 s.2
-          (says_of c.args.dfa.now ts ps (chars (take at2 text)) w.step-state.result row.0 w.kind.result.now Reject (text_word (take at2 text) cut.seen_utf8) h after.reached row.1.0 (w.kind.ensures.kind ∙ row.1.1.kind) w.in-Reject.is)
-          (inv.best ts ps h)))
-      | in-Some+in-Neither+then-is_known w ↦ (λ ts ps h.
-          let s = w.in-Some.ensures.steps in
-          let cut = cut_more text rest rest2 at at2 w.in-Some.c c.utf8.text inv.cut s.1 s.2 in
-          let row = the_some _ _ w.state.ensures.at in
-          let leads : w.step-state.result ≡ step c.args.dfa.now c.loop-offset.state w.in-Some.c = w.step-state.ensures.leads ∙ ap (step c.args.dfa.now c.loop-offset.state) w.from.ensures in
-          let after = after_more c.args.dfa.now text rest rest2 at at2 w.in-Some.c c.loop-offset.state w.step-state.result inv.cut s.1 s.2 inv.after leads w.step-state.ensures.within in
-          let more = count_more text rest rest2 at at2 w.in-Some.c inv.cut s.1 s.2 in
-          let known = w.is_known.ensures.known w.if-is_known.true in
-          let bound = characters_of (option_map (λ m. m.1.now) c.loop-offset.longest) in
-          let hopeless : IsHopeless c.args.dfa.now w.step-state.result (chars rest2) =
-          known_hopeless c.args.dfa.now c.loop-offset.memo c.args.start bound (length (chars (take at2 text))) (c.loop-offset.index + 1) w.in-Some.c known.0.0 c.loop-offset.state w.step-state.result (chars text) (chars rest2)
-          (count_at text rest2 at2 cut) (left_at text rest2 at2 cut) (omega (arith, inv.end, inv.ends, inv.index, more)) (omega (arith, inv.index, more)) known.0.1.1 known.0.1.0
-          (rw (next_at text rest rest2 at w.in-Some.c inv.cut s.1) at (inv.kept bound inv.end)) in
-          longest_hopeless c.args.dfa.now ts ps text rest2 at2 w.step-state.result best h cut after hopeless
-          (longest_pass ts ps text rest rest2 at at2 w.in-Some.c best inv.cut s.1 s.2
-          (says_of c.args.dfa.now ts ps (chars (take at2 text)) w.step-state.result row.0 w.kind.result.now Neither (text_word (take at2 text) cut.seen_utf8) h after.reached row.1.0 (w.kind.ensures.kind ∙ row.1.1.kind) w.in-Neither.is)
-          (inv.best ts ps h)))
-    ]
-
-pub returns-clause-sound : goal.returns-clause-sound
-returns-clause-sound c =
+pub returns-clause-found : goal.returns-clause-found
+returns-clause-found c =
     let d = c.args.dfa.now in
     let text = c.args.text.now in
+    let state = c.loop-offset.state in
     let at = char_indices_offset c.loop-offset.offset-iterator in
     let at2 = char_indices_offset c.next.new.self in
     let rest = char_indices_rest c.loop-offset.offset-iterator in
     let rest2 = char_indices_rest c.next.new.self in
     let inv = c.loop-offset.invariant in
-    let ends = λ (none : IsHopeless d c.loop-offset.state (chars rest)) (k : ℕ) (e : c.loop-offset.end ≡ c.args.start + k).
-    settled d c.loop-offset.memo c.args.start k c.loop-offset.state (chars text) (chars rest) none (inv.kept k e) c.loop-offset.end k e refl in
+    let bound = characters_of (option_map (λ m. m.1.now) c.loop-offset.longest) in
+    -- no match comes from the state before the last character
+    let answer = λ (none : IsHopeless d state (chars rest)) (ts : List Tree) (ps : List ℕ) (h : Recognizes d ts ps).
+    longest_hopeless d ts ps text rest at state (option_map (λ m. (m.0, m.1.now)) c.loop-offset.longest) h inv.cut inv.after none (inv.best ts ps h) in
+    let sound = λ (none : IsHopeless d state (chars rest)) (k : ℕ) (e : c.loop-offset.end ≡ c.args.start + k).
+    settled d c.loop-offset.memo c.args.start bound state (chars text) (chars rest) none inv.kept c.loop-offset.end k e (omega (arith, inv.end, e)) in
     elim c.match-next.branch [
-      | in-None w ↦ (λ k e.
-          let none : chars rest ≡ [] = chars-none rest w.in-None.ensures.steps.0 in
-          let hopeless : IsHopeless d c.loop-offset.state (chars rest) = subst (IsHopeless d c.loop-offset.state) (sym none) tt in
-          rw w.memo-is (ends hopeless k e))
-      | in-Some+in-Reject w ↦ (λ k e.
-          let s = w.in-Some.ensures.steps in
+      | in-None w ↦
+          let none : IsHopeless d state (chars rest) = subst (IsHopeless d state) (sym (chars-none rest w.in-None.ensures.steps.0)) tt in
+          (answer none, rw w.memo-is (sound none))
+      | in-Some+in-Reject w ↦
+          let leads : w.step-state.result ≡ step d state w.in-Some.c = w.step-state.ensures.leads ∙ ap (step d state) w.from.ensures in
           let row = the_some _ _ w.state.ensures.at in
-          let leads : w.step-state.result ≡ step d c.loop-offset.state w.in-Some.c = w.step-state.ensures.leads ∙ ap (step d c.loop-offset.state) w.from.ensures in
           let rejects : IsReject d w.step-state.result = reject_at d w.step-state.result row.0 w.kind.result.now row.1.0 (w.kind.ensures.kind ∙ row.1.1.kind) w.in-Reject.is in
-          let hopeless : IsHopeless d c.loop-offset.state (chars rest) =
-          subst (IsHopeless d c.loop-offset.state) (sym (next_at text rest rest2 at w.in-Some.c inv.cut s.1)) (inl (subst (IsReject d) leads rejects)) in
-          rw w.memo-is (ends hopeless k e))
-      | in-Some+in-Neither+then-is_known w ↦ (λ k e.
+          let none : IsHopeless d state (chars rest) = subst (IsHopeless d state) (sym (next_at text rest rest2 at w.in-Some.c inv.cut w.in-Some.ensures.steps.1)) (inl (subst (IsReject d) leads rejects)) in
+          (answer none, rw w.memo-is (sound none))
+      | in-Some+in-Neither+then-is_known w ↦
           let s = w.in-Some.ensures.steps in
           let cut = cut_more text rest rest2 at at2 w.in-Some.c c.utf8.text inv.cut s.1 s.2 in
+          let leads : w.step-state.result ≡ step d state w.in-Some.c = w.step-state.ensures.leads ∙ ap (step d state) w.from.ensures in
           let row = the_some _ _ w.state.ensures.at in
-          let leads : w.step-state.result ≡ step d c.loop-offset.state w.in-Some.c = w.step-state.ensures.leads ∙ ap (step d c.loop-offset.state) w.from.ensures in
           let stays = open_at d w.step-state.result row.0 row.1.0 (sym (w.kind.ensures.kind ∙ row.1.1.kind) ∙ w.in-Neither.is) in
           let more = count_more text rest rest2 at at2 w.in-Some.c inv.cut s.1 s.2 in
           let known = w.is_known.ensures.known w.if-is_known.true in
-          let bound = characters_of (option_map (λ m. m.1.now) c.loop-offset.longest) in
+          let word = next_at text rest rest2 at w.in-Some.c inv.cut s.1 in
           let further : IsHopeless d w.step-state.result (chars rest2) =
-          known_hopeless d c.loop-offset.memo c.args.start bound (length (chars (take at2 text))) (c.loop-offset.index + 1) w.in-Some.c known.0.0 c.loop-offset.state w.step-state.result (chars text) (chars rest2)
-          (count_at text rest2 at2 cut) (left_at text rest2 at2 cut) (omega (arith, inv.end, inv.ends, inv.index, more)) (omega (arith, inv.index, more)) known.0.1.1 known.0.1.0
-          (rw (next_at text rest rest2 at w.in-Some.c inv.cut s.1) at (inv.kept bound inv.end)) in
-          let hopeless : IsHopeless d c.loop-offset.state (chars rest) =
-          subst (IsHopeless d c.loop-offset.state) (sym (next_at text rest rest2 at w.in-Some.c inv.cut s.1)) (inr (subst (λ q. IsOpen d q × IsHopeless d q (chars rest2)) leads (stays, further))) in
-          rw (w.memo-is, known.1) (ends hopeless k e))
+          known_hopeless d c.loop-offset.memo c.args.start bound (length (chars (take at2 text))) (c.loop-offset.index + 1) w.in-Some.c known.0.0 state w.step-state.result (chars text) (chars rest2)
+          (count_at text rest2 at2 cut) (left_at text rest2 at2 cut) (omega (arith, inv.end, inv.ends, inv.index, more)) (omega (arith, inv.index, more)) known.0.1.1 known.0.1.0 (rw word at inv.kept) in
+          let none : IsHopeless d state (chars rest) = subst (IsHopeless d state) (sym word) (inr (subst (λ q. IsOpen d q × IsHopeless d q (chars rest2)) leads (stays, further))) in
+          (answer none, rw (w.memo-is, known.1) (sound none))
     ]

@@ -25,6 +25,6 @@ invariant-loop-offset l = record {
   fewer : room l.memo ≤ room l.initial.memo;
   ends : l.end ≤ l.index;
   same : l.memo ≡ record l.initial.memo { marks = l.memo.marks };
-  kept : (bound : ℕ) → l.end ≡ l.start + bound → IsKept l.dfa l.memo l.start (chars l.text) bound (chars (char_indices_rest l.offset-iterator)) l.state;
+  kept : IsKept l.dfa l.memo l.start (chars l.text) (characters_of (option_map (λ m. m.1.now) l.longest)) (chars (char_indices_rest l.offset-iterator)) l.state;
   paid : l.steps + l.start + 64 * room l.memo ≤ l.initial.steps + l.end + 64 * room l.initial.memo + l.index % 64;
 }

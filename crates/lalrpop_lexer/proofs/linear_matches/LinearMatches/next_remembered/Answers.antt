@@ -59,7 +59,7 @@ invariant_of-self c =
     let p = c.in-Some.matched.now in
     let prefix = rw c.in-Some.is at found.ensures.prefix in
     let moved = rw c.in-Some.is at found.ensures.end in
-    let sound = rw (rest, dfa) at (found.ensures.sound (length (chars p)) moved) in
+    let sound = rw (rest, dfa) at (found.ensures.found.1 (length (chars p)) moved) in
     let there : c.offset-self-inside.result ≡ i.ahead.at + length p = c.offset-self-inside.ensures.offset ∙ ap (λ (r : Rest). r.at) c.pass.ensures.passes in
     subst (λ (r : Rest). IsReached r.automaton r.text r.at c.offset-self-inside.result found.result.end found.new.memo) (sym c.pass.ensures.passes)
     (subst (λ (n : ℕ). IsReached i.ahead.automaton text (i.ahead.at + length p) n found.result.end found.new.memo) (sym there)
@@ -76,7 +76,7 @@ invariant_of-self-in_default c =
     let dfa : c.dfa-dfa.result.now ≡ i.ahead.automaton = c.dfa-dfa.ensures.same ∙ c.dense.ensures.same in
     let found = c.longest_remembering-found in
     let stays = rw c.in_default.is at found.ensures.end in
-    let sound = rw (rest, dfa) at (found.ensures.sound 0 stays) in
+    let sound = rw (rest, dfa) at (found.ensures.found.1 0 stays) in
     subst (λ (n : ℕ). IsReached i.ahead.automaton text i.ahead.at n found.result.end found.new.memo) (sym c.offset-at.ensures.offset)
     (reached_here i.ahead.automaton text i.ahead.at found.result.end found.new.memo
     (standing_here i.ahead.automaton text i.ahead.at (i.index + c.count_chars.result) found.result.end i.memo found.new.memo found.ensures.same (omega (arith, stays)) sound start))
@@ -86,14 +86,14 @@ returns-in-Some-clause-next c =
     let i = c.self.inside in
     let dfa : c.dfa-dfa.result.now ≡ i.ahead.automaton = c.dfa-dfa.ensures.same ∙ c.dense.ensures.same in
     sought_some _ i.ahead c.pass.new.self c.dfa-dfa.result.now c.rest-rest.result.now c.longest_remembering-found.result.longest (c.in-Some.field-0-0, c.in-Some.matched) _ _ c.in-Some.is c.self.view_is dfa c.rest-rest.ensures.rest
-    c.longest_remembering-found.ensures.answer c.longest_remembering-found.ensures.prefix c.pass.ensures.passes
+    c.longest_remembering-found.ensures.found.0 c.longest_remembering-found.ensures.prefix c.pass.ensures.passes
 
 pub returns-in_default-clause-next : goal.returns-in_default-clause-next
 returns-in_default-clause-next c =
     let i = c.self.inside in
     let dfa : c.dfa-dfa.result.now ≡ i.ahead.automaton = c.dfa-dfa.ensures.same ∙ c.dense.ensures.same in
     sought_none _ i.ahead c.dfa-dfa.result.now c.rest-rest.result.now c.longest_remembering-found.result.longest _ _ c.in_default.is c.self.view_is dfa c.rest-rest.ensures.rest
-    c.longest_remembering-found.ensures.answer
+    c.longest_remembering-found.ensures.found.0
 
 pub returns-in-Some-clause-paid : goal.returns-in-Some-clause-paid
 returns-in-Some-clause-paid c =
