@@ -276,10 +276,14 @@ class Lexer:
         Piece(kind=<Kind.TOKEN: 'token'>, rule='A', text=b'aa', start=0, end=2, number=0)
         """
         text = _Text(text)
-        return (self._items_of_str if text.is_str else self._items_of_buffer)(text)
+        items = (self._items_of_str if text.is_str else self._items_of_buffer)(text)
+        # Only of what has begun does `close()` let go of the buffer.
+        next(items)
+        return items
 
     def _items_of_str(self, text):
         start, line, column = 0, 1, 1
+        yield
         for kind, rule, at, length in self._pieces(text):
             part = text.data[at : at + length].decode("utf-8", "surrogatepass")
             end = start + len(part)
@@ -290,6 +294,7 @@ class Lexer:
             line, column = line + feeds, len(part) - part.rfind("\n") if feeds else column + len(part)
 
     def _items_of_buffer(self, text):
+        yield
         for block, _ in self._blocks(text):
             yield from self._told(block, text.data, 0, bytes)
 
