@@ -8,7 +8,7 @@ use Rattle.lalrpop_hir.proofs.Cuts.{cut_start, cut_within, cut_more, count_more,
 use Rattle.lalrpop_hir.specs.Tree.{Tree}
 use Rattle.lalrpop_dfa.specs.Dfa.{step, IsReject, Recognizes}
 use Rattle.lalrpop_dfa.specs.Lookahead.{IsOpen}
-use Rattle.lalrpop_dfa.specs.declared.Kind.TheVariants.{Accepts, Reject, Neither}
+use Rattle.lalrpop_dfa.specs.declared.Kind.TheVariants.{Accepts, Neither}
 use Rattle.lalrpop_dfa.proofs.EdgeTargets.{the_some}
 use Rattle.lalrpop_dfa.proofs.LongestLemmas.{after_start, after_more, says_of, reject_at, longest_start, longest_accept, part_accept, longest_pass}
 use Rattle.lalrpop_hir.proofs.TextWords.{text_word}
