@@ -285,6 +285,7 @@ fn sized_character(size: usize, least: u32, code: u32) -> Option<Character> {
 }
 
 // How many bytes the character at the place has, and its code. `None` if the bytes there aren't a character (RFC 3629).
+#[inline(always)]
 fn read(text: &[u8], at: usize) -> Option<Character> {
     let first = u32::from(text[at]);
     if first < 0x80 {
@@ -534,6 +535,7 @@ struct CharacterColumn {
 
 // The column of the character at the place. `None` if the bytes there aren't a character. Most are ASCII, so that is looked at
 // first.
+#[inline(always)]
 fn column_at(table: &Table, text: &[u8], at: usize) -> Option<CharacterColumn> {
     let first = text[at];
     if first < 128 {
@@ -557,6 +559,7 @@ fn is_open(ahead: &Ahead, row: usize) -> bool {
 }
 
 // The walk after one more character. `None` if there is none, or it leads to a row in which the token isn't open.
+#[inline(always)]
 fn walked(ahead: &Ahead, table: &Table, text: &[u8], walk: Walk) -> Option<Walk> {
     if walk.at >= text.len() {
         return None;

@@ -97,6 +97,7 @@ fn sized_character(size: usize, least: u32, code: u32) -> Option<Character>
 }
 
 // How many bytes the character at the place has, and its code. `None` if the bytes there aren't a character (RFC 3629).
+#[inline(always)]
 pub(crate) fn read(text: &[u8], at: usize) -> Option<Character>
     requires { at < length text.now }
     ensures { MatchOption result ((c : ℕ) → ¬ IsCharacterAt text.now at c)

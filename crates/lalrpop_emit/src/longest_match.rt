@@ -44,6 +44,7 @@ struct CharacterColumn {
 
 // The column of the character at the place. `None` if the bytes there aren't a character. Most are ASCII, so that is looked at
 // first.
+#[inline(always)]
 fn column_at(table: &Table, text: &[u8], at: usize) -> Option<CharacterColumn>
     requires classes { AreClasses (list_numbers table.now) }
     requires small { (c : ℕ) → 128 ≤ c → c < 1114112
@@ -78,6 +79,7 @@ fn is_open(ahead: &Ahead, row: usize) -> bool
 }
 
 // The walk after one more character. `None` if there is none, or it leads to a row in which the token isn't open.
+#[inline(always)]
 fn walked(ahead: &Ahead, table: &Table, text: &[u8], walk: Walk) -> Option<Walk>
     requires ahead { IsAheadOf (ahead_numbers ahead.now) (list_numbers table.now) }
     requires classes { AreClasses (list_numbers table.now) }
