@@ -18,7 +18,7 @@
 
    Places and lengths are in bytes, rules are numbered from 0 in the order of their lines, lines and columns count from 1, and columns
    are in characters. Nothing here keeps a pointer to the file of rules. What only reads a lexer may be called by several threads at
-   once on one lexer; a cut, a document and a stream are one thread's at a time. */
+   once on one lexer; a cut is one thread's at a time, and a document and a stream stay on the thread that began them. */
 #ifndef BAJOFEKI_H
 #define BAJOFEKI_H
 #include <stdbool.h>

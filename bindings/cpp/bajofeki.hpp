@@ -9,8 +9,8 @@
 
    Texts are any bytes, but those of a document and of a stream are UTF-8. Places and lengths are in bytes, rules are numbered from 0, lines
    and columns count from 1, and columns are in characters. All types here but records can be moved and not copied. A lexer may be moved, and
-   outlives what is made of it; many threads may read it at once, and all else is one thread's at a time. A string_view that is given lies
-   in the text that was passed, in the lexer, or where its call says.
+   outlives what is made of it; many threads may read it at once, the pieces of a text are one thread's at a time, and a document and a stream
+   stay on the thread that began them. A string_view that is given lies in the text that was passed, in the lexer, or where its call says.
 
    Memory that is refused is a std::bad_alloc, and what was moved away a std::logic_error. */
 #ifndef BAJOFEKI_HPP

@@ -4,6 +4,9 @@
 //! pieces of the text array by array. What only reads the lexer needs a view of it alone, so several threads may cut by one
 //! lexer, each with a cut of its own. An array crosses as a pointer and a length.
 //!
+//! A text that is edited lies in room of its own with its pieces, and so does a text that comes in chunks. Both see their lexer as
+//! long as they lie there.
+//!
 //! ```c
 //! void *lexer = malloc(bajofeki_lexer_size()), *cutter = malloc(bajofeki_cutter_size());
 //! bajofeki_build(lexer, rules, rules_length);

@@ -1,4 +1,4 @@
-use Rattle.std.proofs.Common.{◌≡◌, ◌+◌, inl, [], ◌∷◌, ◌++◌, map, refl, ap, sym, subst, ◌∙◌, arith, length-append, length-set}
+use Rattle.std.proofs.Common.{◌+◌, inl, [], ◌∷◌, ◌++◌, map, refl, ap, sym, subst, ◌∙◌, arith, length-append, length-set}
 use Rattle.std.proofs.lemmas.List.{take_more_set, drop-set-lt, map-append}
 use Rattle.std.proofs.lemmas.Grind.{drop_more_same}
 use Rattle.std.specs.Prelude.{Option, Some, None, Ok}
