@@ -1,5 +1,6 @@
 /* checks RULES TEXT [RULES TEXT ..]: calls each function of the header, with null pointers, arrays that are too short, the texts whole and
-   with bytes spoilt, and stops at the first wrong answer. Run under sanitizers it shows that no access goes astray. C and C++. */
+   with bytes spoilt, and memory refused, and stops at the first wrong answer. Run under sanitizers it shows that no access goes astray. C and
+   C++, to be linked with -Wl,--wrap=malloc,--wrap=realloc. */
 #include <stdio.h>
 #include <string.h>
 #include "bajofeki.h"
@@ -9,6 +10,25 @@
 static void fail(int line, const char *fact) {
     fprintf(stderr, "checks: line %d: %s\n", line, fact);
     exit(1);
+}
+
+static size_t granted = SIZE_MAX; /* so many further requests for memory */
+
+void *__real_malloc(size_t size);
+void *__wrap_malloc(size_t size);
+void *__real_realloc(void *old, size_t size);
+void *__wrap_realloc(void *old, size_t size);
+
+static bool is_granted(void) {
+    return granted == SIZE_MAX || (granted > 0 && granted-- > 0);
+}
+
+void *__wrap_malloc(size_t size) {
+    return is_granted() ? __real_malloc(size) : NULL;
+}
+
+void *__wrap_realloc(void *old, size_t size) {
+    return is_granted() ? __real_realloc(old, size) : NULL;
 }
 
 static void check_no_lexer(void) {
@@ -169,6 +189,56 @@ static void check_stream(void) {
     bajofeki_lexer_delete(lexer);
 }
 
+/* Whether memory was refused for a call, after which all is granted again. */
+static bool is_refused(uint32_t code) {
+    granted = SIZE_MAX;
+    CHECK(code == BAJOFEKI_DONE || code == BAJOFEKI_OUT_OF_MEMORY);
+    return code == BAJOFEKI_OUT_OF_MEMORY;
+}
+
+/* The request after `n` others is refused in each call. Gives whether there was one. */
+static bool check_refused(const bajofeki_lexer *lexer, size_t n) {
+    bajofeki_document *document = bajofeki_document_new(lexer);
+    bajofeki_stream *stream = bajofeki_stream_new(lexer);
+    bajofeki_piece_t pieces[8];
+    bajofeki_count_t count;
+    bool is_cut, is_found, is_fed, is_next = false;
+    CHECK(bajofeki_document_edit(document, 0, 0, "let", 3).code == BAJOFEKI_DONE);
+    granted = n;
+    is_cut = is_refused(bajofeki_document_edit(document, 3, 3, " x", 2).code);
+    CHECK(bajofeki_document_text(document, 0, NULL, 0) == (is_cut ? 3 : 5));
+    granted = n;
+    count = bajofeki_document_pieces(document, 0, 9, pieces, 8);
+    is_found = is_refused(count.code);
+    CHECK(count.count == (is_found ? 0 : is_cut ? 1 : 3));
+    granted = n;
+    is_fed = is_refused(bajofeki_stream_feed(stream, "let x ", 6, false));
+    if (!is_fed) {
+        granted = n;
+        is_next = is_refused(bajofeki_stream_next(stream, pieces, 8).code);
+    }
+    /* What a feed refused stays so, and what a next refused is had again. */
+    CHECK(is_refused(bajofeki_stream_next(stream, pieces, 8).code) == is_fed && is_refused(bajofeki_stream_feed(stream, "y", 1, true)) == is_fed);
+    bajofeki_stream_delete(stream);
+    bajofeki_document_delete(document);
+    return is_cut || is_found || is_fed || is_next;
+}
+
+static void check_memory(void) {
+    bajofeki_lexer *lexer = NULL;
+    for (size_t n = 0; bajofeki_lexer_report(lexer).code != BAJOFEKI_BUILT; n++) {
+        CHECK(lexer == NULL || bajofeki_lexer_report(lexer).code == BAJOFEKI_OUT_OF_MEMORY);
+        bajofeki_lexer_delete(lexer);
+        granted = n;
+        lexer = bajofeki_lexer_new(three, strlen(three));
+        granted = SIZE_MAX;
+    }
+    CHECK(check_refused(lexer, 0));
+    for (size_t n = 1; check_refused(lexer, n); n++) {
+    }
+    bajofeki_lexer_delete(lexer);
+}
+
 static uint64_t sum_more(uint64_t sum, bajofeki_piece_t piece) {
     return sum * 1000003 + piece.kind + 3 * piece.rule + 977 * (piece.start + piece.length);
 }
@@ -302,6 +372,7 @@ int main(int count, char **words) {
     check_rules();
     check_document();
     check_stream();
+    check_memory();
     for (int i = 1; i + 1 < count; i += 2) {
         check_files(words[i], words[i + 1], (uint32_t)i);
     }

@@ -8,3 +8,6 @@ mod Cutting
 mod Cut
 mod Place
 mod Room
+mod Document
+mod Stream
+mod Lent

@@ -2,3 +2,6 @@ mod Cases
 pub mod Walking
 pub mod Seen
 pub mod Pages
+pub mod Writing
+pub mod Giving
+pub mod Lives

@@ -74,8 +74,11 @@ abbrev pub IsUnchanged : Lexed → ℕ → ℕ → List ℕ → Edit → Lexed �
 IsUnchanged old from to bytes e new = (new ≡ old) × (((e ≡ no_edit 3) × (¬ IsUtf8 bytes))
     ⊎ ((error : EditError) × ((e ≡ no_edit (code_of_edit error)) × (IsUtf8 bytes × IsEditError old from to bytes error))))
 
+abbrev pub IsTextEdited : Lexed → ℕ → ℕ → List ℕ → Edit → Lexed → Type 0
+IsTextEdited old from to bytes e new = IsChanged old from to bytes e new ⊎ IsUnchanged old from to bytes e new
+
 abbrev pub IsEditedBetween : Result Lexed DocumentError → ℕ → ℕ → List ℕ → Edit → Result Lexed DocumentError → Type 0
-IsEditedBetween (Ok old) from to bytes e (Ok new) = IsChanged old from to bytes e new ⊎ IsUnchanged old from to bytes e new
+IsEditedBetween (Ok old) from to bytes e (Ok new) = IsTextEdited old from to bytes e new
 IsEditedBetween (Ok old) from to bytes e (Err f) = ⊥
 IsEditedBetween (Err f) from to bytes e new = (e ≡ no_edit (code_of_error f)) × (new ≡ Err f)
 

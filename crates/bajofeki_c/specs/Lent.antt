@@ -6,7 +6,7 @@ use Rattle.std.specs.Ptr.{Ptr, lies_at, room_at}
 use base.Fml.{Fml, Lft, Share, fex, fsep, flft}
 use denote.Ref.{NamedLft}
 use denote.RattleType.{RattleType}
-use mir.Syntax.{named}
+use mir.Syntax.{erased}
 use Rattle.bajofeki_c.specs.Document.{IsDocumentBegun, IsEdited}
 use Rattle.bajofeki_c.specs.Stream.{GivesOn, IsFed, IsStreamBegun}
 use Rattle.bajofeki_c.specs.Room.{View, room_align, room_size, said}
@@ -20,7 +20,7 @@ use Rattle.bajofeki_c.specs.declared.stream.Stream.{Stream}
 
 -- a lifetime for which a lexer is lent
 abbrev lent : Lft → NamedLft
-lent κ = record { mir = named 0; lft = κ }
+lent κ = record { mir = erased; lft = κ }
 
 -- ---- a document
 

@@ -1,6 +1,6 @@
 -- cases: proofs/Cases/Stream.antt
 -- A text that comes in chunks.
-use Rattle.std.specs.Prelude.{◌≡◌, ◌≢◌, ◌⊎◌, ℕ, Bool, true, false, List, [], ◌∷◌, ◌++◌, length, take, drop, map, Some, Result, Ok, Err}
+use Rattle.std.specs.Prelude.{◌≡◌, ◌≢◌, ◌⊎◌, ℕ, Bool, true, false, List, [], ◌∷◌, ◌++◌, length, take, drop, map, Option, Some, None, Result, Ok, Err}
 use Rattle.lalrpop_rules.specs.declared.item.Item.{Item}
 use Rattle.lalrpop_edits.specs.Chunked.{Chunked, GivesFinal, IsChunkError, IsHeldBack, nothing_come}
 use Rattle.lalrpop_edits.specs.Decoded.{Decodes, Decoding, nothing_decoded}
@@ -13,24 +13,18 @@ use Rattle.bajofeki_c.specs.declared.held.BuiltLexer.{BuiltLexer}
 use Rattle.bajofeki_c.specs.declared.held.Held.{Held}
 use Rattle.bajofeki_c.specs.declared.stream.OpenStream.{OpenStream}
 use Rattle.bajofeki_c.specs.declared.stream.Stream.{Stream}
-use Rattle.bajofeki_c.specs.declared.stream.StreamError.{StreamError}
-use Rattle.bajofeki_c.specs.declared.stream.StreamError.TheVariants.{NoLexer, OutOfMemory}
 
 -- ---- how it begins
 
-abbrev pub IsBegunBy : Result BuiltLexer BuildError → Result OpenStream StreamError → Type 0
-IsBegunBy (Ok l) made = made ≡ Ok (record { chunks = nothing_come l.rules; decoder = nothing_decoded })
-IsBegunBy (Err f) made = made ≡ Err NoLexer
+abbrev pub IsBegunBy : Result BuiltLexer BuildError → Option OpenStream → Type 0
+IsBegunBy (Ok l) going = going ≡ Some (record { chunks = nothing_come l.rules; decoder = nothing_decoded; is_refused = false })
+IsBegunBy (Err f) going = going ≡ None
 
 -- nothing has come, by the rules of a lexer; or there is none
 abbrev pub IsStreamBegun : Held → Stream → Type 0
-IsStreamBegun h s = IsBegunBy h.made s.made
+IsStreamBegun h s = IsBegunBy h.made s.going
 
 -- ---- what comes
-
-abbrev pub or_so : Bool → Bool → Bool
-or_so false b = b
-or_so true b = true
 
 -- 0, or 3 once a byte of no character has come, or if the text ends inside one
 abbrev pub IsCode : Decoding → Bool → ℕ → Type 0
@@ -43,24 +37,28 @@ pub record HasCome (old : OpenStream) (bytes : List ℕ) (is_last : Bool) (code 
   pub goes_on : old.chunks.is_ended ≡ false
   pub decoded : Decodes old.decoder bytes text new.decoder
   pub chunks : new.chunks ≡ record old.chunks { last = []; rest = old.chunks.rest ++ text; is_ended = is_last }
+  pub is_refused : new.is_refused ≡ old.is_refused
   pub is_code : IsCode new.decoder is_last code
 
 abbrev pub IsFedOpen : OpenStream → List ℕ → Bool → ℕ → OpenStream → Type 0
 IsFedOpen old bytes is_last code new = HasCome old bytes is_last code new
     ⊎ ((old.chunks.is_ended ≡ true) × ((code ≡ 8) × (new ≡ old)))
 
-abbrev pub code_of : StreamError → ℕ
-code_of NoLexer = 9
-code_of OutOfMemory = 7
+-- or memory was refused, now or before
+abbrev pub IsFedOrRefused : OpenStream → List ℕ → Bool → ℕ → OpenStream → Type 0
+IsFedOrRefused old bytes is_last code new =
+    ((old.is_refused ≡ false) × IsFedOpen old bytes is_last code new)
+    ⊎ ((old.is_refused ≡ false) × ((code ≡ 7) × (new.is_refused ≡ true)))
+    ⊎ ((old.is_refused ≡ true) × ((code ≡ 7) × (new ≡ old)))
 
--- or memory was refused, now or before, or there is no lexer
-abbrev pub IsFedBetween : Result OpenStream StreamError → List ℕ → Bool → ℕ → Result OpenStream StreamError → Type 0
-IsFedBetween (Ok old) bytes is_last code (Ok new) = IsFedOpen old bytes is_last code new
-IsFedBetween (Ok old) bytes is_last code (Err e) = (e ≡ OutOfMemory) × (code ≡ 7)
-IsFedBetween (Err e) bytes is_last code new = (new ≡ Err e) × (code ≡ code_of e)
+-- or there is no lexer
+abbrev pub IsFedBetween : Option OpenStream → List ℕ → Bool → ℕ → Option OpenStream → Type 0
+IsFedBetween (Some old) bytes is_last code (Some new) = IsFedOrRefused old bytes is_last code new
+IsFedBetween (Some old) bytes is_last code None = ⊥
+IsFedBetween None bytes is_last code new = (new ≡ None) × (code ≡ 9)
 
 abbrev pub IsFed : Stream → List ℕ → Bool → ℕ → Stream → Type 0
-IsFed old bytes is_last code new = IsFedBetween old.made bytes is_last code new.made
+IsFed old bytes is_last code new = IsFedBetween old.going bytes is_last code new.going
 
 -- ---- what is given
 
@@ -86,10 +84,16 @@ pub record GivesPieces (old : Chunked) (before : List Piece) (c : Count) (after 
   pub given : AreGiven old before c.count after new
   pub why : IsEnd c after new
 
-abbrev pub GivesBetween : Result OpenStream StreamError → List Piece → Count → List Piece → Result OpenStream StreamError → Type 0
-GivesBetween (Ok old) before c after (Ok new) = GivesPieces old.chunks before c after new.chunks × (new.decoder ≡ old.decoder)
-GivesBetween (Ok old) before c after (Err e) = ⊥
-GivesBetween (Err e) before c after new = (c ≡ count_told (code_of e) 0) × ((after ≡ before) × (new ≡ Err e))
+-- nothing is, and nothing changes, once memory was refused for what came
+abbrev pub GivesUnlessRefused : OpenStream → List Piece → Count → List Piece → OpenStream → Type 0
+GivesUnlessRefused old before c after new =
+    ((old.is_refused ≡ false) × (GivesPieces old.chunks before c after new.chunks × (new ≡ record old { chunks = new.chunks })))
+    ⊎ ((old.is_refused ≡ true) × ((c ≡ count_told 7 0) × ((after ≡ before) × (new ≡ old))))
+
+abbrev pub GivesBetween : Option OpenStream → List Piece → Count → List Piece → Option OpenStream → Type 0
+GivesBetween (Some old) before c after (Some new) = GivesUnlessRefused old before c after new
+GivesBetween (Some old) before c after None = ⊥
+GivesBetween None before c after new = (c ≡ count_told 9 0) × ((after ≡ before) × (new ≡ None))
 
 abbrev pub GivesOn : Stream → List Piece → Count → List Piece → Stream → Type 0
-GivesOn old before c after new = GivesBetween old.made before c after new.made
+GivesOn old before c after new = GivesBetween old.going before c after new.going

@@ -1,6 +1,6 @@
 //! A text that is edited, with its pieces.
 ghost use Rattle.std.specs.Prelude.{◌≡◌, drop, length, map};
-ghost use Rattle.bajofeki_c.specs.Document.{ArePiecesTold, IsDocumentBegun, IsEdited, IsOffset, IsPlace, code_of_edit, code_of_error, no_edit, text_of, told as told_piece, told_edit};
+ghost use Rattle.bajofeki_c.specs.Document.{ArePiecesTold, IsDocumentBegun, IsEdited, IsOffset, IsPlace, IsTextEdited, code_of_edit, code_of_error, no_edit, text_of, told as told_piece, told_edit};
 ghost use Rattle.bajofeki_c.specs.Rules.{IsWritten};
 
 use crate::cut::Piece;
@@ -128,6 +128,19 @@ fn edited(change: Change) -> Edit
     }
 }
 
+// Replaces the bytes from `from` to `to` of a text by these.
+fn edit_text(text: &mut LexedText<'_>, alloc: Global, from: usize, to: usize, new: &[u8]) -> Edit
+    ensures edited { IsTextEdited text.old from to new.now result text.new }
+{
+    let Ok(new) = str::from_utf8(new) else {
+        return unedited(3);
+    };
+    match text.edit(alloc, from..to, new) {
+        Ok(change) => edited(change),
+        Err(error) => unedited(edit_code(error)),
+    }
+}
+
 /// Replaces the bytes from `from` to `to` of the text by these.
 pub fn edit_document(
     document: &mut Document<'_>,
@@ -138,21 +151,14 @@ pub fn edit_document(
 ) -> Edit
     ensures edited { IsEdited document.old from to new.now result document.new }
 {
-    let text = match &mut document.made {
-        Ok(text) => text,
-        Err(error) => return unedited(error_code(error)),
-    };
-    let Ok(new) = str::from_utf8(new) else {
-        return unedited(3);
-    };
-    match text.edit(alloc, from..to, new) {
-        Ok(change) => edited(change),
-        Err(error) => unedited(edit_code(error)),
+    match &mut document.made {
+        Ok(text) => edit_text(text, alloc, from, to, new),
+        Err(error) => unedited(error_code(error)),
     }
 }
 
-/// A piece in numbers.
-pub(crate) fn told(item: &Item<'_>) -> Piece
+// A piece in numbers.
+fn told(item: &Item<'_>) -> Piece
     ensures told { result ≡ told_piece item.now }
 {
     match item {

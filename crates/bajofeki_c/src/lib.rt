@@ -64,9 +64,7 @@ pub use position::{Place, place_of};
 pub use report::{Report, report_of};
 pub use rules::{is_rule_skipped, name_into, rule_count, word_into};
 use std::alloc::Global;
-pub use stream::{
-    OpenStream, Stream, StreamError, begin_stream, feed_stream, let_stream_go, next_in_stream,
-};
+pub use stream::{OpenStream, Stream, begin_stream, feed_stream, let_stream_go, next_in_stream};
 
 // What a lexer and a cut are made of may go to another thread, and several threads may see it.
 fn may_go_to_threads<T: Send + Sync>() {}

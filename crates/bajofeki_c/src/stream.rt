@@ -1,21 +1,14 @@
 //! A text that comes in chunks.
-ghost use Rattle.std.specs.Prelude.{IfOk};
-ghost use Rattle.bajofeki_c.specs.Stream.{GivesOn, GivesPieces, IsFed, IsFedOpen, IsStreamBegun};
+ghost use Rattle.std.specs.Prelude.{◌≡◌, IfOk};
+ghost use Rattle.lalrpop_edits.specs.Given.{item_of};
+ghost use Rattle.bajofeki_c.specs.Document.{told as told_piece};
+ghost use Rattle.bajofeki_c.specs.Stream.{GivesOn, GivesPieces, GivesUnlessRefused, IsFed, IsFedOpen, IsFedOrRefused, IsStreamBegun};
 
 use crate::cut::Piece;
-use crate::document::{Count, edit_code, told};
+use crate::document::{Count, edit_code};
 use crate::held::Held;
-use lalrpop_edits::{Chunks, TextDecoder};
+use lalrpop_edits::{Chunks, GivenPiece, TextDecoder};
 use std::alloc::{AllocError, Global};
-
-/// Why a stream gives nothing.
-#[derive(Drop)]
-pub enum StreamError {
-    /// There is no lexer.
-    NoLexer,
-    /// A request for memory was refused for what came.
-    OutOfMemory,
-}
 
 /// What has come of a text.
 #[derive(Drop)]
@@ -24,12 +17,14 @@ pub struct OpenStream<'rules> {
     pub chunks: Chunks<'rules>,
     /// What has come of a character.
     pub decoder: TextDecoder,
+    /// Whether memory was refused for what came.
+    pub is_refused: bool,
 }
 
-/// A text that comes in chunks, or why none does.
+/// A text that comes in chunks; none if there is no lexer.
 #[derive(Drop)]
 pub struct Stream<'rules> {
-    pub made: Result<OpenStream<'rules>, StreamError>,
+    pub going: Option<OpenStream<'rules>>,
 }
 
 /// A text of which nothing has come, which is cut by this lexer.
@@ -38,14 +33,13 @@ pub fn begin_stream<'rules>(held: &'rules Held, alloc: Global) -> Stream<'rules>
 {
     match &held.made {
         Ok(lexer) => Stream {
-            made: Ok(OpenStream {
+            going: Some(OpenStream {
                 chunks: Chunks::new(alloc, &lexer.rules),
                 decoder: TextDecoder::new(alloc),
+                is_refused: false,
             }),
         },
-        Err(_) => Stream {
-            made: Err(StreamError::NoLexer),
-        },
+        Err(_) => Stream { going: None },
     }
 }
 
@@ -72,20 +66,51 @@ fn feed_open(
     Ok(0)
 }
 
+// The same, unless memory was refused before.
+fn feed_unless_refused(
+    going: &mut OpenStream<'_>,
+    alloc: Global,
+    bytes: &[u8],
+    is_last: bool,
+) -> u32
+    ensures fed { IsFedOrRefused going.old bytes.now is_last result going.new }
+{
+    if going.is_refused {
+        return 7;
+    }
+    match feed_open(going, alloc, bytes, is_last) {
+        Ok(code) => code,
+        Err(_) => {
+            going.is_refused = true;
+            7
+        }
+    }
+}
+
 /// More bytes of the text come. Where memory is refused, no more does, and no further piece is given.
 pub fn feed_stream(stream: &mut Stream<'_>, alloc: Global, bytes: &[u8], is_last: bool) -> u32
     ensures fed { IsFed stream.old bytes.now is_last result stream.new }
 {
-    let going = match &mut stream.made {
-        Ok(going) => going,
-        Err(StreamError::NoLexer) => return 9,
-        Err(StreamError::OutOfMemory) => return 7,
-    };
-    if let Ok(code) = feed_open(going, alloc, bytes, is_last) {
-        return code;
+    match &mut stream.going {
+        Some(going) => feed_unless_refused(going, alloc, bytes, is_last),
+        None => 9,
     }
-    stream.made = Err(StreamError::OutOfMemory);
-    7
+}
+
+// A piece in numbers.
+fn told(piece: GivenPiece, slice: &str) -> Piece
+    ensures told { result ≡ told_piece (item_of piece slice.entry) }
+{
+    let (kind, rule) = match piece.rule {
+        Some(rule) => (if piece.is_skipped { 1 } else { 0 }, rule),
+        None => (2, 0),
+    };
+    Piece {
+        kind,
+        rule,
+        start: piece.start,
+        length: slice.len(),
+    }
 }
 
 // Gives pieces until the array is full or no further one is final.
@@ -96,7 +121,7 @@ fn fill(chunks: &mut Chunks<'_>, out: &mut [Piece]) -> Count
     'filling: while count < out.len() {
         match chunks.next_piece() {
             Ok(Some(piece)) => {
-                out[count] = told(&piece.item(chunks.slice()));
+                out[count] = told(piece, chunks.slice());
                 count += 1;
             }
             Ok(None) => {
@@ -113,14 +138,23 @@ fn fill(chunks: &mut Chunks<'_>, out: &mut [Piece]) -> Count
     Count { code: 2, count }
 }
 
+// The same, unless memory was refused for what came.
+fn fill_unless_refused(going: &mut OpenStream<'_>, out: &mut [Piece]) -> Count
+    ensures given { GivesUnlessRefused going.old out.old result out.new going.new }
+{
+    if going.is_refused {
+        return Count { code: 7, count: 0 };
+    }
+    fill(&mut going.chunks, out)
+}
+
 /// Writes the next pieces that no later byte can change, as many as the array has room for.
 pub fn next_in_stream(stream: &mut Stream<'_>, out: &mut [Piece]) -> Count
     ensures given { GivesOn stream.old out.old result out.new stream.new }
 {
-    match &mut stream.made {
-        Ok(going) => fill(&mut going.chunks, out),
-        Err(StreamError::NoLexer) => Count { code: 9, count: 0 },
-        Err(StreamError::OutOfMemory) => Count { code: 7, count: 0 },
+    match &mut stream.going {
+        Some(going) => fill_unless_refused(going, out),
+        None => Count { code: 9, count: 0 },
     }
 }
 

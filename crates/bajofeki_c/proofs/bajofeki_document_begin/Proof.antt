@@ -1,5 +1,6 @@
 -- The lexer is lent on, and what begins is written.
 use Rattle.bajofeki_c.proofs.Walking.{[], ◌∷◌, refl, proved, full_share, id⊢, ftrue, flft, fsep, fex, froom, named, vptr, vunit, fact, tables, ‵, raw, ◌⊛◌, some, later, prop, ◌$◌, ◌∵◌, !, qed, done, move, drop, use1, use2, split, fsplit, join, fjoin, fpack, pick, await, regoal, suffices, group, feq_i, enter, of_opd, unit_lit, addr, init, assigns, stop, no_more, and_then, returns, alloc_all, pass_all, free_all, look_at, get, through, sets, lands_as, yes, Is, shows, part_at, part_in, lone, Ptr, RawPtr, block_ptr, in_a_block, rawptr_vals, rawptr_Tells, ShrRef, plain, nothing, heard, peeks, calls_at, lasts, triple_of, Stays, walk_of, stay_dropped, Goes-dropped, ends_at, framed, WpFn}
+use mir.Syntax.{erased}
 use Rattle.std.proofs.Common.{◌++◌}
 use denote.RattleType.{owns}
 use denote.Signature.{types_at}
@@ -57,7 +58,7 @@ bajofeki_document_begin_spec 𝓤 𝓛 𝓜 𝓡 wired =
     -- [the lexer; the document; what the callee says; room for the document]
     move ! (2 ∷ []) $ pick ! (λ ws. split ! $ drop ! $ heard ! (IsDocumentBegun h.held r) (λ begun.
     move ! (1 ∷ []) $ peeks ! row (Is row) (shows 𝓛 row) r (v ∷ []) (λ is.
-    let good = (((document_laws.the_row_laws (record { mir = named 0; lft = κ })).lawful 𝓛).typed r (v ∷ []) is).0 in
+    let good = (((document_laws.the_row_laws (record { mir = erased; lft = κ })).lawful 𝓛).typed r (v ∷ []) is).0 in
     lands_as ! refl refl good $
     move ! (2 ∷ []) $ use1 𝓛 (‵ (froom (lone row.mir) b' o')) (id⊢ 𝓤 _) $
     assigns ! (of_opd ! (get ! refl)) (through ! refl (stop !)) (init ! 0 refl good) $

@@ -1,5 +1,5 @@
 -- The document is lent for a lifetime that is made for the call; the handle, the range and the bytes are passed on.
-use Rattle.bajofeki_c.proofs.Walking.{ℕ, w64, usize, uint_vals, uint_Tells, [], ◌∷◌, refl, proved, full_share, id⊢, Lft, ftrue, flft, flent, fsep, fex, named, vptr, fact, tables, ‵, raw, ◌⊛◌, some, later, prop, ◌$◌, ◌∵◌, !, qed, done, move, drop, use1, use2, use3, split, fsplit, join, fjoin, fpack, pick, await, regoal, suffices, group, enter, of_opd, addr, stop, no_more, and_then, returns, alloc_all, pass_all, free_all, look_at, get, through, sets, lands_as, lft_new, lft_end, u8, yes, Is, shows, Ptr, RawPtr, block_ptr, in_a_block, rawptr_vals, rawptr_Tells, MutRef, MutBor, plain, nothing, heard, peeks, calls_at, lasts, triple_of, Stays, walk_of, stay_dropped, Goes-dropped, ends_at, framed, WpFn}
+use Rattle.bajofeki_c.proofs.Walking.{ℕ, w64, usize, uint_vals, uint_Tells, [], ◌∷◌, refl, proved, full_share, id⊢, Lft, ftrue, flft, flent, fsep, fex, named, vptr, fact, tables, ‵, raw, ◌⊛◌, some, later, prop, ◌$◌, ◌∵◌, !, qed, done, move, drop, use1, use2, use3, split, fsplit, join, fjoin, fpack, pick, await, regoal, suffices, group, enter, of_opd, addr, stop, no_more, and_then, returns, alloc_all, pass_all, free_all, look_at, get, through, sets, lands_as, lft_new, u8, yes, Is, shows, Ptr, RawPtr, block_ptr, in_a_block, rawptr_vals, rawptr_Tells, MutRef, MutBor, plain, nothing, heard, peeks, calls_at, lasts, triple_of, Stays, walk_of, stay_dropped, Goes-dropped, ends_at, framed, WpFn}
 use Rattle.std.proofs.Common.{◌++◌}
 use denote.RattleType.{owns}
 use denote.Signature.{types_at}
@@ -11,6 +11,11 @@ use types.SemTy.{Body}
 use Rattle.std.specs.contracts.alloc.Global as heap
 use Rattle.std.proofs.alloc.Global.TheLaws as heap_laws
 use Rattle.std_heap.proofs.Handle.{heap_val, heap_Tells}
+use base.Share
+use base.Fml.{fdead}
+use borrow.Within.Token.{Rest}
+use contract.BorrowLft.{meet_⊑_right}
+use Rattle.bajofeki_c.proofs.Lives.{over, within}
 use Rattle.bajofeki_c.specs.Lent.{document_at, document_lies_at}
 use Rattle.bajofeki_c.specs.contracts.document.Document as document
 use Rattle.bajofeki_c.specs.contracts.document.Edit as edit
@@ -63,20 +68,22 @@ bajofeki_edit_spec 𝓤 𝓛 𝓜 𝓡 wired =
       ),
     ) $
     sets ! (of_opd ! (get ! refl)) refl (tt, tt) $ sets ! (addr ! (through ! refl (stop !))) refl (tt, tt) $
-    lft_new ! tt (λ α. let ν : Lft = α ∷ [] in move ! (1 ∷ []) $
+    lft_new ! tt (λ α. let ν : Lft = α ∷ κ in move ! (0 ∷ 2 ∷ []) $
+    use2 𝓛 (‵ (flft ν (Share.right q)) ⊛ ‵ (flft κ (Share.left q)) ⊛ raw (Rest 𝓛 α (Share.right q))) (within 𝓛 α κ q) $ split ! $ move ! (1 ∷ []) $ split ! $ move ! (3 ∷ []) $
     use1 𝓛 (later (some (λ (γ : ℕ). ‵ ((MutRef (named 0) ν row).own_val (record { ref_ptr = (b, o); ghost_name = γ; now = h.document }) (vptr b o ∷ []))
     ⊛ ‵ (flent ν (Body (mem row) b o γ)))))
     (lends_ref 𝓛 row (named 0) ν h.document b o) $ await ! tt $ pick ! (λ γ. split ! $
-    -- [the `&mut`; the right to the document; its token; that of the lexer; the handle, the range and the bytes; the tokens]
+    -- [the `&mut`; the right to the document; that of the lexer; the way back; its token; the handle, the range and the bytes; the tokens]
     let lent : MutBor Document = record { ref_ptr = (b, o); ghost_name = γ; now = h.document } in
-    let z : G.Ghost = (((ν, (κ, κs)), (full_share, (q, qs)), tt, (lent, a.1), (vptr b o ∷ [], (heap_val ∷ [], (uint_vals w64 from, (uint_vals w64 to, (shr_slice_vals s, tt)))))), tt) in
-    move ! (0 ∷ 4 ∷ []) $ fjoin ! $ move ! (3 ∷ 4 ∷ []) $ join ! $ move ! (3 ∷ 0 ∷ []) $ join ! $ join ! $
+    let z : G.Ghost = (((ν, (κ, κs)), (Share.right q, (Share.left q, qs)), (meet_⊑_right (α ∷ []) κ, tt), (lent, a.1), (vptr b o ∷ [], (heap_val ∷ [], (uint_vals w64 from, (uint_vals w64 to, (shr_slice_vals s, tt)))))), tt) in
+    move ! (0 ∷ 5 ∷ []) $ fjoin ! $ move ! (2 ∷ 5 ∷ []) $ join ! $ move ! (4 ∷ 0 ∷ []) $ join ! $ join ! $
     nothing ! $ move ! (1 ∷ 0 ∷ []) $ use2 𝓛 (raw (G.pre z)) (id⊢ 𝓤 _) $
     calls_at ! (framed 𝓤 𝓛.H 𝓜 𝓣) G (met 𝓤 𝓛 𝓜 𝓡 (code.calls-bajofeki_c::document::edit_document 𝓡.env wired)) z
     (and_then ! (get ! refl) (and_then ! (get ! refl) (and_then ! (get ! refl) (and_then ! (get ! refl) (and_then ! (get ! refl) (no_more !)))))) (λ v.
-    use1 𝓛 (later (some (λ (r : Edit). ((‵ (flft ν full_share) ⊛ ‵ (flft κ q) ⊛ toks) ⊛ ‵ (edit.the_row.own_val r (v ∷ []))) ⊛
+    use1 𝓛 (later (some (λ (r : Edit). ((‵ (flft ν (Share.right q)) ⊛ ‵ (flft κ (Share.left q)) ⊛ toks) ⊛ ‵ (edit.the_row.own_val r (v ∷ []))) ⊛
     some (λ (ws : Document × (Unit {0} × (Unit {0} × (Unit {0} × (Unit {0} × Unit {0}))))). ‵ (lasts g.ended z.0.0 z.0.3 ws) ⊛ raw (fact 𝓤 (IsEdited h.document from to s.now r ws.0)))))) (id⊢ 𝓤 _) $
-    await ! tt $ pick ! (λ r. split ! $ split ! $ split ! $ lft_end ! tt $ move ! (1 ∷ []) $ split ! $
+    await ! tt $ pick ! (λ r. split ! $ split ! $ split ! $ move ! (1 ∷ []) $ split ! $ move ! (2 ∷ 0 ∷ 6 ∷ []) $
+    use3 𝓛 (later (‵ (fdead ν) ⊛ ‵ (flft κ q))) (over 𝓛 α κ q) $ await ! tt $ split ! $ move ! (1 ∷ 2 ∷ []) $
     -- [the token of the lexer; the tokens; the document's lifetime is over; the result; what the callee says; the right to the document]
     move ! (3 ∷ []) $ peeks ! edit.the_row (Is edit.the_row) (shows 𝓛 edit.the_row) r (v ∷ []) (λ is.
     lands_as ! refl refl ((edit_laws.the_row_laws.lawful 𝓛).typed r (v ∷ []) is).0 $

@@ -1,5 +1,5 @@
 -- The stream is lent for a lifetime that is made for the call; the array is passed on.
-use Rattle.bajofeki_c.proofs.Walking.{ℕ, List, [], ◌∷◌, refl, proved, full_share, id⊢, Lft, ftrue, flft, flent, fsep, fex, named, vptr, fact, tables, ‵, raw, ◌⊛◌, some, later, prop, ◌$◌, ◌∵◌, !, qed, done, move, drop, use1, use2, use3, split, fsplit, join, fjoin, fpack, pick, await, regoal, suffices, group, feq_l, enter, of_opd, addr, stop, no_more, and_then, returns, alloc_all, pass_all, free_all, look_at, get, through, sets, lands_as, lft_new, lft_end, yes, Is, shows, Ptr, RawPtr, block_ptr, in_a_block, rawptr_vals, rawptr_Tells, MutRef, MutBor, plain, nothing, heard, peeks, calls_at, lasts, triple_of, Stays, walk_of, stay_dropped, Goes-dropped, ends_at, framed, WpFn}
+use Rattle.bajofeki_c.proofs.Walking.{ℕ, List, [], ◌∷◌, refl, proved, full_share, id⊢, Lft, ftrue, flft, flent, fsep, fex, named, vptr, fact, tables, ‵, raw, ◌⊛◌, some, later, prop, ◌$◌, ◌∵◌, !, qed, done, move, drop, use1, use2, use3, split, fsplit, join, fjoin, fpack, pick, await, regoal, suffices, group, feq_l, enter, of_opd, addr, stop, no_more, and_then, returns, alloc_all, pass_all, free_all, look_at, get, through, sets, lands_as, lft_new, yes, Is, shows, Ptr, RawPtr, block_ptr, in_a_block, rawptr_vals, rawptr_Tells, MutRef, MutBor, plain, nothing, heard, peeks, calls_at, lasts, triple_of, Stays, walk_of, stay_dropped, Goes-dropped, ends_at, framed, WpFn}
 use Rattle.std.proofs.Common.{◌++◌}
 use types.SemTy.{Body}
 use types.Run.{fld, hop, from}
@@ -11,6 +11,11 @@ use denote.RattleType.{owns}
 use denote.Signature.{types_at}
 use denote.Slice.{mut_slice_vals, mut_slice_Tells, mut_slice_Lawful}
 use denote.Triple.Walked.{gave_slice, Goes-gave_slice}
+use base.Share
+use base.Fml.{fdead}
+use borrow.Within.Token.{Rest}
+use contract.BorrowLft.{meet_⊑_right}
+use Rattle.bajofeki_c.proofs.Lives.{over, within}
 use Rattle.bajofeki_c.specs.Lent.{stream_at, stream_lies_at}
 use Rattle.bajofeki_c.specs.contracts.stream.Stream as stream
 use Rattle.bajofeki_c.specs.contracts.cut.Piece as piece
@@ -50,20 +55,22 @@ bajofeki_next_spec 𝓤 𝓛 𝓜 𝓡 wired =
     sets ! (of_opd ! (get ! refl)) refl (tt, tt) $ sets ! (addr ! (through ! refl (stop !))) refl (tt, tt) $
     sets ! (addr ! (from ! (fld ! refl (hop ! (look_in_at ! 2 (sub ! 0 refl (whole !))) (stop !))))) refl (tt, tt) $
     sets ! (agg ! (and_then ! (get ! refl) (and_then ! (get_in ! (fld ! refl (stop !)) (sub ! 1 refl (whole !))) (no_more !)))) refl array_typed $
-    lft_new ! tt (λ α. let ν : Lft = α ∷ [] in move ! (1 ∷ []) $
+    lft_new ! tt (λ α. let ν : Lft = α ∷ κ in move ! (0 ∷ 2 ∷ []) $
+    use2 𝓛 (‵ (flft ν (Share.right q)) ⊛ ‵ (flft κ (Share.left q)) ⊛ raw (Rest 𝓛 α (Share.right q))) (within 𝓛 α κ q) $ split ! $ move ! (1 ∷ []) $ split ! $ move ! (3 ∷ []) $
     use1 𝓛 (later (some (λ (γ : ℕ). ‵ ((MutRef (named 0) ν row).own_val (record { ref_ptr = (b, o); ghost_name = γ; now = h.stream }) (vptr b o ∷ []))
     ⊛ ‵ (flent ν (Body (mem row) b o γ)))))
     (lends_ref 𝓛 row (named 0) ν h.stream b o) $ await ! tt $ pick ! (λ γ. split ! $
-    -- [the `&mut`; the right to the stream; its token; that of the lexer; the array; the tokens]
+    -- [the `&mut`; the right to the stream; that of the lexer; the way back; its token; the array; the tokens]
     let lent : MutBor Stream = record { ref_ptr = (b, o); ghost_name = γ; now = h.stream } in
-    let z : G.Ghost = (((ν, (κ, κs)), (full_share, (q, qs)), tt, (lent, a.1), (vptr b o ∷ [], (mut_slice_vals m, tt))), tt) in
-    move ! (0 ∷ 4 ∷ []) $ fjoin ! $ move ! (3 ∷ 4 ∷ []) $ join ! $ move ! (3 ∷ 0 ∷ []) $ join ! $ join ! $
+    let z : G.Ghost = (((ν, (κ, κs)), (Share.right q, (Share.left q, qs)), (meet_⊑_right (α ∷ []) κ, tt), (lent, a.1), (vptr b o ∷ [], (mut_slice_vals m, tt))), tt) in
+    move ! (0 ∷ 5 ∷ []) $ fjoin ! $ move ! (2 ∷ 5 ∷ []) $ join ! $ move ! (4 ∷ 0 ∷ []) $ join ! $ join ! $
     nothing ! $ move ! (1 ∷ 0 ∷ []) $ use2 𝓛 (raw (G.pre z)) (id⊢ 𝓤 _) $
     calls_at ! (framed 𝓤 𝓛.H 𝓜 𝓣) G (met 𝓤 𝓛 𝓜 𝓡 (code.calls-bajofeki_c::stream::next_in_stream 𝓡.env wired)) z
     (and_then ! (get ! refl) (and_then ! (get ! refl) (no_more !))) (λ v.
-    use1 𝓛 (later (some (λ (r : Count). ((‵ (flft ν full_share) ⊛ ‵ (flft κ q) ⊛ toks) ⊛ ‵ (count.the_row.own_val r (v ∷ []))) ⊛
+    use1 𝓛 (later (some (λ (r : Count). ((‵ (flft ν (Share.right q)) ⊛ ‵ (flft κ (Share.left q)) ⊛ toks) ⊛ ‵ (count.the_row.own_val r (v ∷ []))) ⊛
     some (λ (ws : Stream × (List Piece × Unit {0})). ‵ (lasts g.ended z.0.0 z.0.3 ws) ⊛ raw (fact 𝓤 (GivesOn h.stream m.now r ws.1.0 ws.0)))))) (id⊢ 𝓤 _) $
-    await ! tt $ pick ! (λ r. split ! $ split ! $ split ! $ lft_end ! tt $ move ! (1 ∷ []) $ split ! $
+    await ! tt $ pick ! (λ r. split ! $ split ! $ split ! $ move ! (1 ∷ []) $ split ! $ move ! (2 ∷ 0 ∷ 6 ∷ []) $
+    use3 𝓛 (later (‵ (fdead ν) ⊛ ‵ (flft κ q))) (over 𝓛 α κ q) $ await ! tt $ split ! $ move ! (1 ∷ 2 ∷ []) $
     -- [the token of the lexer; the tokens; the stream's lifetime is over; the result; what the callee says; the right to the stream]
     move ! (3 ∷ []) $ peeks ! count.the_row (Is count.the_row) (shows 𝓛 count.the_row) r (v ∷ []) (λ is.
     lands_as ! refl refl ((count_laws.the_row_laws.lawful 𝓛).typed r (v ∷ []) is).0 $

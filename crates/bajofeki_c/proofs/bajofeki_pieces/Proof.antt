@@ -1,8 +1,12 @@
 -- The document is lent for a lifetime that is made for the call; the handle, the range and the array are passed on.
-use Rattle.bajofeki_c.proofs.Walking.{List, w64, usize, uint_vals, uint_Tells, [], ◌∷◌, refl, proved, full_share, id⊢, Lft, Incl-refl, ftrue, flft, flent, fsep, fex, named, vptr, fact, tables, ‵, raw, ◌⊛◌, some, later, prop, ◌$◌, ◌∵◌, !, qed, done, move, drop, use1, use2, split, fsplit, join, fjoin, pick, await, regoal, suffices, frame, group, feq_l, enter, of_opd, addr, stop, no_more, and_then, returns, alloc_all, pass_all, free_all, look_at, get, through, sets, lands_as, lft_new, lft_end, lent_back, yes, Is, shows, lends_shr, part_at, Ptr, RawPtr, block_ptr, in_a_block, rawptr_vals, rawptr_Tells, ShrRef, plain, nothing, heard, peeks, calls_at, lasts, triple_of, Stays, walk_of, says, stay_dropped, Goes-dropped, ends_at, framed, WpFn}
+use Rattle.bajofeki_c.proofs.Walking.{List, w64, usize, uint_vals, uint_Tells, [], ◌∷◌, refl, proved, full_share, id⊢, Lft, Incl-refl, ftrue, flft, flent, fsep, fex, named, vptr, fact, tables, ‵, raw, ◌⊛◌, some, later, prop, ◌$◌, ◌∵◌, !, qed, done, move, drop, use1, use2, use3, split, fsplit, join, fjoin, pick, await, regoal, suffices, frame, group, feq_l, enter, of_opd, addr, stop, no_more, and_then, returns, alloc_all, pass_all, free_all, look_at, get, through, sets, lands_as, lft_new, lent_back, yes, Is, shows, lends_shr, part_at, Ptr, RawPtr, block_ptr, in_a_block, rawptr_vals, rawptr_Tells, ShrRef, plain, nothing, heard, peeks, calls_at, lasts, triple_of, Stays, walk_of, says, stay_dropped, Goes-dropped, ends_at, framed, WpFn}
 use Rattle.std.proofs.Common.{◌++◌}
-use contract.BorrowLft.{meet_⊑_left, meet_⊑_right}
+use base.Share
+use base.Fml.{fdead}
+use borrow.Within.Token.{Rest}
+use contract.BorrowLft.{meet_⊑_right}
 use denote.RattleType.{owns}
+use denote.Ref.{NamedLft}
 use denote.Signature.{types_at}
 use denote.Slice.{mut_slice_vals, mut_slice_Tells, mut_slice_Lawful}
 use denote.Triple.Walked.{gave_slice, Goes-gave_slice}
@@ -13,6 +17,7 @@ use Rattle.std.specs.contracts.alloc.Global as heap
 use Rattle.std.proofs.alloc.Global.TheLaws as heap_laws
 use Rattle.std_heap.proofs.Handle.{heap_val, heap_Tells}
 use Rattle.bajofeki_c.specs.Lent.{document_at, document_lies_at}
+use Rattle.bajofeki_c.proofs.Lives.{lives_within, over, within}
 use Rattle.bajofeki_c.specs.contracts.document.Document as document
 use Rattle.bajofeki_c.proofs.document.Document.TheLaws as document_laws
 use Rattle.bajofeki_c.specs.contracts.document.Count as count
@@ -37,39 +42,41 @@ bajofeki_pieces_spec 𝓤 𝓛 𝓜 𝓡 wired =
     (Goes-dropped 𝓛 1 (plain (λ _. RawPtr)) yes (λ κs x w. refl), (Goes-dropped 𝓛 1 (plain (λ _. heap.the_row)) yes (λ κs x w. refl), (Goes-dropped 𝓛 1 (plain (λ _. usize)) yes (λ κs x w. refl), (Goes-dropped 𝓛 1 (plain (λ _. usize)) yes (λ κs x w. refl), (Goes-gave_slice 𝓛 1 0 tt (plain (λ _. piece.the_row)), tt)))))
     f.Key.name code.function (code.unfolded 𝓤 𝓛.H 𝓜 𝓡 wired)
     (λ κs. (rawptr_vals, ((λ _. heap_val ∷ []), (uint_vals w64, (uint_vals w64, (mut_slice_vals, tt)))))) (λ κs. (rawptr_Tells, (heap_Tells, (uint_Tells w64, (uint_Tells w64, (mut_slice_Tells (named 0) κs.0 piece.the_row, tt)))))) (λ κs qs bounds a h are.
-    let from = a.1.1.0 in let to = a.1.1.1.0 in let m = a.1.1.1.1.0 in let κ = h.lifetime in let q = h.share in
-    let at = record { mir = named 1; lft = κ } in let row = document.the_row at in
-    let y : Ptr → W.Ghost = λ p. ((κs, qs, bounds, (p, a.1), (rawptr_vals p, (heap_val ∷ [], (uint_vals w64 from, (uint_vals w64 to, (mut_slice_vals m, tt)))))), h) in
+    let begins = a.1.1.0 in let ends = a.1.1.1.0 in let m = a.1.1.1.1.0 in let κ = h.lifetime in let q = h.share in
+    let at : NamedLft = record { mir = named 1; lft = κ } in let row = document.the_row at in
+    let y : Ptr → W.Ghost = λ p. ((κs, qs, bounds, (p, a.1), (rawptr_vals p, (heap_val ∷ [], (uint_vals w64 begins, (uint_vals w64 ends, (mut_slice_vals m, tt)))))), h) in
     let G = triple_of 𝓛 g.signature (g.spec 𝓛 𝓜.mem 𝓡.returns) in
     let toks = ‵ (flft κs.0 qs.0) ⊛ ‵ ftrue in
     qed 𝓛 ((toks ⊛ ‵ (owns (types_at f.signature.params κs) a (y a.0).0.4)) ∷ ‵ (document_at a.0 h) ∷ []) ∵
     split ! $ move ! (1 ∷ []) $ fsplit ! $ drop ! $ move ! (2 ∷ []) $ fsplit ! $
     -- [the document; the token of its lexer; what is passed on; the tokens]
     in_a_block ! a.0 (λ p. document_lies_at p κ h.document) (id⊢ 𝓤 _) (λ b o e.
-    regoal ! (λ p. prop (WpFn 𝓤 𝓛.H 𝓣.C 𝓣.Λ code.function (rawptr_vals p ++ ((heap_val ∷ []) ++ ((uint_vals w64 from) ++ ((uint_vals w64 to) ++ (mut_slice_vals m))))) (W.post (y p)))) e refl $
+    regoal ! (λ p. prop (WpFn 𝓤 𝓛.H 𝓣.C 𝓣.Λ code.function (rawptr_vals p ++ ((heap_val ∷ []) ++ ((uint_vals w64 begins) ++ ((uint_vals w64 ends) ++ (mut_slice_vals m))))) (W.post (y p)))) e refl $
     let array_typed = ((mut_slice_Lawful 𝓛 (named 0) κs.0 piece.the_row).typed m _ are.1.1.1.1.0).0 in
     enter ! _ _ _ _ _ $ alloc_all ! (λ l. pass_all ! refl ((tt, tt), (((heap_laws.the_row_laws.lawful 𝓛).typed a.1.0 _ are.1.0).0, ((tt, record { fits = are.1.1.0.1 }), ((tt, record { fits = are.1.1.1.0.1 }), (array_typed, tt))))) $
     sets ! (of_opd ! (get ! refl)) refl (tt, tt) $ sets ! (addr ! (through ! refl (stop !))) refl (tt, tt) $
     sets ! (addr ! (from ! (fld ! refl (hop ! (look_in_at ! 5 (sub ! 0 refl (whole !))) (stop !))))) refl (tt, tt) $
     sets ! (agg ! (and_then ! (get ! refl) (and_then ! (get_in ! (fld ! refl (stop !)) (sub ! 1 refl (whole !))) (no_more !)))) refl array_typed $
-    lft_new ! tt (λ α. let ν : Lft = α ∷ [] in move ! (0 ∷ 2 ∷ []) $ join ! $ move ! (1 ∷ 0 ∷ []) $
+    lft_new ! tt (λ α. let ν : Lft = α ∷ κ in move ! (0 ∷ 2 ∷ []) $
+    use2 𝓛 (‵ (flft ν (Share.right q)) ⊛ ‵ (flft κ (Share.left q)) ⊛ raw (Rest 𝓛 α (Share.right q))) (within 𝓛 α κ q) $ split ! $ move ! (1 ∷ []) $ split ! $ move ! (3 ∷ 2 ∷ []) $
     use2 𝓛 (later ((‵ ((ShrRef (named 0) ν row).own_val (record { ref_ptr = (b, o); now = h.document }) (vptr b o ∷ []))
-    ⊛ ‵ (flent ν (part_at row full_share h.document b o))) ⊛ (‵ (flft ν full_share) ⊛ ‵ (flft κ q))))
-    (lends_shr 𝓛 row (named 0) ν full_share h.document b o row.lives ((document_laws.the_row_laws at).shares 𝓛 h.document) ((ν, full_share) ∷ (κ, q) ∷ []) (meet_⊑_right ν κ) (meet_⊑_left ν κ)) $
+    ⊛ ‵ (flent ν (part_at row full_share h.document b o))) ⊛ ‵ (flft ν (Share.right q))))
+    (lends_shr 𝓛 row (named 0) ν full_share h.document b o row.lives ((document_laws.the_row_laws at).shares 𝓛 h.document) ((ν, Share.right q) ∷ []) (lives_within ν κ (meet_⊑_right (α ∷ []) κ)) (Incl-refl ν)) $
     await ! tt $ split ! $ split ! $
-    -- [the `&`; the right to the document; its token with that of the lexer; what is passed on; the tokens]
-    let z : G.Ghost = (((ν, (κ, κs)), (full_share, (q, qs)), tt, (record { ref_ptr = (b, o); now = h.document }, a.1), (vptr b o ∷ [], (heap_val ∷ [], (uint_vals w64 from, (uint_vals w64 to, (mut_slice_vals m, tt)))))), tt) in
-    move ! (0 ∷ 3 ∷ []) $ fjoin ! $ move ! (2 ∷ []) $ split ! $ move ! (1 ∷ 4 ∷ []) $ join ! $ move ! (1 ∷ 0 ∷ []) $ join ! $ join ! $
+    -- [the `&`; the right to the document; its token; that of the lexer; the way back; what is passed on; the tokens]
+    let z : G.Ghost = (((ν, (κ, κs)), (Share.right q, (Share.left q, qs)), (meet_⊑_right (α ∷ []) κ, tt), (record { ref_ptr = (b, o); now = h.document }, a.1), (vptr b o ∷ [], (heap_val ∷ [], (uint_vals w64 begins, (uint_vals w64 ends, (mut_slice_vals m, tt)))))), tt) in
+    move ! (0 ∷ 5 ∷ []) $ fjoin ! $ move ! (3 ∷ 5 ∷ []) $ join ! $ move ! (3 ∷ 0 ∷ []) $ join ! $ join ! $
     nothing ! $ move ! (1 ∷ 0 ∷ []) $ use2 𝓛 (raw (G.pre z)) (id⊢ 𝓤 _) $
     calls_at ! (framed 𝓤 𝓛.H 𝓜 𝓣) G (met 𝓤 𝓛 𝓜 𝓡 (code.calls-bajofeki_c::document::pieces_into 𝓡.env wired)) z
     (and_then ! (get ! refl) (and_then ! (get ! refl) (and_then ! (get ! refl) (and_then ! (get ! refl) (and_then ! (get ! refl) (no_more !)))))) (λ v.
-    use1 𝓛 (later (some (λ (r : Count). ((‵ (flft ν full_share) ⊛ ‵ (flft κ q) ⊛ toks) ⊛ ‵ (count.the_row.own_val r (v ∷ []))) ⊛
-    some (λ (ws : (Unit {0} × (Unit {0} × (Unit {0} × (Unit {0} × (List Piece × Unit {0})))))). ‵ (lasts g.ended z.0.0 z.0.3 ws) ⊛ raw (fact 𝓤 (ArePiecesTold h.document from to m.now r ws.1.1.1.1.0)))))) (id⊢ 𝓤 _) $
-    await ! tt $ pick ! (λ r. split ! $ split ! $ split ! $ lft_end ! tt $ move ! (0 ∷ 4 ∷ []) $ lent_back ! tt $ move ! (1 ∷ []) $ split ! $ move ! (2 ∷ 0 ∷ []) $ fjoin ! $
+    use1 𝓛 (later (some (λ (r : Count). ((‵ (flft ν (Share.right q)) ⊛ ‵ (flft κ (Share.left q)) ⊛ toks) ⊛ ‵ (count.the_row.own_val r (v ∷ []))) ⊛
+    some (λ (ws : (Unit {0} × (Unit {0} × (Unit {0} × (Unit {0} × (List Piece × Unit {0})))))). ‵ (lasts g.ended z.0.0 z.0.3 ws) ⊛ raw (fact 𝓤 (ArePiecesTold h.document begins ends m.now r ws.1.1.1.1.0)))))) (id⊢ 𝓤 _) $
+    await ! tt $ pick ! (λ r. split ! $ split ! $ split ! $ move ! (1 ∷ []) $ split ! $ move ! (2 ∷ 0 ∷ 6 ∷ []) $
+    use3 𝓛 (later (‵ (fdead ν) ⊛ ‵ (flft κ q))) (over 𝓛 α κ q) $ await ! tt $ split ! $ move ! (0 ∷ 5 ∷ []) $ lent_back ! tt $ fjoin ! $
     -- [the document; the tokens; the result; what the callee says]
     move ! (2 ∷ []) $ peeks ! count.the_row (Is count.the_row) (shows 𝓛 count.the_row) r (v ∷ []) (λ is.
     lands_as ! refl refl ((count_laws.the_row_laws.lawful 𝓛).typed r (v ∷ []) is).0 $
-    move ! (3 ∷ []) $ pick ! (λ ws. split ! $ move ! (1 ∷ []) $ heard ! (ArePiecesTold h.document from to m.now r ws.1.1.1.1.0) (λ told.
+    move ! (3 ∷ []) $ pick ! (λ ws. split ! $ move ! (1 ∷ []) $ heard ! (ArePiecesTold h.document begins ends m.now r ws.1.1.1.1.0) (λ told.
     fsplit ! $ drop ! $ fsplit ! $ drop ! $ fsplit ! $ drop ! $ fsplit ! $ drop ! $ fsplit ! $ move ! (1 ∷ []) $ drop ! $ fsplit ! $ fsplit ! $ move ! (1 ∷ []) $ feq_l ! (λ same. fjoin ! $
     -- [the array; the result; the document; the tokens]
     returns ! (look_at ! 0 refl) $ free_all ! refl $

@@ -1,10 +1,15 @@
 -- The document is lent for a lifetime that is made for the call; the offset is passed on.
-use Rattle.bajofeki_c.proofs.Walking.{w64, usize, uint_vals, uint_Tells, [], ◌∷◌, refl, proved, full_share, id⊢, Lft, Incl-refl, ftrue, flft, flent, fsep, fex, named, vptr, fact, tables, ‵, raw, ◌⊛◌, some, later, prop, ◌$◌, ◌∵◌, !, qed, done, move, drop, use1, use2, split, fsplit, join, fjoin, pick, await, regoal, suffices, frame, group, feq_l, enter, of_opd, addr, stop, no_more, and_then, returns, alloc_all, pass_all, free_all, look_at, get, through, sets, lands_as, lft_new, lft_end, lent_back, yes, Is, shows, lends_shr, part_at, Ptr, RawPtr, block_ptr, in_a_block, rawptr_vals, rawptr_Tells, ShrRef, plain, nothing, heard, peeks, calls_at, lasts, triple_of, Stays, walk_of, says, stay_dropped, Goes-dropped, ends_at, framed, WpFn}
+use Rattle.bajofeki_c.proofs.Walking.{w64, usize, uint_vals, uint_Tells, [], ◌∷◌, refl, proved, full_share, id⊢, Lft, Incl-refl, ftrue, flft, flent, fsep, fex, named, vptr, fact, tables, ‵, raw, ◌⊛◌, some, later, prop, ◌$◌, ◌∵◌, !, qed, done, move, drop, use1, use2, use3, split, fsplit, join, fjoin, pick, await, regoal, suffices, frame, group, feq_l, enter, of_opd, addr, stop, no_more, and_then, returns, alloc_all, pass_all, free_all, look_at, get, through, sets, lands_as, lft_new, lent_back, yes, Is, shows, lends_shr, part_at, Ptr, RawPtr, block_ptr, in_a_block, rawptr_vals, rawptr_Tells, ShrRef, plain, nothing, heard, peeks, calls_at, lasts, triple_of, Stays, walk_of, says, stay_dropped, Goes-dropped, ends_at, framed, WpFn}
 use Rattle.std.proofs.Common.{◌++◌}
-use contract.BorrowLft.{meet_⊑_left, meet_⊑_right}
+use base.Share
+use base.Fml.{fdead}
+use borrow.Within.Token.{Rest}
+use contract.BorrowLft.{meet_⊑_right}
 use denote.RattleType.{owns}
+use denote.Ref.{NamedLft}
 use denote.Signature.{types_at}
 use Rattle.bajofeki_c.specs.Lent.{document_at, document_lies_at}
+use Rattle.bajofeki_c.proofs.Lives.{lives_within, over, within}
 use Rattle.bajofeki_c.specs.contracts.document.Document as document
 use Rattle.bajofeki_c.proofs.document.Document.TheLaws as document_laws
 use Rattle.bajofeki_c.specs.contracts.position.Place as place
@@ -28,7 +33,7 @@ bajofeki_place_spec 𝓤 𝓛 𝓜 𝓡 wired =
     f.Key.name code.function (code.unfolded 𝓤 𝓛.H 𝓜 𝓡 wired)
     (λ κs. (rawptr_vals, (uint_vals w64, tt))) (λ κs. (rawptr_Tells, (uint_Tells w64, tt))) (λ κs qs bounds a h are.
     let at_byte = a.1.0 in let κ = h.lifetime in let q = h.share in
-    let at = record { mir = named 1; lft = κ } in let row = document.the_row at in
+    let at : NamedLft = record { mir = named 1; lft = κ } in let row = document.the_row at in
     let y : Ptr → W.Ghost = λ p. ((κs, qs, bounds, (p, a.1), (rawptr_vals p, (uint_vals w64 at_byte, tt))), h) in
     let G = triple_of 𝓛 g.signature (g.spec 𝓛 𝓜.mem 𝓡.returns) in
     let toks = ‵ ftrue in
@@ -39,20 +44,22 @@ bajofeki_place_spec 𝓤 𝓛 𝓜 𝓡 wired =
     regoal ! (λ p. prop (WpFn 𝓤 𝓛.H 𝓣.C 𝓣.Λ code.function (rawptr_vals p ++ (uint_vals w64 at_byte)) (W.post (y p)))) e refl $
     enter ! _ _ _ _ _ $ alloc_all ! (λ l. pass_all ! refl ((tt, tt), ((tt, record { fits = are.1.0.1 }), tt)) $
     sets ! (of_opd ! (get ! refl)) refl (tt, tt) $ sets ! (addr ! (through ! refl (stop !))) refl (tt, tt) $
-    lft_new ! tt (λ α. let ν : Lft = α ∷ [] in move ! (0 ∷ 2 ∷ []) $ join ! $ move ! (1 ∷ 0 ∷ []) $
+    lft_new ! tt (λ α. let ν : Lft = α ∷ κ in move ! (0 ∷ 2 ∷ []) $
+    use2 𝓛 (‵ (flft ν (Share.right q)) ⊛ ‵ (flft κ (Share.left q)) ⊛ raw (Rest 𝓛 α (Share.right q))) (within 𝓛 α κ q) $ split ! $ move ! (1 ∷ []) $ split ! $ move ! (3 ∷ 2 ∷ []) $
     use2 𝓛 (later ((‵ ((ShrRef (named 0) ν row).own_val (record { ref_ptr = (b, o); now = h.document }) (vptr b o ∷ []))
-    ⊛ ‵ (flent ν (part_at row full_share h.document b o))) ⊛ (‵ (flft ν full_share) ⊛ ‵ (flft κ q))))
-    (lends_shr 𝓛 row (named 0) ν full_share h.document b o row.lives ((document_laws.the_row_laws at).shares 𝓛 h.document) ((ν, full_share) ∷ (κ, q) ∷ []) (meet_⊑_right ν κ) (meet_⊑_left ν κ)) $
+    ⊛ ‵ (flent ν (part_at row full_share h.document b o))) ⊛ ‵ (flft ν (Share.right q))))
+    (lends_shr 𝓛 row (named 0) ν full_share h.document b o row.lives ((document_laws.the_row_laws at).shares 𝓛 h.document) ((ν, Share.right q) ∷ []) (lives_within ν κ (meet_⊑_right (α ∷ []) κ)) (Incl-refl ν)) $
     await ! tt $ split ! $ split ! $
-    -- [the `&`; the right to the document; its token with that of the lexer; what is passed on; the tokens]
-    let z : G.Ghost = (((ν, (κ, tt)), (full_share, (q, tt)), tt, (record { ref_ptr = (b, o); now = h.document }, a.1), (vptr b o ∷ [], (uint_vals w64 at_byte, tt))), tt) in
-    move ! (0 ∷ 3 ∷ []) $ fjoin ! $ move ! (2 ∷ []) $ split ! $ move ! (1 ∷ 4 ∷ []) $ join ! $ move ! (1 ∷ 0 ∷ []) $ join ! $ join ! $
+    -- [the `&`; the right to the document; its token; that of the lexer; the way back; what is passed on; the tokens]
+    let z : G.Ghost = (((ν, (κ, tt)), (Share.right q, (Share.left q, tt)), (meet_⊑_right (α ∷ []) κ, tt), (record { ref_ptr = (b, o); now = h.document }, a.1), (vptr b o ∷ [], (uint_vals w64 at_byte, tt))), tt) in
+    move ! (0 ∷ 5 ∷ []) $ fjoin ! $ move ! (3 ∷ 5 ∷ []) $ join ! $ move ! (3 ∷ 0 ∷ []) $ join ! $ join ! $
     nothing ! $ move ! (1 ∷ 0 ∷ []) $ use2 𝓛 (raw (G.pre z)) (id⊢ 𝓤 _) $
     calls_at ! (framed 𝓤 𝓛.H 𝓜 𝓣) G (met 𝓤 𝓛 𝓜 𝓡 (code.calls-bajofeki_c::document::place_in_document 𝓡.env wired)) z
     (and_then ! (get ! refl) (and_then ! (get ! refl) (no_more !))) (λ v.
-    use1 𝓛 (later (some (λ (r : Place). ((‵ (flft ν full_share) ⊛ ‵ (flft κ q) ⊛ toks) ⊛ ‵ (place.the_row.own_val r (v ∷ []))) ⊛
+    use1 𝓛 (later (some (λ (r : Place). ((‵ (flft ν (Share.right q)) ⊛ ‵ (flft κ (Share.left q)) ⊛ toks) ⊛ ‵ (place.the_row.own_val r (v ∷ []))) ⊛
     some (λ (ws : (Unit {0} × (Unit {0} × Unit {0}))). ‵ (lasts g.ended z.0.0 z.0.3 ws) ⊛ raw (fact 𝓤 (IsPlace h.document at_byte r)))))) (id⊢ 𝓤 _) $
-    await ! tt $ pick ! (λ r. split ! $ split ! $ split ! $ lft_end ! tt $ move ! (0 ∷ 4 ∷ []) $ lent_back ! tt $ move ! (1 ∷ []) $ split ! $ move ! (2 ∷ 0 ∷ []) $ fjoin ! $
+    await ! tt $ pick ! (λ r. split ! $ split ! $ split ! $ move ! (1 ∷ []) $ split ! $ move ! (2 ∷ 0 ∷ 6 ∷ []) $
+    use3 𝓛 (later (‵ (fdead ν) ⊛ ‵ (flft κ q))) (over 𝓛 α κ q) $ await ! tt $ split ! $ move ! (0 ∷ 5 ∷ []) $ lent_back ! tt $ fjoin ! $
     -- [the document; the tokens; the result; what the callee says]
     move ! (2 ∷ []) $ peeks ! place.the_row (Is place.the_row) (shows 𝓛 place.the_row) r (v ∷ []) (λ is.
     lands_as ! refl refl ((place_laws.the_row_laws.lawful 𝓛).typed r (v ∷ []) is).0 $

@@ -1,5 +1,6 @@
 -- What lies there is read, and given to a function that lets it go.
-use Rattle.bajofeki_c.proofs.Walking.{[], ◌∷◌, refl, ap, proved, full_share, id⊢, ftrue, fat, flft, named, Val, vunit, tables, ‵, raw, ◌⊛◌, some, later, prop, ◌$◌, ◌∵◌, !, qed, done, move, drop, use1, split, fsplit, join, fjoin, pick, await, regoal, suffices, group, feq_l, feq_i, enter, of_opd, unit_lit, load, look, stop, no_more, and_then, returns, alloc_all, pass_all, free_all, look_at, get, through, sets, lands_as, unit, yes, Is, shows, part_out, lone, Ptr, RawPtr, block_ptr, in_a_block, room_at, rawptr_vals, rawptr_Tells, plain, nothing, peeks, only, calls_at, ensured, on_entry, triple_of, Stays, walk_of, stay_dropped, Goes-dropped, ends_at, framed, WpFn}
+use Rattle.bajofeki_c.proofs.Walking.{[], ◌∷◌, refl, ap, proved, full_share, id⊢, ftrue, fat, flft, Val, vunit, tables, ‵, raw, ◌⊛◌, some, later, prop, ◌$◌, ◌∵◌, !, qed, done, move, drop, use1, split, fsplit, join, fjoin, pick, await, regoal, suffices, group, feq_l, feq_i, enter, of_opd, unit_lit, load, look, stop, no_more, and_then, returns, alloc_all, pass_all, free_all, look_at, get, through, sets, lands_as, unit, yes, Is, shows, part_out, lone, Ptr, RawPtr, block_ptr, in_a_block, room_at, rawptr_vals, rawptr_Tells, plain, nothing, peeks, only, calls_at, ensured, on_entry, triple_of, Stays, walk_of, stay_dropped, Goes-dropped, ends_at, framed, WpFn}
+use mir.Syntax.{erased}
 use Rattle.bajofeki_c.specs.Lent.{stream_at, stream_lies_at, stream_row}
 use Rattle.bajofeki_c.proofs.stream.Stream.TheLaws as laws
 use Rattle.bajofeki_c.specs.contracts.bajofeki_stream_end as f
@@ -25,7 +26,7 @@ bajofeki_stream_end_spec 𝓤 𝓛 𝓜 𝓡 wired =
     regoal ! (λ p. prop (WpFn 𝓤 𝓛.H 𝓣.C 𝓣.Λ code.function (rawptr_vals p) (W.post (y p)))) e refl $
     use1 𝓛 (some (λ (v : Val). ‵ (fat full_share (lone row.mir) b o v) ⊛ ‵ (row.own_val h.stream (v ∷ [])))) (part_out 𝓛 row refl full_share h.stream b o) $ pick ! (λ v. split ! $
     move ! (1 ∷ []) $ peeks ! row (Is row) (shows 𝓛 row) h.stream (v ∷ []) (λ is.
-    let good = (((laws.the_row_laws (record { mir = named 0; lft = κ })).lawful 𝓛).typed h.stream (v ∷ []) is).0 in
+    let good = (((laws.the_row_laws (record { mir = erased; lft = κ })).lawful 𝓛).typed h.stream (v ∷ []) is).0 in
     -- [what is owned; its cell; the token of the lexer]
     enter ! _ _ _ _ _ $ alloc_all ! (λ l. pass_all ! refl ((tt, tt), tt) $
     sets ! (of_opd ! (get ! refl)) refl (tt, tt) $
