@@ -433,19 +433,23 @@ def _str(data):
 
 
 class _Open:
-    """What a lexer has begun. It's closed by `close()` or the end of a `with`, and gives an error then. Threads may share it: each call
-    waits for the one before."""
+    """What a lexer has begun. It's closed by `close()` or the end of a `with`, and gives an error then. It stays on the thread that began
+    it: RuntimeError on another."""
 
     def __init__(self, lexer, what):
         if hasattr(self, "_room"):
             raise TypeError("it is begun once")
         size, begin, end = (getattr(LIBRARY, f"bajofeki_{what}_{it}") for it in ("size", "begin", "end"))
         self._room = _Room(size(), lambda it: begin(lexer._room.words, it), end, lexer._room)
-        self._lexer, self._lock = lexer, threading.RLock()
+        self._lexer, self._thread = lexer, threading.get_ident()
+
+    def _own(self):
+        if threading.get_ident() != self._thread:
+            raise RuntimeError("it stays on the thread that began it")
+        return self._room
 
     def _call(self, function, *words):
-        with self._lock:
-            return function(self._room.words, *words)
+        return function(self._own().words, *words)
 
     @property
     def lexer(self):
@@ -454,8 +458,7 @@ class _Open:
 
     def close(self):
         """Gives its memory back. A second call does nothing."""
-        with self._lock:
-            self._room.end()
+        self._own().end()
 
     def __enter__(self):
         return self
@@ -498,18 +501,17 @@ class Document(_Open):
 
     def pieces(self, start=0, end=None):
         """The pieces that hold a byte from one offset to another, each whole; all pieces, if no offsets are given."""
-        with self._lock:
-            end, room = len(self) if end is None else end, _ROOM // 16
-            while True:
-                pieces = (_Piece * room)()
-                found = self._call(LIBRARY.bajofeki_pieces, _size(start), _size(end), pieces, room)
-                if found.code:
-                    raise _failed(found.code)
-                if found.count <= room:
-                    break
-                room = found.count
-            start, last = pieces[0].start, pieces[found.count - 1]
-            data = self._copy(start, last.start + last.length - start) if found.count else b""
+        end, room = len(self) if end is None else end, _ROOM // 16
+        while True:
+            pieces = (_Piece * room)()
+            found = self._call(LIBRARY.bajofeki_pieces, _size(start), _size(end), pieces, room)
+            if found.code:
+                raise _failed(found.code)
+            if found.count <= room:
+                break
+            room = found.count
+        start, last = pieces[0].start, pieces[found.count - 1]
+        data = self._copy(start, last.start + last.length - start) if found.count else b""
         return list(self._lexer._told(memoryview(pieces).cast("B")[: found.count * _PIECES.size], data, start, _str))
 
     def piece_at(self, offset):
@@ -518,19 +520,17 @@ class Document(_Open):
 
     def place(self, offset, columns=Columns.CHARACTERS):
         """The place of an offset. ValueError if it's in a character, or past the end."""
-        with self._lock:
-            found = self._call(LIBRARY.bajofeki_place, _size(offset))
-            if not found.line:
-                raise _failed(_BAD_RANGE)
-            start = self._call(LIBRARY.bajofeki_offset, found.line, 1).at
-            return Place(found.line, 1 + _width(self._copy(start, offset - start), columns))
+        found = self._call(LIBRARY.bajofeki_place, _size(offset))
+        if not found.line:
+            raise _failed(_BAD_RANGE)
+        start = self._call(LIBRARY.bajofeki_offset, found.line, 1).at
+        return Place(found.line, 1 + _width(self._copy(start, offset - start), columns))
 
     def offset(self, line, column, columns=Columns.CHARACTERS):
         """The offset of a place, of which the column may be the one after the last of its line. ValueError if there is no such place."""
-        with self._lock:
-            found, codec, unit = self._call(LIBRARY.bajofeki_offset, _size(line), 1), *_UNITS[columns]
-            # A column takes four bytes at most.
-            line = self._copy(found.at, min(4 * _size(column - 1), len(self) - found.at)).decode("utf-8", "ignore").partition("\n")[0]
+        found, codec, unit = self._call(LIBRARY.bajofeki_offset, _size(line), 1), *_UNITS[columns]
+        # A column takes four bytes at most.
+        line = self._copy(found.at, min(4 * _size(column - 1), len(self) - found.at)).decode("utf-8", "ignore").partition("\n")[0]
         front = line.encode(codec)[: unit * (column - 1)].decode(codec, "ignore")
         if not found.line or _width(front, columns) < column - 1:
             raise ValueError("the text has no such place")
@@ -539,8 +539,7 @@ class Document(_Open):
     @property
     def text(self):
         """The text."""
-        with self._lock:
-            return self._copy(0, len(self)).decode()
+        return self._copy(0, len(self)).decode()
 
     def __len__(self):
         """How many bytes the text has."""
@@ -581,23 +580,18 @@ class Stream(_Open):
 
     def _feed(self, chunk, is_last):
         chunk = _Text(chunk.encode() if isinstance(chunk, str) else chunk)
-        with self._lock:
-            code = self._call(LIBRARY.bajofeki_feed, chunk.at, chunk.size, is_last)
-            if code not in (_DONE, _NOT_UTF8):
-                raise _failed(code)
-            if self._bad is None:
-                self._rest += chunk.data
-            if code == _NOT_UTF8:
-                self._bad = self._at + _first_bad(self._rest) if self._bad is None else self._bad
-                raise NotUtf8Error(self._bad)
+        code = self._call(LIBRARY.bajofeki_feed, chunk.at, chunk.size, is_last)
+        if code not in (_DONE, _NOT_UTF8):
+            raise _failed(code)
+        if self._bad is None:
+            self._rest += chunk.data
+        if code == _NOT_UTF8:
+            self._bad = self._at + _first_bad(self._rest) if self._bad is None else self._bad
+            raise NotUtf8Error(self._bad)
 
     def __iter__(self):
-        while True:
-            with self._lock:
-                if not self._given and not self._takes_pieces():
-                    return
-                piece = self._given.popleft()
-            yield piece
+        while self._own() and (self._given or self._takes_pieces()):
+            yield self._given.popleft()
 
     def _takes_pieces(self):
         """Whether there are pieces to be given."""

@@ -40,16 +40,11 @@ pub struct Change {
 /// # Ok::<(), Box<dyn std::error::Error>>(())
 /// ```
 ///
-/// It may go to another thread, but only one at a time may see it.
-///
-/// ```
-/// fn is_sent<T: Send>() {}
-/// is_sent::<bajofeki::Document>();
-/// ```
+/// It stays on the thread that began it.
 ///
 /// ```compile_fail,E0277
-/// fn is_shared<T: Sync>() {}
-/// is_shared::<bajofeki::Document>();
+/// fn is_sent<T: Send>() {}
+/// is_sent::<bajofeki::Document>();
 /// ```
 pub struct Document<'a> {
     lexer: &'a Lexer,

@@ -1,6 +1,5 @@
 //! The library's functions, and safe calls of them. Their contracts are in `crates/bajofeki_c/src/lib.rt`.
 
-use std::cell::Cell;
 use std::ffi::c_void;
 use std::fmt;
 use std::marker::PhantomData;
@@ -344,10 +343,10 @@ impl fmt::Debug for Cutting<'_> {
     }
 }
 
-/// A text that is edited. It borrows the lexer. The header lets threads read it in turn only, so it isn't `Sync`.
+/// A text that is edited. It borrows the lexer. By the header it stays on its thread, so it is neither `Send` nor `Sync`.
 pub struct HeldDocument<'a> {
     begun: Begun,
-    lexer: PhantomData<(&'a Held, Cell<()>)>,
+    lexer: PhantomData<(&'a Held, *const ())>,
 }
 
 impl<'a> HeldDocument<'a> {
@@ -386,10 +385,10 @@ impl<'a> HeldDocument<'a> {
     }
 }
 
-/// A text that comes in chunks. It borrows the lexer.
+/// A text that comes in chunks. It borrows the lexer, and stays on its thread too.
 pub struct HeldStream<'a> {
     begun: Begun,
-    lexer: PhantomData<&'a Held>,
+    lexer: PhantomData<(&'a Held, *const ())>,
 }
 
 impl<'a> HeldStream<'a> {

@@ -232,11 +232,10 @@ pub fn version() -> u32 {
     ffi::version()
 }
 
-// Lexers, items and streams go from thread to thread, and threads may share them. Of a document the latter isn't so.
+// Lexers, items and errors go from thread to thread, and threads may share them.
 const _: () = {
     const fn is_shared<T: Send + Sync>() {}
     is_shared::<Lexer>();
     is_shared::<Items<'_>>();
-    is_shared::<Stream<'_>>();
     is_shared::<RulesError>();
 };

@@ -22,6 +22,13 @@ use crate::{Item, Lexer, TextError};
 /// assert_eq!(stream.pieces()?[0].text, "xy");
 /// # Ok::<(), Box<dyn std::error::Error>>(())
 /// ```
+///
+/// It stays on the thread that began it.
+///
+/// ```compile_fail,E0277
+/// fn is_sent<T: Send>() {}
+/// is_sent::<bajofeki::Stream>();
+/// ```
 pub struct Stream<'a> {
     lexer: &'a Lexer,
     held: HeldStream<'a>,
