@@ -1,6 +1,6 @@
 /* checks RULES TEXT [RULES TEXT ..]: calls each function of the header, with null pointers, arrays that are too short, the texts whole and
    with bytes spoilt, and memory refused, and stops at the first wrong answer. Run under sanitizers it shows that no access goes astray. C and
-   C++, to be linked with -Wl,--wrap=malloc,--wrap=realloc. */
+   C++, to be linked with the archive and -Wl,--wrap=malloc,--wrap=realloc. */
 #include <stdio.h>
 #include <string.h>
 #include "bajofeki.h"
