@@ -205,7 +205,7 @@ bajofeki_cut_t bajofeki_cut(const bajofeki_lexer *lexer, bajofeki_cutter *cutter
 /* Gives a cutter's memory back. */
 void bajofeki_end(bajofeki_cutter *cutter);
 
-/* Begins an empty document in the room. By what is no lexer too, or if memory is refused, something lies there: then each edit gives the code.
+/* Begins an empty document in the room. Something lies there even if the rules were refused, or memory is: then each edit gives the code.
    bajofeki_document_end is owed. */
 void bajofeki_document_begin(const bajofeki_lexer *lexer, bajofeki_document *document);
 
@@ -229,7 +229,7 @@ size_t bajofeki_copy(const bajofeki_document *document, size_t from, char *out, 
 /* Gives a document's memory back. */
 void bajofeki_document_end(bajofeki_document *document);
 
-/* Begins a stream in the room: a text of which nothing has come. By what is no lexer too something lies there: then each call gives the code.
+/* Begins a stream in the room: a text of which nothing has come. Something lies there even if the rules were refused: then each call gives the code.
    bajofeki_stream_end is owed. */
 void bajofeki_stream_begin(const bajofeki_lexer *lexer, bajofeki_stream *stream);
 

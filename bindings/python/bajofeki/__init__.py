@@ -214,7 +214,7 @@ class Places:
         self._at, self._place = 0, Place(1, 1)
 
     def at(self, offset):
-        """The place of this offset; of one past the end that of the end."""
+        """The place of this offset; past the end, the place of the end."""
         if offset < self._at:
             self._at, self._place = 0, Place(1, 1)
         part = self._text[self._at : offset]
@@ -313,7 +313,7 @@ class Lexer:
         """
         arrays = Arrays(array("I"), array("I"), array("Q"))
         for block, end in self._blocks(_Text(text)):
-            # Of each piece's four words of 64 bits the low half of the first is its kind, that of the second its rule.
+            # A piece is four words of 64 bits: the low half of the first is its kind, the low half of the second its rule.
             halves, words = block.cast("I"), block.cast("Q")
             arrays.kinds.frombytes(halves[::8].tobytes())
             arrays.rules.frombytes(halves[2::8].tobytes())
