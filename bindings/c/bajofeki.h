@@ -229,7 +229,8 @@ size_t bajofeki_copy(const bajofeki_document *document, size_t from, char *out, 
 /* Gives a document's memory back. */
 void bajofeki_document_end(bajofeki_document *document);
 
-/* Begins a stream in the room: a text of which nothing has come. Something lies there even if the rules were refused: then each call gives the code.
+/* Begins a stream in the room: a text of which nothing has come. Something lies there even if the rules were refused: then each call
+   gives the code.
    bajofeki_stream_end is owed. */
 void bajofeki_stream_begin(const bajofeki_lexer *lexer, bajofeki_stream *stream);
 
