@@ -8,7 +8,7 @@ from pathlib import Path
 
 TOP = Path(__file__).resolve().parent.parent
 # Each library, with the crates below it.
-LIBRARIES = {name: below.split() for name, below in re.findall(r"^(lalrpop_\w+|\w+_lib|bajofeki_\w+)(?: \w+)?:(.*)", (TOP / "crates.txt").read_text(), re.M)}
+LIBRARIES = {name: below.split() for name, below in re.findall(r"^(lalrpop_\w+|\w+_lib|bajofeki\w*)(?: \w+)?:(.*)", (TOP / "crates.txt").read_text(), re.M)}
 # `kind` is fn, impl, trait, struct, enum, mod or use; `name` is its name, an impl's type, or what a `use` says.
 Item = namedtuple("Item", "kind name trait is_public text about functions ghosts file")
 # `text` is the head and the clauses, without comments.

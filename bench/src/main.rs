@@ -3,7 +3,7 @@
 
 use anyhow::{Context, Result, bail};
 use lalrpop_dense::{DenseDfa, Matcher};
-use lalrpop_edits::Chunks;
+use bajofeki::Stream;
 use lalrpop_emit::LexerNumbers;
 use lalrpop_lexer::lexer::dfa::{Dfa, NfaIndex, Precedence, build_dfa, clashes};
 use lalrpop_lexer::lexer::nfa::Steps;
@@ -252,7 +252,7 @@ fn by_items(alloc: Global, lexer: &RuleLexer, text: &str) -> Result<Found, Alloc
 }
 
 // The pieces that no later chunk can change.
-fn add_pieces(found: &mut Found, chunks: &mut Chunks<'_>) -> Result<(), AllocError> {
+fn add_pieces(found: &mut Found, chunks: &mut Stream<'_>) -> Result<(), AllocError> {
     // A piece has one byte at least.
     for _ in 0..chunks.rest().len() {
         match chunks.next_piece() {
@@ -270,7 +270,7 @@ fn add_pieces(found: &mut Found, chunks: &mut Chunks<'_>) -> Result<(), AllocErr
 // A chunk is a line.
 fn by_chunks(alloc: Global, lexer: &RuleLexer, text: &str) -> Result<Found, AllocError> {
     let mut found = Found::none();
-    let mut chunks = Chunks::new(alloc, lexer);
+    let mut chunks = Stream::new(alloc, lexer);
     for line in text.split_inclusive('\n') {
         // Nothing ends the text before the last chunk.
         if chunks.is_ended() {

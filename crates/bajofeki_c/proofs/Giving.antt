@@ -2,7 +2,7 @@
 use Rattle.std.proofs.Common.{List, [], ◌∷◌, ◌++◌, refl, subst}
 use Rattle.std.specs.Prelude.{Some}
 use Rattle.lalrpop_rules.specs.declared.item.Item.{Item}
-use Rattle.lalrpop_edits.specs.Chunked.{Chunked, GivesFinal}
+use Rattle.bajofeki.specs.Chunked.{Chunked, GivesFinal}
 use Rattle.bajofeki_c.specs.Stream.{GivesAll}
 
 -- one piece more

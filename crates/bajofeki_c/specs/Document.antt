@@ -5,10 +5,10 @@ use Rattle.std.specs.Str.{IsCharBoundary, IsUtf8}
 use Rattle.bajofeki_rules.specs.Position.{position_of}
 use Rattle.lalrpop_rules.specs.declared.item.Item.{Item}
 use Rattle.lalrpop_rules.specs.declared.item.Item.TheVariants.{Token, Skipped, Fault}
-use Rattle.lalrpop_edits.specs.Lexed.{ArePiecesIn, FirstReaches, IsChange, IsEarliest, IsEditError, IsRange, Lexed, replaced}
-use Rattle.lalrpop_edits.specs.declared.change.Change.{Change}
-use Rattle.lalrpop_edits.specs.declared.error.EditError.{EditError}
-use Rattle.lalrpop_edits.specs.declared.error.EditError.TheVariants.{NoBoundary, TooLarge, OutOfMemory}
+use Rattle.bajofeki.specs.Lexed.{ArePiecesIn, FirstReaches, IsChange, IsEarliest, IsEditError, IsRange, Lexed, replaced}
+use Rattle.bajofeki.specs.declared.change.Change.{Change}
+use Rattle.bajofeki.specs.declared.error.EditError.{EditError}
+use Rattle.bajofeki.specs.declared.error.EditError.TheVariants.{NoBoundary, TooLarge, OutOfMemory}
 use Rattle.bajofeki_c.specs.Rules.{IsWritten}
 use Rattle.bajofeki_c.specs.declared.cut.Piece.{Piece}
 use Rattle.bajofeki_c.specs.declared.document.Count.{Count}

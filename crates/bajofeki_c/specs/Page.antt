@@ -2,8 +2,8 @@
 -- A text as HTML or in colours for a terminal, into an array.
 use Rattle.std.specs.Prelude.{◌≡◌, ◌⊎◌, ℕ, List, flat_map, Result, Ok, Err}
 use Rattle.std.specs.Str.{IsUtf8}
-use Rattle.lalrpop_markup.specs.Markup.{marked}
-use Rattle.lalrpop_markup.specs.Terminal.{painted}
+use Rattle.bajofeki.specs.Markup.{marked}
+use Rattle.bajofeki.specs.Terminal.{painted}
 use Rattle.lalrpop_rules.specs.Modes.{ModeRules, ArePiecesFrom}
 use Rattle.bajofeki_rules.specs.Stack.{Stack, start}
 use Rattle.lalrpop_rules.specs.declared.item.Item.{Item}

@@ -2,9 +2,9 @@
 -- A text that comes in chunks.
 use Rattle.std.specs.Prelude.{◌≡◌, ◌≢◌, ◌⊎◌, ℕ, Bool, true, false, List, [], ◌∷◌, ◌++◌, length, take, drop, map, Option, Some, None, Result, Ok, Err}
 use Rattle.lalrpop_rules.specs.declared.item.Item.{Item}
-use Rattle.lalrpop_edits.specs.Chunked.{Chunked, GivesFinal, IsChunkError, IsHeldBack, nothing_come}
-use Rattle.lalrpop_edits.specs.Decoded.{Decodes, Decoding, nothing_decoded}
-use Rattle.lalrpop_edits.specs.declared.error.EditError.{EditError}
+use Rattle.bajofeki.specs.Chunked.{Chunked, GivesFinal, IsChunkError, IsHeldBack, nothing_come}
+use Rattle.bajofeki.specs.Decoded.{Decodes, Decoding, nothing_decoded}
+use Rattle.bajofeki.specs.declared.error.EditError.{EditError}
 use Rattle.bajofeki_c.specs.Document.{code_of_edit, count_told, told}
 use Rattle.bajofeki_c.specs.declared.cut.Piece.{Piece}
 use Rattle.bajofeki_c.specs.declared.document.Count.{Count}

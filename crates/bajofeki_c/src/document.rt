@@ -7,7 +7,7 @@ use crate::cut::Piece;
 use crate::held::Held;
 use crate::position::Place;
 use crate::rules::write_to;
-use lalrpop_edits::{Change, EditError, LexedText};
+use bajofeki::{Change, Document as EditedText, EditError};
 use lalrpop_lexer::Position;
 use lalrpop_rules::Item;
 use std::alloc::Global;
@@ -58,7 +58,7 @@ pub enum DocumentError {
 /// A text with its pieces, or why there is none.
 #[derive(Drop)]
 pub struct Document<'rules> {
-    pub made: Result<LexedText<'rules>, DocumentError>,
+    pub made: Result<EditedText<'rules>, DocumentError>,
 }
 
 /// An empty text, which is cut by this lexer.
@@ -70,7 +70,7 @@ pub fn begin_document<'rules>(held: &'rules Held, alloc: Global) -> Document<'ru
             made: Err(DocumentError::NoLexer),
         };
     };
-    match LexedText::new(alloc, &lexer.rules, "") {
+    match EditedText::new(alloc, &lexer.rules, "") {
         Ok(text) => Document { made: Ok(text) },
         Err(error) => Document {
             made: Err(DocumentError::Refused(error)),
@@ -129,7 +129,7 @@ fn edited(change: Change) -> Edit
 }
 
 // Replaces the bytes from `from` to `to` of a text by these.
-fn edit_text(text: &mut LexedText<'_>, alloc: Global, from: usize, to: usize, new: &[u8]) -> Edit
+fn edit_text(text: &mut EditedText<'_>, alloc: Global, from: usize, to: usize, new: &[u8]) -> Edit
     ensures edited { IsTextEdited text.old from to new.now result text.new }
 {
     let Ok(new) = str::from_utf8(new) else {

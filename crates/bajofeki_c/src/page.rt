@@ -5,7 +5,7 @@ ghost use Rattle.bajofeki_c.specs.Page.{IsPageOf, IsShown, piece_in};
 
 use crate::held::Held;
 use crate::rules::write_to;
-use lalrpop_markup::{Painter, push_html};
+use bajofeki::{Painter, push_html};
 use lalrpop_rules::{Item, RuleLexer};
 use std::alloc::{AllocError, Global};
 use std::str;
@@ -13,9 +13,9 @@ use std::str;
 /// How a text is shown.
 #[derive(Copy, Clone)]
 pub enum Markup {
-    /// As `push_html` of `lalrpop_markup` writes its pieces.
+    /// As `push_html` of `bajofeki` writes its pieces.
     Html,
-    /// As `Painter` of `lalrpop_markup` paints them.
+    /// As `Painter` of `bajofeki` paints them.
     Ansi,
 }
 

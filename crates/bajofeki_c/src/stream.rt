@@ -1,20 +1,20 @@
 //! A text that comes in chunks.
 ghost use Rattle.std.specs.Prelude.{◌≡◌, IfOk};
-ghost use Rattle.lalrpop_edits.specs.Given.{item_of};
+ghost use Rattle.bajofeki.specs.Given.{item_of};
 ghost use Rattle.bajofeki_c.specs.Document.{told as told_piece};
 ghost use Rattle.bajofeki_c.specs.Stream.{GivesOn, GivesPieces, GivesUnlessRefused, IsFed, IsFedOpen, IsFedOrRefused, IsStreamBegun};
 
 use crate::cut::Piece;
 use crate::document::{Count, edit_code};
 use crate::held::Held;
-use lalrpop_edits::{Chunks, GivenPiece, TextDecoder};
+use bajofeki::{GivenPiece, Stream as CutStream, TextDecoder};
 use std::alloc::{AllocError, Global};
 
 /// What has come of a text.
 #[derive(Drop)]
 pub struct OpenStream<'rules> {
     /// Its characters, and their pieces.
-    pub chunks: Chunks<'rules>,
+    pub chunks: CutStream<'rules>,
     /// What has come of a character.
     pub decoder: TextDecoder,
     /// Whether memory was refused for what came.
@@ -34,7 +34,7 @@ pub fn begin_stream<'rules>(held: &'rules Held, alloc: Global) -> Stream<'rules>
     match &held.made {
         Ok(lexer) => Stream {
             going: Some(OpenStream {
-                chunks: Chunks::new(alloc, &lexer.rules),
+                chunks: CutStream::new(alloc, &lexer.rules),
                 decoder: TextDecoder::new(alloc),
                 is_refused: false,
             }),
@@ -114,7 +114,7 @@ fn told(piece: GivenPiece, slice: &str) -> Piece
 }
 
 // Gives pieces until the array is full or no further one is final.
-fn fill(chunks: &mut Chunks<'_>, out: &mut [Piece]) -> Count
+fn fill(chunks: &mut CutStream<'_>, out: &mut [Piece]) -> Count
     ensures given { GivesPieces chunks.old out.old result out.new chunks.new }
 {
     let mut count = 0;

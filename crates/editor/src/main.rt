@@ -8,10 +8,8 @@
 #![tactic(auto)]
 
 use anyhow::{Context, Result, bail};
-use lalrpop_edits::{Change, Chunks, LexedText};
-use lalrpop_lexer::Position;
+use bajofeki::{Change, Document, Item, Position, RuleLexer, Stream};
 use lalrpop_lexer::lexer::re::unescape;
-use lalrpop_rules::{Item, RuleLexer};
 use std::alloc::Global;
 use std::io::{self, Print};
 use std::ops::Range;
@@ -26,7 +24,7 @@ struct Edit {
 }
 
 // The byte offset of a place `LINE:COLUMN` in the text.
-fn offset_of(text: &LexedText<'_>, word: &str) -> Result<usize> {
+fn offset_of(text: &Document<'_>, word: &str) -> Result<usize> {
     let Some((line, column)) = word.split_once(':') else {
         bail!("{word:?} is no place LINE:COLUMN");
     };
@@ -41,7 +39,7 @@ fn offset_of(text: &LexedText<'_>, word: &str) -> Result<usize> {
 }
 
 // The edit of a line `FROM TO TEXT`.
-fn edit_of(alloc: Global, text: &LexedText<'_>, line: &str) -> Result<Edit> {
+fn edit_of(alloc: Global, text: &Document<'_>, line: &str) -> Result<Edit> {
     let mut words = line.splitn(3, ' ');
     let (Some(from), Some(to)) = (words.next(), words.next()) else {
         bail!("an edit is two places and a text");
@@ -60,7 +58,7 @@ fn name_of<'text>(lexer: &'text RuleLexer, piece: &Item<'_>) -> &'text str {
 }
 
 // Writes what changed, and the pieces that came.
-fn show(rt: &impl Print, alloc: Global, text: &LexedText<'_>, change: &Change) -> Result<()> {
+fn show(rt: &impl Print, alloc: Global, text: &Document<'_>, change: &Change) -> Result<()> {
     let Change {
         removed,
         inserted,
@@ -80,7 +78,7 @@ fn show(rt: &impl Print, alloc: Global, text: &LexedText<'_>, change: &Change) -
 }
 
 // Counts lines and columns up to the place from nothing, and compares.
-fn check_place(text: &LexedText<'_>, at: usize) -> Result<()> {
+fn check_place(text: &Document<'_>, at: usize) -> Result<()> {
     if text.position(at) == Position::get(text.text(), at) {
         return Ok(());
     }
@@ -88,7 +86,7 @@ fn check_place(text: &LexedText<'_>, at: usize) -> Result<()> {
 }
 
 // Cuts the text from nothing, and compares.
-fn check(alloc: Global, text: &LexedText<'_>) -> Result<()> {
+fn check(alloc: Global, text: &Document<'_>) -> Result<()> {
     let mut kept = text.pieces(alloc, 0..text.text().len())?.into_iter();
     for item in text.lexer().items(alloc, text.text())? {
         let item = match item {
@@ -107,7 +105,7 @@ fn check(alloc: Global, text: &LexedText<'_>) -> Result<()> {
 }
 
 // Compares the pieces that are given with the next ones of the text. There are `most` at most.
-fn compare(chunks: &mut Chunks<'_>, kept: &mut IntoIter<Item<'_>>, most: usize) -> Result<()> {
+fn compare(chunks: &mut Stream<'_>, kept: &mut IntoIter<Item<'_>>, most: usize) -> Result<()> {
     for _ in 0..most {
         let given = match chunks.next_piece() {
             Ok(Some(given)) => given,
@@ -123,8 +121,8 @@ fn compare(chunks: &mut Chunks<'_>, kept: &mut IntoIter<Item<'_>>, most: usize) 
 }
 
 // Cuts the text in chunks of one and two characters, and compares.
-fn check_chunks(alloc: Global, text: &LexedText<'_>) -> Result<()> {
-    let mut chunks = Chunks::new(alloc, text.lexer());
+fn check_chunks(alloc: Global, text: &Document<'_>) -> Result<()> {
+    let mut chunks = Stream::new(alloc, text.lexer());
     let mut kept = text.pieces(alloc, 0..text.text().len())?.into_iter();
     let mut chunk = String::new(alloc);
     let most = text.text().len().saturating_add(1);
@@ -159,7 +157,7 @@ fn main(rt: HostRuntime) -> Result<()> {
     let made = RuleLexer::from_file(alloc, bytes.as_bytes());
     let lexer = made.context(format_args!("{rules_name:?}"))?;
     let start = fs::read_to_string(&rt, &text_name).context(format_args!("{text_name:?}"))?;
-    let mut text = LexedText::new(alloc, &lexer, &start)?;
+    let mut text = Document::new(alloc, &lexer, &start)?;
     for line in io::read_to_string(alloc, rt.reader())?.lines() {
         let edit = edit_of(alloc, &text, line)?;
         let change = text.edit(alloc, edit.range, &edit.new)?;

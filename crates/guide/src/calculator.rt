@@ -3,8 +3,7 @@
 #![tactic(auto)]
 
 use anyhow::Result;
-use lalrpop_lexer::Position;
-use lalrpop_rules::{Item, Rule, RuleLexer};
+use bajofeki::{Item, Position, Rule, RuleLexer};
 use std::alloc::Global;
 use std::io::{self, Print};
 

@@ -2,8 +2,7 @@
 #![tactic(auto)]
 
 use anyhow::{Context, Result, bail};
-use lalrpop_lexer::Position;
-use lalrpop_rules::{Item, RuleLexer};
+use bajofeki::{Item, Position, RuleLexer};
 use std::alloc::Global;
 use std::io::Print;
 use std::{env, fs};

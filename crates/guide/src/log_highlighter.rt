@@ -3,9 +3,7 @@
 #![tactic(auto)]
 
 use anyhow::{Context, Result, bail};
-use lalrpop_edits::{Chunks, TextDecoder};
-use lalrpop_markup::Painter;
-use lalrpop_rules::RuleLexer;
+use bajofeki::{Painter, RuleLexer, Stream, TextDecoder};
 use std::alloc::Global;
 use std::env;
 use std::fs::{self, File};
@@ -15,7 +13,7 @@ use std::io::{Print, Read};
 fn paint(
     rt: &impl Print,
     alloc: Global,
-    chunks: &mut Chunks<'_>,
+    chunks: &mut Stream<'_>,
     painter: &mut Painter<'_>,
 ) -> Result<()> {
     let mut page = String::new(alloc);
@@ -37,7 +35,7 @@ fn paint_all<R: Read>(
     lexer: &RuleLexer,
     reader: &mut R,
 ) -> Result<()> {
-    let mut chunks = Chunks::new(alloc, lexer);
+    let mut chunks = Stream::new(alloc, lexer);
     let mut decoder = TextDecoder::new(alloc);
     let mut painter = Painter::new(alloc, lexer.names())?;
     let mut buffer = [0u8; 4096];

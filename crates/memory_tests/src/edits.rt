@@ -1,7 +1,7 @@
 //! Texts that are edited, and texts that come in chunks.
 
 use crate::calls::{Call, add, expect, halves};
-use lalrpop_edits::{Chunks, EditError, LexedText};
+use bajofeki::{Document, EditError, Stream};
 use lalrpop_rules::RuleLexer;
 use std::alloc::{AllocError, Global};
 
@@ -14,7 +14,7 @@ pub(crate) fn lexer_of(alloc: Global, lines: &str) -> Result<RuleLexer, AllocErr
     }
 }
 
-fn slices(alloc: Global, lexed: &LexedText<'_>) -> Result<String, AllocError> {
+fn slices(alloc: Global, lexed: &Document<'_>) -> Result<String, AllocError> {
     let mut line = String::new(alloc);
     for piece in lexed.pieces(alloc, 0..lexed.text().len())? {
         add(&mut line, " ", piece.slice())?;
@@ -25,7 +25,7 @@ fn slices(alloc: Global, lexed: &LexedText<'_>) -> Result<String, AllocError> {
 // Puts `new` after the byte in the middle. If that is refused, the text and its pieces are the old ones.
 fn edit_once(
     alloc: Global,
-    lexed: &mut LexedText<'_>,
+    lexed: &mut Document<'_>,
     text: &str,
     new: &str,
 ) -> Result<String, AllocError> {
@@ -49,7 +49,7 @@ pub(crate) fn edited(alloc: Global, argument: &str) -> Result<String, AllocError
     let (lines, texts) = halves(argument, " <- ");
     let (text, new) = halves(texts, " <- ");
     let lexer = lexer_of(alloc, lines)?;
-    match LexedText::new(alloc, &lexer, text) {
+    match Document::new(alloc, &lexer, text) {
         Ok(mut lexed) => edit_once(alloc, &mut lexed, text, new),
         Err(EditError::OutOfMemory) => Err(AllocError),
         Err(error) => format!(in alloc; "{error}"),
@@ -65,7 +65,7 @@ A = /a+/ <- aa <- a => aaa";
 }
 
 // Adds the pieces that no later chunk can change, and then `|`. A piece that is refused is asked for again.
-fn add_pieces(chunks: &mut Chunks<'_>, text: &str, line: &mut String) -> Result<(), AllocError> {
+fn add_pieces(chunks: &mut Stream<'_>, text: &str, line: &mut String) -> Result<(), AllocError> {
     let mut is_refused = false;
     // A piece has one byte at least.
     for _ in 0..=text.len() {
@@ -83,7 +83,7 @@ fn add_pieces(chunks: &mut Chunks<'_>, text: &str, line: &mut String) -> Result<
 pub(crate) fn in_chunks(alloc: Global, argument: &str) -> Result<String, AllocError> {
     let (lines, text) = halves(argument, " <- ");
     let lexer = lexer_of(alloc, lines)?;
-    let mut chunks = Chunks::new(alloc, &lexer);
+    let mut chunks = Stream::new(alloc, &lexer);
     let mut line = String::new(alloc);
     for chunk in text.split('|') {
         // Nothing ends the text before the last chunk.
@@ -104,5 +104,5 @@ pub(crate) fn in_chunks(alloc: Global, argument: &str) -> Result<String, AllocEr
 fn texts_come_in_chunks(rt: HostRuntime) {
     let table = "\
 A = /a+/;OPEN push C = '(';[C];IN push C = '(';OUT pop = ')';B = /b+/ <- a|a(b|b) => | aa ( | bb ) | |";
-    expect(&rt, rt.alloc(), Call::Chunks, table, 1);
+    expect(&rt, rt.alloc(), Call::Stream, table, 1);
 }

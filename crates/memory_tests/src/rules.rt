@@ -1,9 +1,9 @@
 //! Lexers of texts and of named rules, and texts as HTML and in colours.
 
 use crate::calls::{Call, add, expect, halves, number};
+use bajofeki::{ansi, html};
 use lalrpop_lexer::lexer::dfa::Precedence;
 use lalrpop_lexer::{Form, Lexer, LexerError};
-use lalrpop_markup::{ansi, html};
 use lalrpop_rule_file::{FileRule, RuleFileError, read_rules};
 use lalrpop_rules::{Item, Rule, RuleLexer, RulesError};
 use std::alloc::{AllocError, Global};

@@ -1,7 +1,7 @@
 //! What an edit changes of the pieces of a text, and a text that comes as bytes, in chunks.
 
 use crate::rules::{expect, given, plain, shown};
-use lalrpop_edits::{LexedText, TextDecoder};
+use bajofeki::{Document, TextDecoder};
 use lalrpop_rules::{Action, ModeRule, Rule, RuleLexer};
 use std::alloc::{AllocError, Global};
 
@@ -38,7 +38,7 @@ fn changed(
     new: &str,
 ) -> Result<String, AllocError> {
     let lexer = words_and_comments(alloc)?;
-    let Ok(mut lexed) = LexedText::new(alloc, &lexer, text) else {
+    let Ok(mut lexed) = Document::new(alloc, &lexer, text) else {
         return Err(AllocError);
     };
     match lexed.edit(alloc, start..end, new) {
@@ -77,7 +77,7 @@ fn edits_change_what_depends_on_them(rt: HostRuntime) {
 // The pieces of the text with a byte of the range.
 fn between(alloc: Global, text: &str, start: usize, end: usize) -> Result<String, AllocError> {
     let lexer = words_and_comments(alloc)?;
-    let Ok(lexed) = LexedText::new(alloc, &lexer, text) else {
+    let Ok(lexed) = Document::new(alloc, &lexer, text) else {
         return Err(AllocError);
     };
     let mut line = String::new(alloc);

@@ -1,7 +1,7 @@
 //! Texts that are shown by named rules: as HTML, and in the colours of a terminal.
 
 use crate::rules::{expect, given, halves, rule_lexer};
-use lalrpop_markup::{ansi, html};
+use bajofeki::{ansi, html};
 use lalrpop_rules::{Rule, RuleLexer};
 use std::alloc::{AllocError, Global};
 

@@ -1,9 +1,9 @@
 -- A text that comes, from one read to the next.
 use Rattle.std.proofs.Common.{◌≡◌, ℕ, ◌+◌, inl, inr, Bool, true, false, List, [], ◌∷◌, ◌++◌, length, refl, sym, ap, subst, ◌∙◌, arith, append_assoc, length-append}
 use Rattle.std.specs.Prelude.{Option, Some, None, is_some, map, reverse}
-use Rattle.lalrpop_edits.specs.Chunked.{Chunked}
-use Rattle.lalrpop_edits.specs.Decoded.{Decoding}
-use Rattle.lalrpop_edits.proofs.ChunkLaws.{came_pieces, came_rest}
+use Rattle.bajofeki.specs.Chunked.{Chunked}
+use Rattle.bajofeki.specs.Decoded.{Decoding}
+use Rattle.bajofeki.proofs.ChunkLaws.{came_pieces, came_rest}
 use Rattle.bajofeki_rules.specs.Position.{position_of}
 use Rattle.lalrpop_rules.specs.Modes.{ModeRules}
 use Rattle.lalrpop_rule_file.specs.RuleFile.{without_mark}

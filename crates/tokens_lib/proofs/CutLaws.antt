@@ -8,13 +8,13 @@ use Rattle.std.specs.Borrow.{Bor}
 use Rattle.std.specs.Str.{chars, IsUtf8}
 use Rattle.bajofeki_rules.specs.Position.{place_after, position_of, place_behind}
 use Rattle.bajofeki_rules.specs.declared.position.Position.{Position}
-use Rattle.lalrpop_edits.specs.Chunked.{Chunked, GivesFinal, IsFinal, nothing_come, Came, nothing, fed, given, ended}
-use Rattle.lalrpop_edits.specs.Decoded.{Decoding}
-use Rattle.lalrpop_edits.specs.Given.{item_by, item_of}
-use Rattle.lalrpop_edits.specs.Lexed.{placed}
-use Rattle.lalrpop_edits.specs.declared.given_piece.GivenPiece.{GivenPiece}
-use Rattle.lalrpop_edits.proofs.Chunking.{slice_placed}
-use Rattle.lalrpop_edits.proofs.ChunkLaws.{came_nothing, came_more, came_given, came_whole, came_rest}
+use Rattle.bajofeki.specs.Chunked.{Chunked, GivesFinal, IsFinal, nothing_come, Came, nothing, fed, given, ended}
+use Rattle.bajofeki.specs.Decoded.{Decoding}
+use Rattle.bajofeki.specs.Given.{item_by, item_of}
+use Rattle.bajofeki.specs.Lexed.{placed}
+use Rattle.bajofeki.specs.declared.given_piece.GivenPiece.{GivenPiece}
+use Rattle.bajofeki.proofs.Chunking.{slice_placed}
+use Rattle.bajofeki.proofs.ChunkLaws.{came_nothing, came_more, came_given, came_whole, came_rest}
 use Rattle.lalrpop_rules.specs.Modes.{ModeRules, after, after_all, trees_in, AllOf}
 use Rattle.bajofeki_rules.specs.Stack.{Stack, start, actions_of}
 use Rattle.bajofeki_rules.specs.declared.action.Action.{Action}

@@ -3,8 +3,8 @@ use Rattle.std.proofs.Common.{◌≡◌, ◌≢◌, ℕ, ◌<◌, ◌⊎◌, tru
 use Rattle.std.specs.Prelude.{Option, Some, None, IfSome, IfNone}
 use Rattle.std.specs.Borrow.{Bor}
 use Rattle.std.specs.Str.{chars}
-use Rattle.lalrpop_edits.specs.Chunked.{Chunked, BeginsFault, GivesFinal, MayMatch}
-use Rattle.lalrpop_edits.proofs.ChunkLaws.{fault_begins, given_less, held_after}
+use Rattle.bajofeki.specs.Chunked.{Chunked, BeginsFault, GivesFinal, MayMatch}
+use Rattle.bajofeki.proofs.ChunkLaws.{fault_begins, given_less, held_after}
 use Rattle.bajofeki_rules.specs.declared.position.Position.{Position}
 use Rattle.lalrpop_rules.specs.Modes.{ModeRules}
 use Rattle.lalrpop_rules.specs.Pieces.{slice_of}

@@ -10,8 +10,8 @@ use Rattle.std.proofs.lemmas.List.{take-append-drop, length-append}
 use Rattle.std.proofs.lemmas.Bool.Decides.{Decides-eqb}
 use Rattle.std.proofs.lemmas.Slice.Eq.{bytes_eq-Decides}
 use Rattle.std.proofs.lemmas.Str.{IsUtf8-append, IsUtf8-encode}
-use Rattle.lalrpop_edits.specs.Chunked.{Chunked}
-use Rattle.lalrpop_edits.specs.Decoded.{Decoding, Decodes, NoCharacter, IsBegun, IsBad}
+use Rattle.bajofeki.specs.Chunked.{Chunked}
+use Rattle.bajofeki.specs.Decoded.{Decoding, Decodes, NoCharacter, IsBegun, IsBad}
 use Rattle.lalrpop_rule_file.specs.RuleFile.{without_mark}
 use Rattle.lexdfa_lib.specs.Streams.{Stream, Reads, ReadEnd, LeftOff}
 use Rattle.tokens_lib.specs.Internal.Incoming.{IsIncoming, IsFed, ReadsOn, GrowsBy, behind_mark, held}

@@ -4,8 +4,8 @@ use Rattle.std.proofs.lemmas.List.{append-nil}
 use Rattle.std.specs.Prelude.{Option, flat_map, map, option_map, string_bytes}
 use Rattle.bajofeki_rules.specs.Position.{position_of}
 use Rattle.bajofeki_rules.specs.declared.position.Position.{Position}
-use Rattle.lalrpop_markup.specs.Markup.{marked}
-use Rattle.lalrpop_markup.specs.Terminal.{painted}
+use Rattle.bajofeki.specs.Markup.{marked}
+use Rattle.bajofeki.specs.Terminal.{painted}
 use Rattle.lalrpop_rules.specs.Modes.{ModeRules, after, after_all}
 use Rattle.bajofeki_rules.specs.Stack.{Stack, start}
 use Rattle.lalrpop_rules.specs.Pieces.{start_of}

@@ -2,10 +2,10 @@
 use Rattle.std.proofs.Common.{◌≡◌, ℕ, Bool, true, List, [], refl, sym, ap, subst, ◌∙◌}
 use Rattle.std.proofs.lemmas.Str.{IsUtf8-nil}
 use Rattle.std.specs.Prelude.{Result, Ok, Err, IfOk, IfErr, flat_map}
-use Rattle.lalrpop_edits.specs.Chunked.{nothing_come, nothing}
+use Rattle.bajofeki.specs.Chunked.{nothing_come, nothing}
 use Rattle.lalrpop_rules.specs.Modes.{ModeRules}
 use Rattle.lalrpop_rules.specs.declared.item.Item.{Item}
-use Rattle.lalrpop_markup.specs.Terminal.{painted}
+use Rattle.bajofeki.specs.Terminal.{painted}
 use Rattle.lexdfa_lib.specs.declared.error.RunError.{RunError}
 use Rattle.lexdfa_lib.specs.declared.error.RunError.TheVariants.{OutOfMemory}
 use Rattle.lexdfa_lib.specs.Streams.{Reading, LeftOff, Reads, Stream}

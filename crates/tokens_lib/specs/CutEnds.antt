@@ -2,8 +2,8 @@
 -- How cutting a text ends that is read as it comes.
 use Rattle.std.specs.Prelude.{◌≡◌, ◌≢◌, ℕ, ◌⊎◌, Bool, true, false, List, [], ◌∷◌, ◌++◌, length, take, Option, Some, None, is_some, codes, decimal}
 use Rattle.std.specs.Str.{chars, IsUtf8}
-use Rattle.lalrpop_edits.specs.Chunked.{Chunked, Came, IsHeldBack, BeginsFault, MayMatch}
-use Rattle.lalrpop_edits.specs.Decoded.{NoCharacter, IsBegun, IsBad}
+use Rattle.bajofeki.specs.Chunked.{Chunked, Came, IsHeldBack, BeginsFault, MayMatch}
+use Rattle.bajofeki.specs.Decoded.{NoCharacter, IsBegun, IsBad}
 use Rattle.bajofeki_rules.specs.Position.{position_of}
 use Rattle.lalrpop_rules.specs.Modes.{ModeRules, ArePiecesFrom}
 use Rattle.bajofeki_rules.specs.Stack.{Stack, start}

@@ -2,11 +2,11 @@
 -- The answer for what is read of a text.
 use Rattle.std.specs.Prelude.{◌≡◌, ℕ, Bool, true, false, List, [], ◌++◌, Some, None, codes, decimal, flat_map}
 use Rattle.std.specs.Bool.{then_some}
-use Rattle.lalrpop_edits.specs.Chunked.{Chunked}
+use Rattle.bajofeki.specs.Chunked.{Chunked}
 use Rattle.bajofeki_rules.specs.Quoted.{told}
 use Rattle.bajofeki_rules.specs.declared.position.Position.{Position}
-use Rattle.lalrpop_markup.specs.Markup.{marked}
-use Rattle.lalrpop_markup.specs.Terminal.{painted}
+use Rattle.bajofeki.specs.Markup.{marked}
+use Rattle.bajofeki.specs.Terminal.{painted}
 use Rattle.lalrpop_rules.specs.Modes.{ModeRules}
 use Rattle.bajofeki_rules.specs.Stack.{start}
 use Rattle.lalrpop_rules.specs.declared.item.Item.{Item}

@@ -1,7 +1,7 @@
 -- cases: proofs/Cases/Written.antt
 -- What is written for a text that is cut by rules.
 use Rattle.std.specs.Prelude.{ℕ, Bool, List}
-use Rattle.lalrpop_edits.specs.Chunked.{Chunked}
+use Rattle.bajofeki.specs.Chunked.{Chunked}
 use Rattle.lalrpop_rules.specs.Modes.{ModeRules}
 use Rattle.lalrpop_rules.specs.declared.item.Item.{Item}
 use Rattle.lexdfa_lib.specs.declared.error.RunError.{RunError}

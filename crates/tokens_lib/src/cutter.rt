@@ -2,9 +2,9 @@
 ghost use Rattle.std.specs.Prelude.{◌≡◌, ◌≢◌, ◌+◌, ◌≤◌, ◌∷◌, ◌++◌, ◌⊎◌, ◌||◌, ℕ, List, [], is_none, length, reverse, take, false, true, None, Some, Ok, IfOk, IfNone, IfSome, OnOk, OnErr};
 ghost use Rattle.std.specs.Borrow.{Bor};
 ghost use Rattle.std.specs.Str.{chars, IsUtf8};
-ghost use Rattle.lalrpop_edits.specs.Chunked.{nothing_come, GivesFinal, BeginsFault, MayMatch};
-ghost use Rattle.lalrpop_edits.specs.Decoded.{nothing_decoded};
-ghost use Rattle.lalrpop_edits.specs.Given.{item_of};
+ghost use Rattle.bajofeki.specs.Chunked.{nothing_come, GivesFinal, BeginsFault, MayMatch};
+ghost use Rattle.bajofeki.specs.Decoded.{nothing_decoded};
+ghost use Rattle.bajofeki.specs.Given.{item_of};
 ghost use Rattle.bajofeki_rules.specs.Position.{place_after};
 ghost use Rattle.lexdfa_lib.specs.Streams.{LeftOff, Reads};
 ghost use Rattle.tokens_lib.specs.OpenModes.{pushed, pushed_all};
@@ -13,7 +13,7 @@ ghost use Rattle.tokens_lib.specs.Internal.Incoming.{IsIncoming};
 
 use crate::cut_end::{CutEnd, OpenMode, TextError};
 use crate::incoming::{Brought, Incoming};
-use lalrpop_edits::GivenPiece;
+use bajofeki::GivenPiece;
 use lalrpop_lexer::Position;
 use lalrpop_lexer::lexer::dfa::NfaIndex;
 use lalrpop_rules::{Action, RuleLexer};

@@ -1,12 +1,12 @@
 //! A text that is read as it comes, and cut.
 
 ghost use Rattle.std.specs.Prelude.{◌≡◌, ◌≢◌, ◌<◌, ◌≤◌, ◌+◌, ◌/◌, ◌⊎◌, List, ℕ, [], true, false, length, IfOk, IfSome, IfNone, OnOk, OnErr};
-ghost use Rattle.lalrpop_edits.specs.Chunked.{nothing_come};
-ghost use Rattle.lalrpop_edits.specs.Decoded.{nothing_decoded};
+ghost use Rattle.bajofeki.specs.Chunked.{nothing_come};
+ghost use Rattle.bajofeki.specs.Decoded.{nothing_decoded};
 ghost use Rattle.lexdfa_lib.specs.Streams.{AtEnd, Failed, LeftOff, Reads};
 ghost use Rattle.tokens_lib.specs.Internal.Incoming.{IsIncoming, ReadsOn, GrowsBy, behind_mark, end_of, held};
 
-use lalrpop_edits::{Chunks, TextDecoder};
+use bajofeki::{Stream, TextDecoder};
 use lalrpop_rules::RuleLexer;
 use lexdfa_lib::{Reader, Source};
 use std::alloc::{AllocError, Global};
@@ -18,7 +18,7 @@ const AT_ONCE: usize = 65536;
 #[derive(Drop)]
 pub(crate) struct Incoming<'rules> {
     /// What has come of the text, which is cut.
-    pub(crate) chunks: Chunks<'rules>,
+    pub(crate) chunks: Stream<'rules>,
     decoder: TextDecoder,
     // Whether any of the text, or a byte order mark, has come.
     has_begun: bool,
@@ -54,7 +54,7 @@ impl<'rules> Incoming<'rules> {
         ensures incoming { IsIncoming [] [] [] result }
     {
         Incoming {
-            chunks: Chunks::new(alloc, lexer),
+            chunks: Stream::new(alloc, lexer),
             decoder: TextDecoder::new(alloc),
             has_begun: false,
         }

@@ -10,7 +10,7 @@ use crate::console::Console;
 use crate::cut_end::CutEnd;
 use crate::pieces::write_pieces;
 use crate::sheet::{Form, Sheet};
-use lalrpop_markup::Painter;
+use bajofeki::Painter;
 use lalrpop_rules::RuleLexer;
 use lexdfa_lib::{Reader, RunError, Sink, Source};
 use std::alloc::{AllocError, Global};
@@ -29,7 +29,7 @@ fn page_form<'rules>(
     }
 }
 
-/// Writes the text as HTML, or in colours for a terminal, as `html` and `ansi` of `lalrpop_markup` make them, while it comes. The
+/// Writes the text as HTML, or in colours for a terminal, as `html` and `ansi` of `bajofeki` make them, while it comes. The
 /// text is cut to its end, after faults too. A byte order mark at its beginning is left out.
 ///
 /// What nothing that comes can change is written before the next read, or about 64 KiB at a time, so the page is never held as a

@@ -1,7 +1,7 @@
 //! The pieces of a text, written as they come.
 ghost use Rattle.std.specs.Prelude.{◌≡◌, ◌++◌, ℕ, List, [], true, IfOk, IfErr, OnOk};
-ghost use Rattle.lalrpop_edits.specs.Chunked.{Chunked};
-ghost use Rattle.lalrpop_edits.specs.Given.{item_of};
+ghost use Rattle.bajofeki.specs.Chunked.{Chunked};
+ghost use Rattle.bajofeki.specs.Given.{item_of};
 ghost use Rattle.lalrpop_rules.specs.declared.item.Item.{Item as ItemValue};
 ghost use Rattle.lexdfa_lib.specs.Streams.{Reading, Reads};
 ghost use Rattle.tokens_lib.specs.Console.{Console as ConsoleValue, Writes, WritesPart};

@@ -4,9 +4,9 @@ ghost use Rattle.lalrpop_rules.specs.Pieces.{slice_of, start_of};
 ghost use Rattle.reports_lib.specs.ItemLines.{line_in, name_at, mode_named as mode_named_of};
 ghost use Rattle.tokens_lib.specs.Internal.CutTexts.{goes_on, line_here, piece_shown};
 
+use bajofeki::{Painter, push_html};
 use lalrpop_lexer::Position;
 use lalrpop_lexer::lexer::dfa::NfaIndex;
-use lalrpop_markup::{Painter, push_html};
 use lalrpop_rules::{Item, RuleLexer};
 use reports_lib::{Layout, LineForm, Shown, push_json, push_plain};
 use std::alloc::{AllocError, Global};

@@ -5,9 +5,9 @@ use Rattle.std.proofs.lemmas.Bool.{cases_order}
 use Rattle.std.proofs.Math.Nat.{mul-le-mul_left}
 use Rattle.lalrpop_rules.specs.Modes.{ModeRules, trees_in}
 use Rattle.lalrpop_rules.specs.ModeCut.{open_in_all}
-use Rattle.lalrpop_edits.specs.Costs.{IsReadTo, IsPaidFor}
-use Rattle.lalrpop_edits.specs.Lexed.{Lexed, ReadsTo, replaced}
-use Rattle.lalrpop_edits.specs.declared.change.Change.{Change}
+use Rattle.bajofeki.specs.Costs.{IsReadTo, IsPaidFor}
+use Rattle.bajofeki.specs.Lexed.{Lexed, ReadsTo, replaced}
+use Rattle.bajofeki.specs.declared.change.Change.{Change}
 
 -- what is read is within the text
 pub within_text : (l : Lexed) (c : Change) (before after : ℕ) → IsPaidFor l c before after

@@ -5,8 +5,8 @@ use Rattle.lalrpop_hir.specs.Tree.{Tree}
 use Rattle.lalrpop_rules.specs.Pieces.{AreSame, slice_of, start_of}
 use Rattle.lalrpop_rules.specs.declared.item.Item.{Item}
 use Rattle.lalrpop_rules.specs.declared.item.Item.TheVariants.{Token, Skipped, Fault}
-use Rattle.lalrpop_edits.specs.Lexed.{IsChangeOf, ReadsTo, Reaches, placed_from}
-use Rattle.lalrpop_edits.specs.declared.change.Change.{Change}
+use Rattle.bajofeki.specs.Lexed.{IsChangeOf, ReadsTo, Reaches, placed_from}
+use Rattle.bajofeki.specs.declared.change.Change.{Change}
 
 same_length : (xs ys : List Item) → AreSame xs ys → length xs ≡ length ys
 same_length [] [] are = refl

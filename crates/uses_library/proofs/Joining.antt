@@ -6,13 +6,13 @@ use Rattle.std.proofs.lemmas.List.{append-nil}
 use Rattle.lalrpop_rules.specs.Pieces.{AreSame, joined, slice_of}
 use Rattle.lalrpop_rules.specs.declared.item.Item.{Item}
 use Rattle.lalrpop_rules.specs.declared.item.Item.TheVariants.{Fault}
-use Rattle.lalrpop_edits.specs.Given.{item_by, item_of}
-use Rattle.lalrpop_edits.specs.declared.given_piece.GivenPiece.{GivenPiece}
+use Rattle.bajofeki.specs.Given.{item_by, item_of}
+use Rattle.bajofeki.specs.declared.given_piece.GivenPiece.{GivenPiece}
 use Rattle.lalrpop_rules.proofs.UniquePieces.{same_slice}
 use Rattle.bajofeki_rules.specs.Stack.{Stack, start}
 use Rattle.lalrpop_rules.specs.Modes.{ModeRules, ArePiecesFrom}
-use Rattle.lalrpop_edits.specs.Chunked.{Chunked, Came, IsHeldBack, BeginsFault, nothing_come}
-use Rattle.lalrpop_edits.proofs.ChunkLaws.{came_nothing, came_more, came_rest, came_pieces, fault_follows}
+use Rattle.bajofeki.specs.Chunked.{Chunked, Came, IsHeldBack, BeginsFault, nothing_come}
+use Rattle.bajofeki.proofs.ChunkLaws.{came_nothing, came_more, came_rest, came_pieces, fault_follows}
 
 slice_by : (o : Option ℕ) (skipped : Bool) (at : ℕ) (slice : Bor (List ℕ)) → slice_of (item_by o skipped at slice) ≡ slice.now
 slice_by None skipped at slice = refl

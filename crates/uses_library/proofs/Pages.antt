@@ -7,9 +7,9 @@ use Rattle.std.specs.Str.Iter.{HasSubslice}
 use Rattle.std.specs.Str.Parse.{IsNumeral}
 use Rattle.std.proofs.lemmas.List.{get_or_at, take_at, drop_at}
 use Rattle.std.proofs.lemmas.Str.{chars-append, chars_past_char, encode_ascii, IsUtf8-take, IsUtf8-drop, IsUtf8-past_char, IsCharBoundary-before_ascii}
-use Rattle.lalrpop_markup.specs.Markup.{entity, IsTag, IsEntity}
-use Rattle.lalrpop_markup.specs.Places.{EachBegins, EachEnds}
-use Rattle.lalrpop_markup.specs.Terminal.{sequence, is_hidden, IsSequence}
+use Rattle.bajofeki.specs.Markup.{entity, IsTag, IsEntity}
+use Rattle.bajofeki.specs.Places.{EachBegins, EachEnds}
+use Rattle.bajofeki.specs.Terminal.{sequence, is_hidden, IsSequence}
 
 pub never : (found : Bool) (text page needle : List ℕ) → (found ≡ true) ↔ HasSubslice text needle → text ≡ page → ¬ HasSubslice page needle → found ≡ false
 never true text page needle is same none = absurd (none (subst (λ (t : List ℕ). HasSubslice t needle) same (is.0 refl)))

@@ -1,11 +1,11 @@
 //! A text comes as bytes, in two chunks.
 ghost use Rattle.std.specs.Prelude.{◌≡◌, ◌++◌, ◌↔◌, string_bytes, IfOk, IfSome, IsSome, IsUtf8};
 
-use lalrpop_edits::TextDecoder;
+use bajofeki::TextDecoder;
 use std::alloc::{AllocError, Global};
 
-// Needs lalrpop_edits::TextDecoder::new: nothing; lalrpop_edits::TextDecoder::decode: decoded.
-// Needs lalrpop_edits::TextDecoder::is_broken: broken; lalrpop_edits::TextDecoder::begun: begun.
+// Needs bajofeki::TextDecoder::new: nothing; bajofeki::TextDecoder::decode: decoded.
+// Needs bajofeki::TextDecoder::is_broken: broken; bajofeki::TextDecoder::begun: begun.
 /// The text of the bytes in two chunks, if they are UTF-8, wherever they are cut in two.
 ///
 /// # Errors

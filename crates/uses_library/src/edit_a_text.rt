@@ -1,18 +1,18 @@
 //! A text is edited, and its pieces with it.
 ghost use Rattle.std.specs.Prelude.{◌≡◌, ◌≤◌, ◌<◌, ◌+◌, ◌++◌, ◌⊎◌, ℕ, List, length, count_by, take, drop, slice_get, Some, true, IfOk, OnOk, IfErr, IfSome, IfNone};
 ghost use Rattle.std.specs.Str.{IsCharBoundary};
-ghost use Rattle.lalrpop_edits.specs.Lexed.{ArePiecesOf, MeetAt, ReadsTo, holds_byte, replaced};
+ghost use Rattle.bajofeki.specs.Lexed.{ArePiecesOf, MeetAt, ReadsTo, holds_byte, replaced};
 ghost use Rattle.lalrpop_rules.specs.Modes.{trees_in};
 ghost use Rattle.lalrpop_rules.specs.Pieces.{AreSame, slice_of, start_of};
 ghost use Rattle.lalrpop_rules.specs.declared.item.Item.{Item as ItemValue};
 
-use lalrpop_edits::{Change, EditError, LexedText};
+use bajofeki::{Change, Document, EditError};
 use lalrpop_rules::{Item, RuleLexer};
 use std::alloc::{AllocError, Global};
 use std::ops::Range;
 
-// Needs lalrpop_edits::LexedText::new: lexed.
-// Needs lalrpop_edits::LexedText::edit: edited.
+// Needs bajofeki::Document::new: lexed.
+// Needs bajofeki::Document::edit: edited.
 /// A text after two edits.
 ///
 /// # Errors
@@ -26,19 +26,19 @@ pub fn edited_twice<'rules>(
     one: &str,
     second: Range<usize>,
     other: &str,
-) -> Result<LexedText<'rules>, EditError>
+) -> Result<Document<'rules>, EditError>
     ensures rules { IfOk result (λ lexed. lexed.rules ≡ lexer.now) }
     ensures both { IfOk result (λ lexed. lexed.text ≡
         replaced (replaced text.now first.start first.end one.now) second.start second.end
         other.now) }
 {
-    let mut lexed = LexedText::new(alloc, lexer, text)?;
+    let mut lexed = Document::new(alloc, lexer, text)?;
     lexed.edit(alloc, first, one)?;
     lexed.edit(alloc, second, other)?;
     Ok(lexed)
 }
 
-// Needs lalrpop_edits::LexedText::edit: edited, range, error.
+// Needs bajofeki::Document::edit: edited, range, error.
 /// Puts bytes into a text.
 ///
 /// # Errors
@@ -46,7 +46,7 @@ pub fn edited_twice<'rules>(
 /// `NoBoundary` only if no character begins there, and the text doesn't end there.
 pub fn insert(
     alloc: Global,
-    lexed: &mut LexedText<'_>,
+    lexed: &mut Document<'_>,
     at: usize,
     new: &str,
 ) -> Result<(), EditError>
@@ -60,21 +60,21 @@ pub fn insert(
     Ok(())
 }
 
-// Needs lalrpop_edits::LexedText::edit: refused.
+// Needs bajofeki::Document::edit: refused.
 /// Whether an edit was refused. Then the text is as it was.
-pub fn is_refused(alloc: Global, lexed: &mut LexedText<'_>, range: Range<usize>, new: &str) -> bool
+pub fn is_refused(alloc: Global, lexed: &mut Document<'_>, range: Range<usize>, new: &str) -> bool
     ensures same { result ≡ true → lexed.new ≡ lexed.old }
 {
     lexed.edit(alloc, range, new).is_err()
 }
 
-// Needs lalrpop_edits::LexedText::new: error.
+// Needs bajofeki::Document::new: error.
 /// Whether a text can't be held, however much memory there is.
 pub fn is_too_large(alloc: Global, lexer: &RuleLexer, text: &str) -> bool
     ensures large { result ≡ true
         → (4294967295 ≤ length text.now) ⊎ (4294967295 ≤ length lexer.now.trees) }
 {
-    match LexedText::new(alloc, lexer, text) {
+    match Document::new(alloc, lexer, text) {
         Ok(_) | Err(EditError::OutOfMemory) => false,
         Err(EditError::TooLarge) => true,
         // A text begins with a whole character.
@@ -82,7 +82,7 @@ pub fn is_too_large(alloc: Global, lexer: &RuleLexer, text: &str) -> bool
     }
 }
 
-// Needs lalrpop_edits::LexedText::edit: change.
+// Needs bajofeki::Document::edit: change.
 /// Edits a text, and says how many pieces at its front stay.
 ///
 /// # Errors
@@ -90,7 +90,7 @@ pub fn is_too_large(alloc: Global, lexer: &RuleLexer, text: &str) -> bool
 /// What is wrong with the edit.
 pub fn kept_in_front(
     alloc: Global,
-    lexed: &mut LexedText<'_>,
+    lexed: &mut Document<'_>,
     range: Range<usize>,
     new: &str,
 ) -> Result<usize, EditError>
@@ -101,7 +101,7 @@ pub fn kept_in_front(
     Ok(change.first)
 }
 
-// Needs lalrpop_edits::LexedText::edit: change.
+// Needs bajofeki::Document::edit: change.
 /// Edits a text, and says how many of its pieces are gone, and how many came.
 ///
 /// # Errors
@@ -109,7 +109,7 @@ pub fn kept_in_front(
 /// What is wrong with the edit.
 pub fn gone_and_come(
     alloc: Global,
-    lexed: &mut LexedText<'_>,
+    lexed: &mut Document<'_>,
     range: Range<usize>,
     new: &str,
 ) -> Result<(usize, usize), EditError>
@@ -120,7 +120,7 @@ pub fn gone_and_come(
     Ok((change.removed, change.inserted))
 }
 
-// Needs lalrpop_edits::LexedText::edit: earliest.
+// Needs bajofeki::Document::edit: earliest.
 /// Edits a text. Where old and new pieces meet after those at the front that stay, none are gone and none came.
 ///
 /// # Errors
@@ -128,7 +128,7 @@ pub fn gone_and_come(
 /// What is wrong with the edit.
 pub fn cut_no_further(
     alloc: Global,
-    lexed: &mut LexedText<'_>,
+    lexed: &mut Document<'_>,
     range: Range<usize>,
     new: &str,
 ) -> Result<Change, EditError>
@@ -142,7 +142,7 @@ pub fn cut_no_further(
     Ok(change)
 }
 
-// Needs lalrpop_edits::LexedText::edit: first.
+// Needs bajofeki::Document::edit: first.
 /// Edits a text. Where the first piece that is cut anew ends before the range, all from some place in it, or right after it, up to
 /// the range begins a word that some rule matches.
 ///
@@ -151,7 +151,7 @@ pub fn cut_no_further(
 /// What is wrong with the edit.
 pub fn cut_no_further_back(
     alloc: Global,
-    lexed: &mut LexedText<'_>,
+    lexed: &mut Document<'_>,
     range: Range<usize>,
     new: &str,
 ) -> Result<Change, EditError>
@@ -165,8 +165,8 @@ pub fn cut_no_further_back(
     Ok(change)
 }
 
-// Needs lalrpop_edits::LexedText::lexer: rules.
-// Needs lalrpop_edits::LexedText::text: text.
+// Needs bajofeki::Document::lexer: rules.
+// Needs bajofeki::Document::text: text.
 /// The same text, cut anew.
 ///
 /// # Errors
@@ -174,16 +174,16 @@ pub fn cut_no_further_back(
 /// `OutOfMemory`; it isn't too large.
 pub fn cut_again<'rules>(
     alloc: Global,
-    lexed: &LexedText<'rules>,
-) -> Result<LexedText<'rules>, EditError>
+    lexed: &Document<'rules>,
+) -> Result<Document<'rules>, EditError>
     ensures same { IfOk result (λ other. other ≡ lexed.now) }
 {
-    LexedText::new(alloc, lexed.lexer(), lexed.text())
+    Document::new(alloc, lexed.lexer(), lexed.text())
 }
 
-// Needs lalrpop_edits::LexedText::piece_at: piece, none.
+// Needs bajofeki::Document::piece_at: piece, none.
 /// How many bytes the piece has that holds the byte at a place. Each byte of the text is held by one.
-pub fn length_at(lexed: &LexedText<'_>, at: usize) -> usize
+pub fn length_at(lexed: &Document<'_>, at: usize) -> usize
     ensures some { at < length lexed.now.text → 0 < result }
 {
     match lexed.piece_at(at) {
@@ -192,7 +192,7 @@ pub fn length_at(lexed: &LexedText<'_>, at: usize) -> usize
     }
 }
 
-// Needs lalrpop_edits::LexedText::pieces: pieces.
+// Needs bajofeki::Document::pieces: pieces.
 /// How many pieces hold a byte of the range.
 ///
 /// # Errors
@@ -200,7 +200,7 @@ pub fn length_at(lexed: &LexedText<'_>, at: usize) -> usize
 /// `AllocError` if a request for memory was refused.
 pub fn count_between(
     alloc: Global,
-    lexed: &LexedText<'_>,
+    lexed: &Document<'_>,
     range: Range<usize>,
 ) -> Result<usize, AllocError>
     ensures count { IfOk result (λ n. (xs : List ItemValue) × (ArePiecesOf lexed.now xs
@@ -210,7 +210,7 @@ pub fn count_between(
     Ok(pieces.len())
 }
 
-// Needs lalrpop_edits::LexedText::pieces: pieces.
+// Needs bajofeki::Document::pieces: pieces.
 /// The pieces of a text.
 ///
 /// # Errors
@@ -218,22 +218,22 @@ pub fn count_between(
 /// `AllocError` if a request for memory was refused.
 pub fn piece_list<'text>(
     alloc: Global,
-    lexed: &'text LexedText<'_>,
+    lexed: &'text Document<'_>,
 ) -> Result<Vec<Item<'text>>, AllocError>
     ensures all { IfOk result (λ pieces. ArePiecesOf lexed.now pieces.items) }
 {
     lexed.pieces(alloc, 0..lexed.text().len())
 }
 
-// Needs lalrpop_edits::LexedText::pieces: exist.
+// Needs bajofeki::Document::pieces: exist.
 /// Any text has pieces, whether there is memory for them or not.
-pub fn has_pieces(alloc: Global, lexed: &LexedText<'_>) -> bool
+pub fn has_pieces(alloc: Global, lexed: &Document<'_>) -> bool
     ensures exist { (xs : List ItemValue) × ArePiecesOf lexed.now xs }
 {
     lexed.pieces(alloc, 0..1).is_ok()
 }
 
-// Needs lalrpop_edits::EditError::from: ghost from_gives.
+// Needs bajofeki::EditError::from: ghost from_gives.
 /// Refused memory is told as such.
 pub fn memory_refused(error: AllocError) -> EditError
     ensures memory { result ≡ EditError.OutOfMemory }
@@ -241,7 +241,7 @@ pub fn memory_refused(error: AllocError) -> EditError
     EditError::from(error)
 }
 
-// Needs lalrpop_edits::EditError::from: ghost from_gives.
+// Needs bajofeki::EditError::from: ghost from_gives.
 /// Adds a place.
 ///
 /// # Errors
@@ -254,9 +254,9 @@ pub fn add_place(places: &mut Vec<usize>, place: usize) -> Result<(), EditError>
     Ok(())
 }
 
-// Needs lalrpop_edits::LexedText::position: boundary, position; lalrpop_edits::LexedText::offset: some, none.
+// Needs bajofeki::Document::position: boundary, position; bajofeki::Document::offset: some, none.
 /// The offset of the line and column of an offset: itself. `None` if no character begins there, and the text doesn't end there.
-pub fn back_again(lexed: &LexedText<'_>, at: usize) -> Option<usize>
+pub fn back_again(lexed: &Document<'_>, at: usize) -> Option<usize>
     ensures same { IfSome result (λ n. n ≡ at) }
     ensures none { IfNone result (¬ IsCharBoundary lexed.now.text at) }
 {

@@ -2,15 +2,15 @@
 ghost use Rattle.std.specs.Prelude.{ℕ, ◌+◌, ◌-◌, ◌*◌, ◌<◌, ◌≤◌, length, IfOk, OnOk};
 ghost use Rattle.lalrpop_rules.specs.Modes.{trees_in};
 ghost use Rattle.lalrpop_rules.specs.ModeCut.{open_in_all};
-ghost use Rattle.lalrpop_edits.specs.Lexed.{ReadsTo};
+ghost use Rattle.bajofeki.specs.Lexed.{ReadsTo};
 
-use lalrpop_edits::{EditError, LexedText};
+use bajofeki::{Document, EditError};
 use lalrpop_nfa::Steps;
 use lalrpop_rules::RuleLexer;
 use std::alloc::Global;
 use std::ops::Range;
 
-// Needs lalrpop_edits::LexedText::edit_counted: cost.
+// Needs bajofeki::Document::edit_counted: cost.
 /// Edits a text. However much of it is cut anew, the steps are linear in the text that there is now: the rules alone give the factor.
 ///
 /// # Errors
@@ -18,7 +18,7 @@ use std::ops::Range;
 /// What is wrong with the edit.
 pub fn edit_within(
     alloc: Global,
-    lexed: &mut LexedText<'_>,
+    lexed: &mut Document<'_>,
     range: Range<usize>,
     new: &str,
     steps: &mut Steps,
@@ -30,7 +30,7 @@ pub fn edit_within(
     Ok(())
 }
 
-// Needs lalrpop_edits::LexedText::new: lexed; lalrpop_edits::LexedText::edit_counted: edited, cost.
+// Needs bajofeki::Document::new: lexed; bajofeki::Document::edit_counted: edited, cost.
 /// The text with its pieces, cut whole in time linear in it.
 ///
 /// # Errors
@@ -41,16 +41,16 @@ pub fn cut_whole<'rules>(
     lexer: &'rules RuleLexer,
     text: &str,
     steps: &mut Steps,
-) -> Result<LexedText<'rules>, EditError>
+) -> Result<Document<'rules>, EditError>
     ensures cost { OnOk result (steps.new ≤ steps.old + 270 * length text.now
         + open_in_all lexer.now * (2 * length text.now + 256)) }
 {
-    let mut lexed = LexedText::new(alloc, lexer, "")?;
+    let mut lexed = Document::new(alloc, lexer, "")?;
     lexed.edit_counted(alloc, 0..0, text, steps)?;
     Ok(lexed)
 }
 
-// Needs lalrpop_edits::LexedText::edit_counted: cost, never_falls.
+// Needs bajofeki::Document::edit_counted: cost, never_falls.
 /// Edits a text, and says where what was cut anew begins and ends, in bytes. Where nothing from a place in it up to a place after it
 /// begins a word, what is read depends on its length alone, however long the text is.
 ///
@@ -59,7 +59,7 @@ pub fn cut_whole<'rules>(
 /// What is wrong with the edit.
 pub fn edit_near(
     alloc: Global,
-    lexed: &mut LexedText<'_>,
+    lexed: &mut Document<'_>,
     range: Range<usize>,
     new: &str,
     steps: &mut Steps,

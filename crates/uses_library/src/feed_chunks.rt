@@ -3,7 +3,7 @@ ghost use Rattle.std.specs.Prelude.{◌≡◌, ◌++◌, ◌⊎◌, List, ℕ, [
 ghost use Rattle.std.specs.Borrow.{Bor};
 ghost use Rattle.std.specs.Str.{chars};
 ghost use Rattle.lalrpop_hir.specs.Winners.{Matched};
-ghost use Rattle.lalrpop_edits.specs.Chunked.{Came, IsHeldBack, BeginsFault};
+ghost use Rattle.bajofeki.specs.Chunked.{Came, IsHeldBack, BeginsFault};
 ghost use Rattle.lalrpop_rules.specs.Modes.{ArePiecesFrom, ModeRules, trees_in};
 ghost use Rattle.lalrpop_rules.specs.Found.{MatchesAt};
 ghost use Rattle.bajofeki_rules.specs.Stack.{Stack, start};
@@ -11,13 +11,13 @@ ghost use Rattle.lalrpop_rules.specs.Pieces.{joined};
 ghost use Rattle.lalrpop_rules.specs.declared.item.Item.{Item as ItemValue};
 ghost use Rattle.lalrpop_rules.specs.declared.item.Item.TheVariants.{Fault};
 
-use lalrpop_edits::{Chunks, EditError, GivenPiece};
+use bajofeki::{EditError, GivenPiece, Stream};
 use lalrpop_rules::{Item, RuleLexer};
 use std::alloc::Global;
 
-// Needs lalrpop_edits::Chunks::is_ended: ended; lalrpop_edits::Chunks::feed: fed, refused.
+// Needs bajofeki::Stream::is_ended: ended; bajofeki::Stream::feed: fed, refused.
 /// Whether a chunk came: not if the text has ended, or memory was refused.
-pub fn feed_if_open(chunks: &mut Chunks<'_>, chunk: &str) -> bool
+pub fn feed_if_open(chunks: &mut Stream<'_>, chunk: &str) -> bool
     ensures came { result ≡ true
         → chunks.new ≡ record chunks.old { last = []; rest = chunks.old.rest ++ chunk.now } }
     ensures same { result ≡ false → chunks.new ≡ chunks.old }
@@ -28,9 +28,9 @@ pub fn feed_if_open(chunks: &mut Chunks<'_>, chunk: &str) -> bool
     chunks.feed(chunk).is_ok()
 }
 
-// Needs lalrpop_edits::Chunks::next_piece: gives; lalrpop_edits::Chunks::slice: slice.
+// Needs bajofeki::Stream::next_piece: gives; bajofeki::Stream::slice: slice.
 // Appends the pieces that no later chunk can change.
-fn take_pieces(chunks: &mut Chunks<'_>, whole: &mut String) -> Result<(), EditError>
+fn take_pieces(chunks: &mut Stream<'_>, whole: &mut String) -> Result<(), EditError>
     ensures taken { OnOk result ((r : ModeRules) (text : List ℕ) (xs : List ItemValue)
         → Came r text xs chunks.old → string_bytes whole.old ≡ joined xs
         → (ys : List ItemValue) × (Came r text ys chunks.new
@@ -46,7 +46,7 @@ fn take_pieces(chunks: &mut Chunks<'_>, whole: &mut String) -> Result<(), EditEr
     }
 }
 
-// Needs lalrpop_edits::GivenPiece::item: item.
+// Needs bajofeki::GivenPiece::item: item.
 /// Where a piece begins that was given, and how many bytes its slice has.
 pub fn place_of(piece: &GivenPiece, slice: &str) -> (usize, usize)
     ensures place { result.0 ≡ piece.now.start }
@@ -58,10 +58,10 @@ pub fn place_of(piece: &GivenPiece, slice: &str) -> (usize, usize)
     }
 }
 
-// Needs lalrpop_edits::Chunks::mode: mode; lalrpop_edits::Chunks::rest: rest.
-// Needs lalrpop_edits::Chunks::begins_fault: yes, no.
+// Needs bajofeki::Stream::mode: mode; bajofeki::Stream::rest: rest.
+// Needs bajofeki::Stream::begins_fault: yes, no.
 /// The mode in which some rule may match what is left, and what is left. None if nothing is, or if a fault begins there.
-pub fn match_to_come<'text>(chunks: &'text Chunks<'_>) -> Option<(usize, &'text str)>
+pub fn match_to_come<'text>(chunks: &'text Stream<'_>) -> Option<(usize, &'text str)>
     ensures may { IfSome result (λ m. MatchesAt (trees_in chunks.now.rules m.0) m.1.now 0
         ⊎ ((v : List ℕ) × Matched (trees_in chunks.now.rules m.0) (chars m.1.now ++ v))) }
     ensures none { IfNone result ((chunks.now.rest ≡ []) ⊎ BeginsFault chunks.now) }
@@ -73,8 +73,8 @@ pub fn match_to_come<'text>(chunks: &'text Chunks<'_>) -> Option<(usize, &'text 
     Some((chunks.mode(), rest))
 }
 
-// Needs lalrpop_edits::Chunks::new: nothing; lalrpop_edits::Chunks::feed: fed.
-// Needs lalrpop_edits::Chunks::finish: ended.
+// Needs bajofeki::Stream::new: nothing; bajofeki::Stream::feed: fed.
+// Needs bajofeki::Stream::finish: ended.
 /// A text that comes in two chunks, put together again from its pieces.
 ///
 /// # Errors
@@ -91,7 +91,7 @@ pub fn put_together(
         × (ArePiecesFrom lexer.now (front.now ++ back.now) 0 start xs end
         × (string_bytes whole ≡ joined xs)))) }
 {
-    let mut chunks = Chunks::new(alloc, lexer);
+    let mut chunks = Stream::new(alloc, lexer);
     let mut whole = String::new(alloc);
     chunks.feed(front)?;
     take_pieces(&mut chunks, &mut whole)?;
@@ -101,7 +101,7 @@ pub fn put_together(
     Ok(whole)
 }
 
-// Needs lalrpop_edits::Chunks::new: nothing; lalrpop_edits::Chunks::feed: fed.
+// Needs bajofeki::Stream::new: nothing; bajofeki::Stream::feed: fed.
 /// The pieces that are given before the rest of a text has come begin those of the whole text, whatever the rest is.
 ///
 /// # Errors
@@ -112,14 +112,14 @@ pub fn first_pieces(alloc: Global, lexer: &RuleLexer, front: &str) -> Result<Str
         → ArePiecesFrom lexer.now (front.now ++ back) 0 start ys end
         → (n : ℕ) × (string_bytes first ≡ joined (take n ys))) }
 {
-    let mut chunks = Chunks::new(alloc, lexer);
+    let mut chunks = Stream::new(alloc, lexer);
     let mut first = String::new(alloc);
     chunks.feed(front)?;
     take_pieces(&mut chunks, &mut first)?;
     Ok(first)
 }
 
-// Needs lalrpop_edits::Chunks::begins_fault: yes.
+// Needs bajofeki::Stream::begins_fault: yes.
 /// Where a fault begins in a text whose front has come, whatever its rest is. None if what comes tells.
 ///
 /// # Errors
@@ -135,7 +135,7 @@ pub fn place_of_fault(
         → ArePiecesFrom lexer.now (front.now ++ back) 0 start ys end
         → (n : ℕ) × ((slice : Bor (List ℕ)) × (slice_get ys n ≡ Some (Fault at slice))))) }
 {
-    let mut chunks = Chunks::new(alloc, lexer);
+    let mut chunks = Stream::new(alloc, lexer);
     let mut before = String::new(alloc);
     chunks.feed(front)?;
     take_pieces(&mut chunks, &mut before)?;

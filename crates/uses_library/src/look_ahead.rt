@@ -7,8 +7,8 @@ ghost use Rattle.lalrpop_lexer.specs.Lookahead.{CanStayOpen, LooksAtMost, StaysO
 ghost use Rattle.lalrpop_lexer.specs.Winners.{IsOnlyStrongest, Matched};
 ghost use Rattle.lalrpop_lexer.specs.Witness.{IsOpenMatch, IsWitness};
 
+use bajofeki::SettledToken;
 use lalrpop_dfa::Witness;
-use lalrpop_edits::SettledToken;
 use lalrpop_lexer::{Lexer, Token};
 use std::alloc::{AllocError, Global};
 
@@ -94,7 +94,7 @@ pub fn farthest(
     }
 }
 
-// Needs lalrpop_edits::SettledToken::of: token, settled, within.
+// Needs bajofeki::SettledToken::of: token, settled, within.
 /// The token at the front of a text, if it's the same whatever comes after the text.
 pub fn final_token<'text>(alloc: Global, lexer: &Lexer, text: &'text str) -> Option<Token<'text>>
     ensures stays { IfSome result (λ token. (more : List ℕ)
@@ -108,7 +108,7 @@ pub fn final_token<'text>(alloc: Global, lexer: &Lexer, text: &'text str) -> Opt
     found.token
 }
 
-// Needs lalrpop_edits::SettledToken::of: none, least.
+// Needs bajofeki::SettledToken::of: none, least.
 /// Whether no token begins a text, but all of it begins one.
 pub fn is_begun(alloc: Global, lexer: &Lexer, text: &str) -> bool
     ensures begun { result ≡ true → (v : List ℕ)

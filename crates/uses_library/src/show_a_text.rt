@@ -1,14 +1,14 @@
 //! A text as HTML, and in colours for a terminal.
 ghost use Rattle.std.specs.Prelude.{◌≡◌, ◌++◌, List, false, flat_map, map, string_bytes, IfOk};
 ghost use Rattle.lalrpop_rules.specs.declared.item.Item.{Item as ItemValue};
-ghost use Rattle.lalrpop_markup.specs.Markup.{marked, outside};
-ghost use Rattle.lalrpop_markup.specs.Terminal.{painted, unpainted};
+ghost use Rattle.bajofeki.specs.Markup.{marked, outside};
+ghost use Rattle.bajofeki.specs.Terminal.{painted, unpainted};
 
-use lalrpop_markup::{Painter, ansi, html, push_html};
+use bajofeki::{Painter, ansi, html, push_html};
 use lalrpop_rules::{Item, RuleLexer};
 use std::alloc::{AllocError, Global};
 
-// Needs lalrpop_markup::html: text, pieces.
+// Needs bajofeki::html: text, pieces.
 /// A text as HTML, from which the text can be read back.
 ///
 /// # Errors
@@ -22,7 +22,7 @@ pub fn page_of(alloc: Global, lexer: &RuleLexer, text: &str) -> Result<String, A
     html(alloc, lexer, text)
 }
 
-// Needs lalrpop_markup::ansi: text, pieces.
+// Needs bajofeki::ansi: text, pieces.
 /// A text in colours, from which the text can be read back.
 ///
 /// # Errors
@@ -36,7 +36,7 @@ pub fn in_colours(alloc: Global, lexer: &RuleLexer, text: &str) -> Result<String
     ansi(alloc, lexer, text)
 }
 
-// Needs lalrpop_markup::html: tags.
+// Needs bajofeki::html: tags.
 /// Whether the page has a script. It never has.
 ///
 /// # Errors
@@ -49,7 +49,7 @@ pub fn has_script(alloc: Global, lexer: &RuleLexer, text: &str) -> Result<bool, 
     Ok(page.contains("<script"))
 }
 
-// Needs lalrpop_markup::html: tags.
+// Needs bajofeki::html: tags.
 /// Whether the page ends a comment of HTML that it is put into. It never does.
 ///
 /// # Errors
@@ -62,7 +62,7 @@ pub fn ends_a_comment(alloc: Global, lexer: &RuleLexer, text: &str) -> Result<bo
     Ok(page.contains("-->"))
 }
 
-// Needs lalrpop_markup::html: entities.
+// Needs bajofeki::html: entities.
 /// Whether an ampersand stands before a space. It never does.
 ///
 /// # Errors
@@ -75,7 +75,7 @@ pub fn has_bare_ampersand(alloc: Global, lexer: &RuleLexer, text: &str) -> Resul
     Ok(page.contains("& "))
 }
 
-// Needs lalrpop_markup::ansi: sequences.
+// Needs bajofeki::ansi: sequences.
 /// Whether the page clears the screen. It never does.
 ///
 /// # Errors
@@ -88,7 +88,7 @@ pub fn clears_the_screen(alloc: Global, lexer: &RuleLexer, text: &str) -> Result
     Ok(page.contains("\x1b[2J"))
 }
 
-// Needs lalrpop_markup::push_html: marked.
+// Needs bajofeki::push_html: marked.
 /// Two pieces as HTML, one after the other.
 ///
 /// # Errors
@@ -110,8 +110,8 @@ pub fn two_marked(
     Ok(page)
 }
 
-// Needs lalrpop_markup::Painter::new: names.
-// Needs lalrpop_markup::Painter::push: painted, names.
+// Needs bajofeki::Painter::new: names.
+// Needs bajofeki::Painter::push: painted, names.
 /// Two pieces in colours, one after the other.
 ///
 /// # Errors

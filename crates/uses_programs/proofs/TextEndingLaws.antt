@@ -14,10 +14,10 @@ use Rattle.bajofeki_rules.specs.Stack.{Stack, start}
 use Rattle.bajofeki_rules.specs.declared.action.Action.{Action}
 use Rattle.bajofeki_rules.specs.declared.position.Position.{Position}
 use Rattle.bajofeki_rules.specs.Position.{position_of}
-use Rattle.lalrpop_edits.specs.Chunked.{Chunked, BeginsFault}
-use Rattle.lalrpop_edits.specs.Decoded.{NoCharacter}
-use Rattle.lalrpop_edits.proofs.ChunkLaws.{came_rest, came_to, fault_follows}
-use Rattle.lalrpop_edits.proofs.Chunking.{ArePiecesTo, begin_all}
+use Rattle.bajofeki.specs.Chunked.{Chunked, BeginsFault}
+use Rattle.bajofeki.specs.Decoded.{NoCharacter}
+use Rattle.bajofeki.proofs.ChunkLaws.{came_rest, came_to, fault_follows}
+use Rattle.bajofeki.proofs.Chunking.{ArePiecesTo, begin_all}
 use Rattle.lalrpop_rule_file.specs.RuleFile.{without_mark}
 use Rattle.lalrpop_rules.specs.Modes.{ModeRules, ArePiecesFrom, after, trees_in}
 use Rattle.lalrpop_rules.specs.Pieces.{AreSame, IsSame, joined, slice_of, start_of}

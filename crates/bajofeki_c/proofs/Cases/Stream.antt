@@ -1,7 +1,7 @@
 -- Cases of specs/Stream.antt.
 use Rattle.std.proofs.Common.{◌≡◌, [], ◌∷◌, false, true, inl, inr, refl, ap, arith}
 use Rattle.std.specs.Prelude.{None, Some, Err}
-use Rattle.lalrpop_edits.specs.Chunked.{Chunked}
+use Rattle.bajofeki.specs.Chunked.{Chunked}
 use Rattle.bajofeki_c.specs.Document.{count_told}
 use Rattle.bajofeki_c.specs.Stream.{GivesAll, GivesOn, IsCode, IsFed, IsStreamBegun}
 use Rattle.bajofeki_c.specs.declared.held.BuildError.TheVariants.{Freed}

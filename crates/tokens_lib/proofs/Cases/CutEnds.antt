@@ -4,8 +4,8 @@ use Rattle.std.specs.Prelude.{Option, Some, None}
 use Rattle.std.specs.Borrow.{Bor}
 use Rattle.std.specs.Io.KnownBytes.{Appends}
 use Rattle.lalrpop_hir.specs.declared.token.Token.{Token as Cut}
-use Rattle.lalrpop_edits.specs.Chunked.{Chunked, nothing_come, nothing}
-use Rattle.lalrpop_edits.proofs.ChunkLaws.{came_to}
+use Rattle.bajofeki.specs.Chunked.{Chunked, nothing_come, nothing}
+use Rattle.bajofeki.proofs.ChunkLaws.{came_to}
 use Rattle.bajofeki_rules.specs.declared.position.Position.{Position}
 use Rattle.lalrpop_rules.specs.Modes.{ModeRules}
 use Rattle.bajofeki_rules.specs.Stack.{start}

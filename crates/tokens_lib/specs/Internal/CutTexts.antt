@@ -1,11 +1,11 @@
 -- A text that comes and is cut: its pieces, where they lie, and what is written for them.
 use Rattle.std.specs.Prelude.{◌≡◌, ℕ, ◌+◌, ◌≤◌, ◌⊎◌, Bool, true, false, ◌||◌, List, [], ◌∷◌, ◌++◌, length, take, map, reverse, Option, Some, None, option_map, is_some, string_bytes}
 use Rattle.std.specs.Str.{chars, IsUtf8}
-use Rattle.lalrpop_edits.specs.Chunked.{Chunked, GivesFinal, Came, IsHeldBack, BeginsFault, MayMatch}
+use Rattle.bajofeki.specs.Chunked.{Chunked, GivesFinal, Came, IsHeldBack, BeginsFault, MayMatch}
 use Rattle.bajofeki_rules.specs.Position.{place_after, position_of}
 use Rattle.bajofeki_rules.specs.declared.position.Position.{Position}
-use Rattle.lalrpop_markup.specs.Markup.{marked}
-use Rattle.lalrpop_markup.specs.Terminal.{painted}
+use Rattle.bajofeki.specs.Markup.{marked}
+use Rattle.bajofeki.specs.Terminal.{painted}
 use Rattle.lalrpop_rules.specs.Modes.{ModeRules, AllOf, after}
 use Rattle.bajofeki_rules.specs.Stack.{Stack, start, actions_of}
 use Rattle.bajofeki_rules.specs.declared.action.Action.{Action}

@@ -1,7 +1,7 @@
 -- A text that is read as it comes, and cut.
 use Rattle.std.specs.Prelude.{◌≡◌, ◌⊎◌, ◌+◌, ℕ, Bool, true, false, if◌then◌else◌, List, [], ◌++◌, length}
-use Rattle.lalrpop_edits.specs.Chunked.{Chunked}
-use Rattle.lalrpop_edits.specs.Decoded.{IsBegun, IsBad}
+use Rattle.bajofeki.specs.Chunked.{Chunked}
+use Rattle.bajofeki.specs.Decoded.{IsBegun, IsBad}
 use Rattle.lalrpop_rule_file.specs.RuleFile.{without_mark}
 use Rattle.lexdfa_lib.specs.Streams.{Stream, Reads, ReadEnd, AtEnd, Failed, LeftOff}
 use Rattle.tokens_lib.specs.CutEnds.{IsTextOf}

@@ -1,5 +1,5 @@
 use Rattle.std.proofs.Common.{[], ◌∷◌, ◌++◌, ◌∙◌, rules}
-use Rattle.lalrpop_markup.proofs.Characters.{one_more}
+use Rattle.bajofeki.proofs.Characters.{one_more}
 use Rattle.bajofeki_c.specs.Page.{piece_in}
 use Rattle.bajofeki_c.proofs.Pages.{piece_more, all_pieces}
 use Rattle.bajofeki_c.proofs.page.page_of.Goals as goal

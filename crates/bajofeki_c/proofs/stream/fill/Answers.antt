@@ -3,9 +3,9 @@ use Rattle.std.proofs.lemmas.List.{take_more_set, drop-set-lt, map-append}
 use Rattle.std.proofs.lemmas.Grind.{drop_more_same}
 use Rattle.std.specs.Prelude.{Option, Some, None, Ok}
 use Rattle.lalrpop_rules.specs.declared.item.Item.{Item}
-use Rattle.lalrpop_edits.specs.Chunked.{Chunked, GivesFinal, GivesOrRefuses, IsHeldBack}
-use Rattle.lalrpop_edits.specs.Given.{item_of}
-use Rattle.lalrpop_edits.specs.declared.given_piece.GivenPiece.{GivenPiece}
+use Rattle.bajofeki.specs.Chunked.{Chunked, GivesFinal, GivesOrRefuses, IsHeldBack}
+use Rattle.bajofeki.specs.Given.{item_of}
+use Rattle.bajofeki.specs.declared.given_piece.GivenPiece.{GivenPiece}
 use Rattle.bajofeki_c.specs.Document.{told}
 use Rattle.bajofeki_c.specs.Stream.{AreGiven}
 use Rattle.bajofeki_c.proofs.Giving.{gives_more}

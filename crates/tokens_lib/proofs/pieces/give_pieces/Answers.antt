@@ -3,7 +3,7 @@ use Rattle.std.specs.Prelude.{not}
 use Rattle.std.specs.Str.{chars}
 use Rattle.lexdfa_lib.specs.declared.error.RunError.TheVariants.{OutOfMemory}
 use Rattle.lalrpop_rules.proofs.Results.{handed_on}
-use Rattle.lalrpop_edits.specs.Given.{item_of}
+use Rattle.bajofeki.specs.Given.{item_of}
 use Rattle.tokens_lib.specs.Console.{WritesPart}
 use Rattle.tokens_lib.specs.Internal.CutTexts.{GivesCut, goes_on, is_fault}
 use Rattle.tokens_lib.proofs.CutLaws.{fault_by, slice_by}

@@ -1,5 +1,5 @@
 use Rattle.std.proofs.Common.{ℕ, List, [], ◌++◌}
-use Rattle.lalrpop_edits.specs.Given.{item_of}
+use Rattle.bajofeki.specs.Given.{item_of}
 use Rattle.lalrpop_rules.proofs.Results.{handed_on}
 use Rattle.lexdfa_lib.specs.declared.error.RunError.{RunError}
 use Rattle.lexdfa_lib.specs.declared.error.RunError.TheVariants.{OutOfMemory}

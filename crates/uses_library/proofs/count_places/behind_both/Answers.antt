@@ -6,7 +6,7 @@ use Rattle.bajofeki_rules.specs.Position.{place_after, place_behind}
 use Rattle.bajofeki_rules.specs.declared.position.Position.{Position}
 use Rattle.bajofeki_rules.proofs.Places.{column_within, few_chars, line_within}
 use Rattle.bajofeki_rules.proofs.PlaceLaws.{place_behind_slice}
-use Rattle.lalrpop_edits.proofs.LineLaws.{moved_begin}
+use Rattle.bajofeki.proofs.LineLaws.{moved_begin}
 use Rattle.uses_library.proofs.count_places.behind_both.Goals as goal
 
 -- from the beginning on

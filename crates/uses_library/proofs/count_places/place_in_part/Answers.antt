@@ -5,7 +5,7 @@ use Rattle.std.proofs.lemmas.Str.{IsUtf8-take}
 use Rattle.bajofeki_rules.specs.Position.{moved, position_of}
 use Rattle.bajofeki_rules.specs.declared.position.Position.{Position}
 use Rattle.bajofeki_rules.proofs.PlaceLaws.{position_moved}
-use Rattle.lalrpop_edits.proofs.LineLaws.{place_within}
+use Rattle.bajofeki.proofs.LineLaws.{place_within}
 use Rattle.uses_library.proofs.count_places.place_in_part.Goals as goal
 
 if_none_then : {X : Type 0} (o : Option X) (P Q : Type 0) → (P → Q) → IfNone o P → IfNone o Q

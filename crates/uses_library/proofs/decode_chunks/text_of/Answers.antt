@@ -1,8 +1,8 @@
 use Rattle.std.proofs.Common.{◌≡◌, ◌++◌, ℕ, List, [], ◌∷◌, true, false, true≢false, length, refl, ap, sym, subst, ◌∙◌, arith, IsUtf8}
 use Rattle.std.specs.Prelude.{◌==◌, string_bytes}
 use Rattle.std.proofs.lemmas.Bool.{eqb-true, eqb-false}
-use Rattle.lalrpop_edits.specs.Decoded.{Decoding, nothing_decoded, Decodes, Splits}
-use Rattle.lalrpop_edits.proofs.Decoding.{splits_nothing, decoded_more, given_utf8, given_whole}
+use Rattle.bajofeki.specs.Decoded.{Decoding, nothing_decoded, Decodes, Splits}
+use Rattle.bajofeki.proofs.Decoding.{splits_nothing, decoded_more, given_utf8, given_whole}
 use Rattle.uses_library.proofs.decode_chunks.text_of.Goals as goal
 use Rattle.uses_library.proofs.decode_chunks.text_of.Goals.{then-is_broken-via-then-is_broken, then-is_broken-via-else-is_broken+then-not-is_empty}
 

@@ -1,7 +1,7 @@
 use Rattle.std.proofs.Common.{ap, arith}
 use Rattle.std.specs.Prelude.{length}
 use Rattle.std.proofs.lemmas.List.Sums.{length-filter}
-use Rattle.lalrpop_edits.specs.Lexed.{holds_byte}
+use Rattle.bajofeki.specs.Lexed.{holds_byte}
 use Rattle.uses_library.proofs.edit_a_text.count_between.Goals as goal
 
 pub returns : goal.returns

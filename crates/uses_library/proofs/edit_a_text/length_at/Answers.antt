@@ -1,5 +1,5 @@
 use Rattle.std.proofs.Common.{length, ap, arith}
-use Rattle.lalrpop_edits.proofs.Holding.{holds_it}
+use Rattle.bajofeki.proofs.Holding.{holds_it}
 use Rattle.uses_library.proofs.edit_a_text.length_at.Goals as goal
 
 pub returns-in-Some : goal.returns-in-Some

@@ -1,6 +1,6 @@
 use Rattle.std.proofs.Common.{length, ap, arith}
 use Rattle.std.proofs.lemmas.Result.{IfOk-weaker}
-use Rattle.lalrpop_edits.proofs.Holding.{whole_pieces}
+use Rattle.bajofeki.proofs.Holding.{whole_pieces}
 use Rattle.uses_library.proofs.edit_a_text.piece_list.Goals as goal
 
 pub returns : goal.returns

@@ -1,5 +1,5 @@
 use Rattle.std.proofs.Common.{◌≡◌, false, [], length, take, ◌∙◌}
-use Rattle.lalrpop_edits.proofs.ChunkLaws.{came_first}
+use Rattle.bajofeki.proofs.ChunkLaws.{came_first}
 use Rattle.uses_library.proofs.Joining.{came_front, goes_on, same_joined}
 use Rattle.uses_library.proofs.feed_chunks.first_pieces.Goals as goal
 

@@ -1,6 +1,6 @@
 use Rattle.std.proofs.Common.{◌≡◌, ◌++◌, true, false, [], ap, ◌∙◌, string_bytes}
-use Rattle.lalrpop_edits.specs.Chunked.{Chunked}
-use Rattle.lalrpop_edits.proofs.ChunkLaws.{came_more, came_whole}
+use Rattle.bajofeki.specs.Chunked.{Chunked}
+use Rattle.bajofeki.proofs.ChunkLaws.{came_more, came_whole}
 use Rattle.uses_library.proofs.Joining.{came_front, goes_on, whole_of}
 use Rattle.uses_library.proofs.feed_chunks.put_together.Goals as goal
 

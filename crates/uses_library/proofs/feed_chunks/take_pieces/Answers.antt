@@ -1,8 +1,8 @@
 use Rattle.std.proofs.Common.{◌++◌, ◌∷◌, [], ap, ◌∙◌, refl}
 use Rattle.std.specs.Prelude.{Ok}
-use Rattle.lalrpop_edits.specs.Chunked.{Chunked}
-use Rattle.lalrpop_edits.specs.Given.{item_of}
-use Rattle.lalrpop_edits.proofs.ChunkLaws.{came_given, came_held, given_less, gives_some, gives_none, held_after}
+use Rattle.bajofeki.specs.Chunked.{Chunked}
+use Rattle.bajofeki.specs.Given.{item_of}
+use Rattle.bajofeki.proofs.ChunkLaws.{came_given, came_held, given_less, gives_some, gives_none, held_after}
 use Rattle.uses_library.proofs.Joining.{bytes_on}
 use Rattle.uses_library.proofs.feed_chunks.take_pieces.Goals as goal
 

@@ -2,7 +2,7 @@ use Rattle.std.proofs.Common.{◌≡◌, ℕ, List, length, string_bytes}
 use Rattle.lalrpop_rules.specs.Modes.{ModeRules}
 use Rattle.lalrpop_rules.specs.Pieces.{joined}
 use Rattle.lalrpop_rules.specs.declared.item.Item.{Item}
-use Rattle.lalrpop_edits.specs.Chunked.{Came}
+use Rattle.bajofeki.specs.Chunked.{Came}
 use Rattle.uses_library.proofs.feed_chunks.take_pieces.Given as goal
 
 -- the bytes so far are those of all pieces that were given

@@ -1,8 +1,8 @@
 use Rattle.std.proofs.Common.{◌≡◌, refl, ap, ◌∙◌}
 use Rattle.std.specs.Prelude.{Option, Some, Result, Ok}
-use Rattle.lalrpop_edits.specs.declared.given_piece.GivenPiece.{GivenPiece}
-use Rattle.lalrpop_edits.specs.declared.error.EditError.{EditError}
-use Rattle.lalrpop_edits.proofs.ChunkLaws.{gives_some}
+use Rattle.bajofeki.specs.declared.given_piece.GivenPiece.{GivenPiece}
+use Rattle.bajofeki.specs.declared.error.EditError.{EditError}
+use Rattle.bajofeki.proofs.ChunkLaws.{gives_some}
 use Rattle.tokens_lib.specs.declared.incoming.Incoming.{Incoming}
 use Rattle.tokens_lib.proofs.CutLaws.{gives_cut}
 use Rattle.tokens_lib.proofs.cutter.Cutter.next_piece.Goals as goal

@@ -1,0 +1,13 @@
+-- Small cases of the definitions in specs/: Cases/X.antt has those of specs/X.antt.
+pub mod Reach
+mod Kept
+mod Lexed
+mod Given
+mod Chunked
+mod Decoded
+mod Walking
+mod Noted
+mod Costs
+mod Markup
+mod Places
+mod Terminal

@@ -1,0 +1,16 @@
+pub mod Reach
+pub mod Kept
+pub mod Cutting
+pub mod Blocks
+pub mod BlockPlaces
+pub mod Meeting
+pub mod Starting
+pub mod Changing
+pub mod Items
+pub mod Code
+pub mod Least
+pub mod ChunkCode
+pub mod Walking
+pub mod Noted
+pub mod Paying
+pub mod Colours

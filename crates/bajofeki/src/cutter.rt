@@ -1,0 +1,39 @@
+//! What a text is cut with, beside the rules.
+
+ghost use Rattle.std.specs.Prelude.{◌≡◌, ℕ, ◌<◌, List, slice_get, Some, IfOk, OnOk};
+ghost use Rattle.lalrpop_dfa.specs.Dfa.{Row};
+ghost use Rattle.bajofeki.specs.Internal.Noted.{IsCutter};
+
+use crate::memo::Memo;
+use crate::walker::Walker;
+use lalrpop_rules::RuleLexer;
+use std::alloc::{AllocError, Global};
+
+/// A walk for each mode, and what its runs read in vain in this text.
+#[derive(Drop)]
+pub(crate) struct Cutter<'a> {
+    pub(crate) walkers: Vec<Walker<'a>>,
+    pub(crate) memo: Memo,
+}
+
+impl<'a> Cutter<'a> {
+    /// Nothing was read.
+    ///
+    /// # Errors
+    ///
+    /// `AllocError` if a request for memory was refused.
+    pub(crate) fn new(alloc: Global, lexer: &'a RuleLexer) -> Result<Cutter<'a>, AllocError>
+        ensures ready { IfOk result (λ c. (at : ℕ) (text : List ℕ) → IsCutter lexer.now c at text) }
+        ensures automata { OnOk result ((m : ℕ) → m < lexer.now.modes
+            → (d : List Row) × (slice_get lexer.now.automata m ≡ Some d)) }
+    {
+        let mut walkers = Vec::new(alloc);
+        for mode in 0..lexer.modes() {
+            walkers.push(Walker::of(lexer.lexer(mode).dense()))?;
+        }
+        Ok(Cutter {
+            walkers,
+            memo: Memo::new(alloc),
+        })
+    }
+}

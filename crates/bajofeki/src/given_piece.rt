@@ -1,0 +1,55 @@
+//! A piece of a text that comes in chunks.
+
+ghost use Rattle.std.specs.Prelude.{◌≡◌};
+ghost use Rattle.bajofeki.specs.Given.{item_of};
+
+use lalrpop_lexer::Token;
+use lalrpop_lexer::lexer::dfa::NfaIndex;
+use lalrpop_rules::Item;
+
+/// A piece of a text that comes in chunks. `Stream::slice` has its part of the text.
+///
+/// ```
+/// while let Some(piece) = chunks.next_piece()? {
+///     match piece.item(chunks.slice()) {
+///         Item::Token(token) => println!(rt; "{:?}", token.slice)?,
+///         Item::Skipped(_) => {}
+///         Item::Fault { start, slice } => println!(rt; "byte {start}: {slice:?}")?,
+///     }
+/// }
+/// ```
+#[derive(Clone, Copy, Debug, PartialEq, Eq)]
+pub struct GivenPiece {
+    /// The index of the rule of a token; none in a fault.
+    pub rule: Option<usize>,
+    /// Whether that rule is skipped.
+    pub is_skipped: bool,
+    /// Where the piece begins in the text, in bytes.
+    pub start: usize,
+}
+
+impl GivenPiece {
+    /// The piece with this slice of the text, as a text that isn't cut into chunks has it.
+    pub fn item<'text>(&self, slice: &'text str) -> Item<'text>
+        ensures item { result ≡ item_of self.now slice.entry }
+    {
+        let index = match self.rule {
+            Some(rule) => NfaIndex::new(rule),
+            None => {
+                return Item::Fault {
+                    start: self.start,
+                    slice,
+                };
+            }
+        };
+        let token = Token {
+            index,
+            slice,
+            start: self.start,
+        };
+        if self.is_skipped {
+            return Item::Skipped(token);
+        }
+        Item::Token(token)
+    }
+}

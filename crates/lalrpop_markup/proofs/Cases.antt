@@ -1,4 +1,0 @@
--- Small cases of the definitions in specs/: Cases/X.antt has those of specs/X.antt.
-mod Markup
-mod Places
-mod Terminal

@@ -1,2 +1,0 @@
--- What private functions promise one another.
-pub mod Colours

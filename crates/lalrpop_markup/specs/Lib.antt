@@ -1,5 +1,0 @@
-pub mod Markup
-pub mod Places
-pub mod Terminal
--- what serves the proofs alone
-pub mod Internal
