@@ -187,29 +187,12 @@ module _ (text : List ℕ) (u : IsUtf8 text) (m : Mark) (mark : IsMark text m) (
   block_place =
       position_moved text m.at b.size u mark.boundary ∙ ap (λ (p : Position). moved p (position_of (drop m.at text) b.size)) (sym mark.place) ∙ ap (moved m.place) (sym is.end)
 
-  -- its numbers are small
-  pub block_room : (m.place.line + b.end.line ≤ 2 + length text) × (m.place.column + b.end.column ≤ 2 + length text)
-  block_room =
-      let own = place_within (drop m.at text) b.size is.utf8 in
-      let front = place_within text m.at (IsUtf8-take text m.at u mark.boundary) in (
-        omega (arith, own.0, front.0, ap (λ (p : Position). p.line) mark.place, ap (λ (p : Position). p.line) is.end, is.within, length-drop m.at text, mark.boundary.0),
-        omega (arith, own.1, front.1, ap (λ (p : Position). p.column) mark.place, ap (λ (p : Position). p.column) is.end, is.within, length-drop m.at text, mark.boundary.0),
-      )
-
 -- the mark where a stretch ends
 pub stretch_place : (text : List ℕ) (m : Mark) (to : ℕ) → IsUtf8 text → IsMark text m → m.at ≤ to → position_of text to ≡ place_after m.place (take (to - m.at) (drop m.at text))
 stretch_place text m to u mark le =
     let whole : m.at + (to - m.at) ≡ to = omega (arith, le) in
     ap (position_of text) (sym whole) ∙ position_moved text m.at (to - m.at) u mark.boundary
     ∙ ap (λ (p : Position). moved p (position_of (drop m.at text) (to - m.at))) (sym mark.place)
-
-pub stretch_room : (text : List ℕ) (m : Mark) (to : ℕ) → IsUtf8 text → IsMark text m → m.at ≤ to → to ≤ length text
-    → (m.place.line + (to - m.at) ≤ 1 + length text) × (m.place.column + (to - m.at) ≤ 1 + length text)
-stretch_room text m to u mark le within =
-    let front = place_within text m.at (IsUtf8-take text m.at u mark.boundary) in (
-      omega (arith, front.0, ap (λ (p : Position). p.line) mark.place, within, le),
-      omega (arith, front.1, ap (λ (p : Position). p.column) mark.place, within, le),
-    )
 
 -- ---- the place that is looked for
 

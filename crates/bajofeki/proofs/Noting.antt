@@ -30,6 +30,7 @@ use Rattle.lalrpop_rules.specs.Modes.{ModeRules}
 use Rattle.bajofeki.specs.declared.cutter.Cutter.{Cutter}
 use Rattle.bajofeki.specs.declared.memo.Memo.{Memo}
 use Rattle.bajofeki.specs.declared.walker.Walker.{Walker}
+use Rattle.bajofeki.specs.Lexed.{BeginsLonger}
 use Rattle.bajofeki.specs.Internal.Reach.{IsClosed, IsSettledBy}
 use Rattle.bajofeki.specs.Internal.Walking.{IsWalkerOf, behind, behind_from, next_of, says}
 use Rattle.bajofeki.specs.Internal.Noted.{IsNoted, IsKnown, order_of, IsLast, GoesOn, IsOver, IsSound, MatchedLast, IsStand, IsCutter}
@@ -226,19 +227,22 @@ module _ (w : Walker) (d : List Row) (ts : List Tree) (ps : List ℕ) (walks : I
       longest_accept ts ps text rest at m.0 m.1 cut (omega (arith, some, cut.place)) is
       (subst (IsRightKind ts ps (chars (take at text))) (ap (says w) (sym reached) ∙ accepts) (says_right (chars (take at text)) (text_scalars (take at text) cut.seen_utf8)))
 
-  -- where the end was seen, some longer word matches
+  -- where a character leads on, some longer word matches
+  pub leads_to_longer : (u : List ℕ) → IsTrim d → All (λ c. c < 1114112) u → GoesOn w (behind w u) → (v : List ℕ) × ((v ≢ []) × Matched ts (u ++ v))
+  leads_to_longer u trim below (c, (less, on)) =
+      let scalars = All-push (λ n. n < 1114112) u c below less in
+      goes_on_to_match d ts ps h u c trim
+      (λ reject. on (ap (says w) (sym (behind_push w u c)) ∙ one_kind (says w (behind w (u ++ c ∷ []))) Reject (slice_get d (after d (u ++ c ∷ []))) (walks (u ++ c ∷ []) scalars)
+      (subst (IsReject d) (sym (after_push d u c)) reject)))
+
+  -- so it does where the end was seen
   pub over_earliest : (text rest : List ℕ) (at n : ℕ) → IsTrim d → IsUtf8 text → IsCut text at rest → IsOver w (behind w (chars (take at text))) (chars rest) n → length rest < n
-      → (v : List ℕ) × ((v ≢ []) × Matched ts (chars text ++ v))
+      → BeginsLonger ts text
   over_earliest text rest at n trim utf8 cut o past =
       let whole : chars text ≡ chars (take at text) ++ chars rest = ap chars cut.split ∙ chars-append (take at text) rest cut.seen_utf8 in
       let more = over_more w (behind w (chars (take at text))) n rest (chars rest) cut.rest_utf8 refl o past in
       let there : behind_from w (behind w (chars (take at text))) (chars rest) ≡ behind w (chars text) = sym (ap (behind w) whole ∙ behind_append w (chars (take at text)) (chars rest)) in
-      let scalars = All-push (λ n. n < 1114112) (chars text) more.0 (text_scalars text utf8) more.1.0 in
-      let said : says w (behind w (chars text ++ more.0 ∷ [])) ≡ says w (next_of w (behind_from w (behind w (chars (take at text))) (chars rest)) more.0) =
-      ap (says w) (behind_push w (chars text) more.0 ∙ ap (λ (p : ℕ). next_of w p more.0) (sym there)) in
-      goes_on_to_match d ts ps h (chars text) more.0 trim
-      (λ reject. more.1.1 (sym said ∙ one_kind (says w (behind w (chars text ++ more.0 ∷ []))) Reject (slice_get d (after d (chars text ++ more.0 ∷ []))) (walks (chars text ++ more.0 ∷ []) scalars)
-      (subst (IsReject d) (sym (after_push d (chars text) more.0)) reject)))
+      leads_to_longer (chars text) trim (text_scalars text utf8) (subst (GoesOn w) there more)
 
 -- ---- where a run stood
 

@@ -1,22 +1,24 @@
 -- What is read begins words that match.
-use Rattle.std.proofs.Common.{◌≡◌, ℕ, ◌+◌, ◌-◌, ◌<◌, ◌≤◌, ◌⊎◌, inl, inr, List, [], ◌++◌, length, take, drop, max, arith, refl, sym, ap, subst, ◌∙◌, length-take, length-drop, take-take}
-use Rattle.std.specs.Prelude.{Some, None}
+use Rattle.std.proofs.Common.{◌≡◌, ◌≢◌, ℕ, ◌+◌, ◌-◌, ◌<◌, ◌≤◌, ◌⊎◌, inl, inr, List, [], ◌++◌, length, take, drop, max, arith, refl, sym, ap, subst, ◌∙◌, length-take, length-drop, take-take}
+use Rattle.std.specs.Prelude.{Option, Some, None}
 use Rattle.std.specs.List.{All}
 use Rattle.std.specs.Str.{chars, IsUtf8, IsCharBoundary}
 use Rattle.std.proofs.lemmas.Bool.{cases_lt}
 use Rattle.std.proofs.lemmas.List.{append-nil, take-append-drop, take-append-le, take_at, drop-take}
-use Rattle.std.proofs.lemmas.Str.{chars-append, IsUtf8-drop}
+use Rattle.std.proofs.lemmas.Str.{chars-append, IsCharBoundary-from_take, IsUtf8-drop}
 use Rattle.lalrpop_hir.specs.Tree.{Tree}
-use Rattle.lalrpop_hir.specs.Longest.{IsMatch}
+use Rattle.lalrpop_hir.specs.Longest.{IsLongest, IsMatch}
 use Rattle.lalrpop_hir.specs.Winners.{Matched}
 use Rattle.lalrpop_dfa.specs.Dfa.{Row, after, RecognizesAll}
 use Rattle.lalrpop_dfa.specs.Lookahead.{IsTrim, IsAccepting}
 use Rattle.lalrpop_dfa.specs.declared.Kind.TheVariants.{Neither}
+use Rattle.lalrpop_lexer.proofs.Cuttings.{some_char}
 use Rattle.lalrpop_dfa.proofs.AfterLaws.{run_append}
 use Rattle.lalrpop_dfa.proofs.Recognized.{accepted_matched}
-use Rattle.bajofeki.specs.Lexed.{ReadsTo}
+use Rattle.bajofeki.specs.Lexed.{BeginsLonger, ReadsTo}
 use Rattle.bajofeki.specs.declared.walker.Walker.{Walker}
 use Rattle.bajofeki.specs.Internal.Kept.{ReadsOn, IsReadFor}
+use Rattle.bajofeki.specs.Internal.Paying.{size_of}
 use Rattle.bajofeki.specs.Internal.Walking.{IsWalkerOf, behind, says}
 use Rattle.bajofeki.proofs.Alike.{alike_boundary}
 use Rattle.bajofeki.proofs.Walking.{said_kind, text_scalars}
@@ -25,12 +27,39 @@ use Rattle.bajofeki.proofs.Walking.{said_kind, text_scalars}
 abbrev pub AreOpen : Walker → List ℕ → ℕ → ℕ → Type 0
 AreOpen w text size reach = (n : ℕ) → size < n → n < reach → n ≤ length text → IsUtf8 (take n text) → says w (behind w (chars (take n text))) ≡ Neither
 
+-- a match is its front, and what follows that
+match_split : (ts : List Tree) (text p : List ℕ) (n : ℕ) → IsMatch ts text p → n ≤ length p → IsUtf8 (take n text) → chars p ≡ chars (take n text) ++ chars (drop n p)
+match_split ts text p n m le u =
+    let front : take n text ≡ take n p = ap (take n) m.0.1.0 ∙ take-append-le n p m.0.0 le in
+    ap chars (sym (take-append-drop n p)) ∙ chars-append (take n p) (drop n p) (subst IsUtf8 front u) ∙ ap (λ (t : List ℕ). chars t ++ chars (drop n p)) (sym front)
+
 -- a front of a match begins a word that some tree matches
 match_begun : (ts : List Tree) (text p : List ℕ) (n : ℕ) → IsMatch ts text p → n ≤ length p → IsUtf8 (take n text) → (v : List ℕ) × Matched ts (chars (take n text) ++ v)
-match_begun ts text p n m le u =
-    let front : take n text ≡ take n p = ap (take n) m.0.1.0 ∙ take-append-le n p m.0.0 le in
-    let whole : chars p ≡ chars (take n p) ++ chars (drop n p) = ap chars (sym (take-append-drop n p)) ∙ chars-append (take n p) (drop n p) (subst IsUtf8 front u) in
-    (chars (drop n p), subst (λ (t : List ℕ). Matched ts (chars t ++ chars (drop n p))) (sym front) (subst (Matched ts) whole m.2))
+match_begun ts text p n m le u = (chars (drop n p), subst (Matched ts) (match_split ts text p n m le u) m.2)
+
+-- a longer one, if it isn't the whole match
+pub match_longer : (ts : List Tree) (text p : List ℕ) (n : ℕ) → IsMatch ts text p → n < length p → IsUtf8 (take n text) → BeginsLonger ts (take n text)
+match_longer ts text p n m less u =
+    let front : take n text ≡ take n p = ap (take n) m.0.1.0 ∙ take-append-le n p m.0.0 (omega (arith, less)) in
+    let utf8 : IsUtf8 (drop n p) =
+    IsUtf8-drop p n m.0.1.1 (IsCharBoundary-from_take p n m.0.1.1 (omega (arith, less)) (subst IsUtf8 front u)) in
+    let some : 0 < length (chars (drop n p)) = some_char (drop n p) utf8 (λ none. omega (arith, less, length-drop n p, ap length none)) in
+    (chars (drop n p), ((λ none. omega (arith, some, ap length none)), subst (Matched ts) (match_split ts text p n m (omega (arith, less)) u) m.2))
+
+-- what goes on past the longest match begins a longer word
+pub past_longest : (ts : List Tree) (ps text : List ℕ) (o : Option (ℕ × List ℕ)) (n : ℕ) → IsLongest ts ps text o → size_of o < n → n ≤ length text → IsUtf8 (take n text)
+    → (v : List ℕ) × Matched ts (chars (take n text) ++ v) → BeginsLonger ts (take n text)
+past_longest ts ps text o n longest above within u (v, m) = (v, (none_here o longest above, m))
+  where
+    whole : v ≡ [] → IsMatch ts text (take n text)
+    whole none =
+        let size : length (take n text) ≡ n = omega (arith, length-take n text, within) in
+        let word : chars (take n text) ++ v ≡ chars (take n text) = ap (λ (x : List ℕ). chars (take n text) ++ x) none ∙ append-nil (chars (take n text)) in
+        ((drop n text, (sym (take-append-drop n text), u)), (λ empty. omega (arith, above, size, ap length empty)), subst (Matched ts) word m)
+
+    none_here : (o : Option (ℕ × List ℕ)) → IsLongest ts ps text o → size_of o < n → v ≢ []
+    none_here None longest above none = longest (take n text) (whole none)
+    none_here (Some m) longest above none = omega (arith, above, longest.1 (take n text) (whole none), length-take n text, within)
 
 -- so does the whole match
 pub match_reads : (ts : List Tree) (text p : List ℕ) (k : ℕ) → IsMatch ts (drop k text) p → ReadsTo ts text k (k + length p)

@@ -2,15 +2,14 @@
 -- A text that comes in chunks, and the pieces that are given as soon as no later chunk can change them.
 use Rattle.std.specs.Prelude.{◌≡◌, ◌≢◌, ℕ, ◌+◌, ◌^◌, ◌≤◌, ◌⊎◌, Bool, true, false, List, [], ◌∷◌, ◌++◌, length, drop, Option, Some, None, Result, Ok, Err}
 use Rattle.std.specs.Borrow.{Bor}
-use Rattle.std.specs.Str.{chars, IsCharBoundary}
+use Rattle.std.specs.Str.{IsCharBoundary}
 use Rattle.lalrpop_hir.specs.Tree.{Tree}
-use Rattle.lalrpop_hir.specs.Winners.{Matched}
 use Rattle.lalrpop_rules.specs.Found.{MatchesAt, NoMatchBefore}
 use Rattle.lalrpop_rules.specs.Pieces.{IsPiece, slice_of, start_of}
 use Rattle.lalrpop_rules.specs.declared.item.Item.{Item}
 use Rattle.bajofeki_rules.specs.Stack.{Stack, start}
 use Rattle.lalrpop_rules.specs.Modes.{ModeRules, trees_in, after}
-use Rattle.bajofeki.specs.Lexed.{placed}
+use Rattle.bajofeki.specs.Lexed.{BeginsLonger, placed}
 use Rattle.bajofeki.specs.Given.{item_of}
 use Rattle.bajofeki.specs.declared.given_piece.GivenPiece.{GivenPiece}
 use Rattle.bajofeki.specs.declared.error.EditError.{EditError}
@@ -39,7 +38,7 @@ IsFinal c x = (more : List ℕ) → (c.is_ended ≡ true → more ≡ [])
 -- has come, from its beginning on, or from a later place on up to which none matches
 abbrev pub IsOpen : List Tree → List ℕ → Type 0
 IsOpen ts text = NoMatchBefore ts text (length text)
-    ⊎ ((k : ℕ) × (IsCharBoundary text k × ((k ≡ 0) ⊎ NoMatchBefore ts text (k + 1)) × ((v : List ℕ) × ((v ≢ []) × Matched ts (chars (drop k text) ++ v)))))
+    ⊎ ((k : ℕ) × (IsCharBoundary text k × ((k ≡ 0) ⊎ NoMatchBefore ts text (k + 1)) × BeginsLonger ts (drop k text)))
 
 -- so no piece is given: all was given, or more may come that changes the next one
 abbrev pub IsHeldBack : Chunked → Type 0
@@ -70,8 +69,7 @@ BeginsFault c = (c.rest ≢ []) × ((more : List ℕ) → (c.is_ended ≡ true �
 
 -- some tree matches a word that the rest begins with; or one that begins with the rest, if more may come
 abbrev pub MayMatch : Chunked → Type 0
-MayMatch c = MatchesAt (trees_in c.rules c.stack.mode) c.rest 0
-    ⊎ ((c.is_ended ≡ false) × ((v : List ℕ) × ((v ≢ []) × Matched (trees_in c.rules c.stack.mode) (chars c.rest ++ v))))
+MayMatch c = MatchesAt (trees_in c.rules c.stack.mode) c.rest 0 ⊎ ((c.is_ended ≡ false) × BeginsLonger (trees_in c.rules c.stack.mode) c.rest)
 
 -- this text has come, in any chunks, and these pieces were given
 pub data Came (r : ModeRules) : List ℕ → List Item → Chunked → Type 0 where

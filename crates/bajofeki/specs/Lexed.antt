@@ -1,6 +1,6 @@
 -- cases: proofs/Cases/Lexed.antt
 -- A text with its pieces, and what an edit changes of it.
-use Rattle.std.specs.Prelude.{◌≡◌, ℕ, ◌+◌, ◌-◌, ◌≤◌, ◌⊎◌, Bool, nat_lt, max, min, List, [], ◌∷◌, ◌++◌, length, take, drop, filter, Some, slice_get}
+use Rattle.std.specs.Prelude.{◌≡◌, ◌≢◌, ℕ, ◌+◌, ◌-◌, ◌≤◌, ◌⊎◌, Bool, nat_lt, max, min, List, [], ◌∷◌, ◌++◌, length, take, drop, filter, Some, slice_get}
 use Rattle.std.specs.Str.{chars, IsCharBoundary}
 use Rattle.lalrpop_hir.specs.Tree.{Tree}
 use Rattle.lalrpop_hir.specs.Winners.{Matched}
@@ -80,6 +80,10 @@ pub record MeetAt (actions : List (List Action)) (from to size : ℕ) (xs ys : L
 abbrev pub IsEarliest : Lexed → Lexed → ℕ → ℕ → ℕ → Change → Type 0
 IsEarliest old new from to size c = (xs ys : List Item) → ArePiecesOf old xs → ArePiecesOf new ys → (i j : ℕ) → c.first ≤ i → i ≤ c.first + c.removed
     → c.first ≤ j → j ≤ c.first + c.inserted → MeetAt old.rules.actions from to size xs ys i j → (i ≡ c.first + c.removed) × (j ≡ c.first + c.inserted)
+
+-- some tree matches a longer word, which the text begins
+abbrev pub BeginsLonger : List Tree → List ℕ → Type 0
+BeginsLonger ts text = (v : List ℕ) × ((v ≢ []) × Matched ts (chars text ++ v))
 
 -- from the one place of the text on, all up to the other begins a word that some tree matches
 abbrev pub ReadsTo : List Tree → List ℕ → ℕ → ℕ → Type 0

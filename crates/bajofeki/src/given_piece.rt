@@ -22,7 +22,7 @@ use lalrpop_rules::Item;
 pub struct GivenPiece {
     /// The index of the rule of a token; none in a fault.
     pub rule: Option<usize>,
-    /// Whether that rule is skipped.
+    /// Whether that rule is skipped. False in a fault.
     pub is_skipped: bool,
     /// Where the piece begins in the text, in bytes.
     pub start: usize,

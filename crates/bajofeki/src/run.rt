@@ -7,10 +7,10 @@ ghost use Rattle.std.specs.Str.{chars, encode_utf8_all, IsUtf8};
 ghost use Rattle.lalrpop_hir.specs.Tree.{Tree};
 ghost use Rattle.lalrpop_hir.specs.Prefix.{IsPrefix};
 ghost use Rattle.lalrpop_hir.specs.Longest.{IsLongest};
-ghost use Rattle.lalrpop_hir.specs.Winners.{Matched};
 ghost use Rattle.lalrpop_dfa.specs.Dfa.{Row, RecognizesAll};
 ghost use Rattle.lalrpop_dfa.specs.Lookahead.{IsTrim};
 ghost use Rattle.lalrpop_dfa.specs.declared.Kind.TheVariants.{Neither};
+ghost use Rattle.bajofeki.specs.Lexed.{BeginsLonger};
 ghost use Rattle.bajofeki.specs.Internal.Reach.{IsSettledBy};
 ghost use Rattle.bajofeki.specs.Internal.Walking.{IsMet, IsRight, IsWalkerOf, behind, says};
 ghost use Rattle.bajofeki.specs.Internal.Noted.{IsKnown, IsNoted, IsOver, IsSound, IsStand};
@@ -26,6 +26,9 @@ use lalrpop_nfa::Steps;
 pub(crate) struct Settled<'text> {
     // The match, if there is one.
     pub(crate) longest: Option<(NfaIndex, &'text str)>,
+    // Where it ends in the text, 0 if there is none, and the place of the walk there.
+    pub(crate) end: usize,
+    pub(crate) place: usize,
     // How many bytes of the text settle it: one more than it has if a longer text may have a longer match.
     pub(crate) reach: usize,
 }
@@ -215,13 +218,15 @@ pub(crate) fn longest_settled<'text>(
         → IsLongest ts ps text.now (option_map (λ m. (m.0, m.1.now)) result.longest) }
     ensures settled { (d : List Row) (ts : List Tree) (ps : List ℕ) → IsWalkerOf walker.now d
         → RecognizesAll d ts ps → IsSettledBy ts text.now result.reach }
+    ensures stand { IsStand walker.now text.now result.end result.place
+        (option_map (λ m. (m.0, m.1.now)) result.longest) }
     ensures prefix { IfSome result.longest (λ m. IsPrefix m.1.now text.now × (m.1.now ≢ [])) }
     ensures size { IfSome result.longest (λ m. length m.1.now ≤ result.reach) }
     ensures within { result.reach ≤ length text.now + 1 }
     ensures earliest { length text.now < result.reach
         → (d : List Row) (ts : List Tree) (ps : List ℕ)
         → IsWalkerOf walker.now d → IsTrim d → RecognizesAll d ts ps
-        → (v : List ℕ) × ((v ≢ []) × Matched ts (chars text.now ++ v)) }
+        → BeginsLonger ts text.now }
     ensures sound { (begin i : ℕ) (all : List ℕ) → begin + i ≡ at → i ≤ length all
         → drop i all ≡ text.now → IsSound walker.now memo.old mode begin all
         → IsSound walker.now memo.new mode begin all }
@@ -253,6 +258,8 @@ pub(crate) fn longest_settled<'text>(
     );
     Settled {
         longest,
+        end: run.end,
+        place: run.place,
         reach: run.reach,
     }
 }

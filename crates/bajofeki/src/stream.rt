@@ -1,16 +1,15 @@
 //! A text that comes in chunks.
 
-ghost use Rattle.std.specs.Prelude.{◌≡◌, ◌≢◌, ◌+◌, ◌^◌, ◌++◌, ◌<◌, ◌⊎◌, ℕ, List, [], None, true, false, length, take, drop, string_bytes, IfSome, IfNone, IsSome, IfOk, OnOk, OnErr};
-ghost use Rattle.std.specs.Str.{chars, IsCharBoundary};
+ghost use Rattle.std.specs.Prelude.{◌≡◌, ◌+◌, ◌^◌, ◌++◌, ◌<◌, ◌⊎◌, ℕ, List, [], None, true, false, length, take, drop, string_bytes, IfSome, IfNone, IsSome, IfOk, OnOk, OnErr};
+ghost use Rattle.std.specs.Str.{IsCharBoundary};
 ghost use Rattle.std.specs.Borrow.{Bor};
 ghost use Rattle.lalrpop_hir.specs.Tree.{Tree};
-ghost use Rattle.lalrpop_hir.specs.Winners.{Matched};
 ghost use Rattle.lalrpop_rules.specs.Found.{MatchesAt, NoMatchBefore};
 ghost use Rattle.lalrpop_rules.specs.Pieces.{IsPiece};
 ghost use Rattle.lalrpop_rules.specs.Modes.{EachMode, ModeRules, trees_in};
 ghost use Rattle.bajofeki.specs.Internal.Kept.{IsFront, after_rule};
 ghost use Rattle.bajofeki.specs.Internal.Noted.{IsCutter};
-ghost use Rattle.bajofeki.specs.Lexed.{placed};
+ghost use Rattle.bajofeki.specs.Lexed.{BeginsLonger, placed};
 ghost use Rattle.bajofeki.specs.Chunked.{nothing_come, IsOpen, GivesOrRefuses, BeginsFault, MayMatch};
 ghost use Rattle.bajofeki.specs.Given.{item_by};
 
@@ -155,8 +154,7 @@ fn nothing_matches(alloc: Global, lexer: &Lexer, rest: &str, is_ended: bool) -> 
     ensures yes { result ≡ true → (more : List ℕ) → (is_ended ≡ true → more ≡ [])
         → NoMatchBefore lexer.now.trees (rest.now ++ more) 1 }
     ensures no { result ≡ false → MatchesAt lexer.now.trees rest.now 0
-        ⊎ ((is_ended ≡ false) × ((v : List ℕ) × ((v ≢ [])
-        × Matched lexer.now.trees (chars rest.now ++ v)))) }
+        ⊎ ((is_ended ≡ false) × BeginsLonger lexer.now.trees rest.now) }
 {
     let walker = Walker::of(lexer.dense());
     let found = longest_settled(
@@ -195,6 +193,7 @@ fn is_skipped(lexer: &RuleLexer, rule: Option<NfaIndex>) -> bool
     ensures skipped { (ts : List Tree) (ps text : List ℕ) (at : ℕ) (slice : Bor (List ℕ))
         → IsFront ts ps text rule slice.now
         → IsPiece ts ps lexer.now.skips text 0 (placed 0 (item_by rule result at slice)) }
+    ensures fault { IfNone rule (result ≡ false) }
 {
     match rule {
         Some(index) => lexer.is_skipped(index),
@@ -326,6 +325,8 @@ impl<'rules> Stream<'rules> {
     /// in 64 bits. Then nothing has changed.
     pub fn next_piece(&mut self) -> Result<Option<GivenPiece>, EditError>
         ensures gives { GivesOrRefuses self.old result self.new }
+        ensures fault { IfOk result (λ found.
+            IfSome found (λ piece. IfNone piece.rule (piece.is_skipped ≡ false))) }
     {
         let rest = &self.text[self.given..];
         if self.at.checked_add(rest.len()).is_none() {

@@ -1,6 +1,6 @@
 -- cases: proofs/Cases/Position.antt
 -- The line and the column of an offset in a text.
-use Rattle.std.specs.Prelude.{◌≡◌, ℕ, ◌+◌, ◌-◌, ◌<◌, ◌⊎◌, Bool, ◌==◌, if◌then◌else◌, List, length, take}
+use Rattle.std.specs.Prelude.{◌≡◌, ℕ, ◌+◌, ◌-◌, ◌<◌, ◌^◌, ◌⊎◌, Bool, ◌==◌, if◌then◌else◌, List, length, take}
 use Rattle.std.specs.List.{count_by, after_last}
 use Rattle.std.specs.Str.{chars}
 use Rattle.bajofeki_rules.specs.declared.position.Position.{Position}
@@ -24,6 +24,10 @@ IsBefore p q = (p.line < q.line) ⊎ ((p.line ≡ q.line) × (p.column < q.colum
 -- the second place, counted from the first one: both are of one line if the second is in the first line of what begins there
 abbrev pub moved : Position → Position → Position
 moved p q = if q.line == 1 then record { line = p.line; column = p.column + (q.column - 1) } else record { line = p.line + (q.line - 1); column = q.column }
+
+-- both numbers of a place fit in 64 bits
+abbrev pub Fits : Position → Type 0
+Fits p = (p.line < 2 ^ 64) × (p.column < 2 ^ 64)
 
 -- the place after a text that begins at a place
 abbrev pub place_after : Position → List ℕ → Position

@@ -1,8 +1,8 @@
 //! Places in a text, as line and column.
 
-ghost use Rattle.std.specs.Prelude.{◌≡◌, ℕ, ◌≤◌, ◌<◌, ◌↔◌, ◌+◌, ◌^◌, ◌⊎◌, true, length, slice_index, IfSome, IfNone, IsSome};
+ghost use Rattle.std.specs.Prelude.{◌≡◌, ℕ, ◌≤◌, ◌<◌, ◌↔◌, ◌+◌, true, length, slice_index, IfSome, IsSome};
 ghost use Rattle.std.specs.Str.{IsCharBoundary, chars};
-ghost use Rattle.bajofeki_rules.specs.Position.{moved, place_after, place_behind, position_of};
+ghost use Rattle.bajofeki_rules.specs.Position.{Fits, moved, place_after, place_behind, position_of};
 ghost use Rattle.bajofeki_rules.specs.Internal.ByteRuns.{IsInLine};
 ghost use Rattle.bajofeki_rules.specs.Internal.Places.{next_place, place_after_byte};
 
@@ -47,7 +47,7 @@ impl Position {
         }
     }
 
-    /// The place that lies at `next` in a text, if the text begins at this place. `None` if its numbers are too large.
+    /// The place that lies at `next` in a text, if the text begins at this place. `None` if one of its numbers is too large.
     ///
     /// ```
     /// let block = Position { line: 7, column: 3 };
@@ -55,8 +55,7 @@ impl Position {
     /// ```
     pub fn then(self, next: Position) -> Option<Position>
         ensures place { IfSome result (λ p. p ≡ moved self next) }
-        ensures none { IfNone result
-            ((2 ^ 64 ≤ self.line + next.line) ⊎ (2 ^ 64 ≤ self.column + next.column)) }
+        ensures fits { IsSome result ↔ Fits (moved self next) }
     {
         if next.line == 1 {
             let column = self.column.checked_add(next.column.saturating_sub(1))?;
@@ -72,11 +71,10 @@ impl Position {
         })
     }
 
-    /// The place after the text, if the text begins at this place. `None` if its numbers are too large.
+    /// The place after the text, if the text begins at this place. `None` if one of its numbers is too large.
     pub fn after(self, text: &str) -> Option<Position>
         ensures place { IfSome result (λ p. p ≡ place_after self text.now) }
-        ensures none { IfNone result ((2 ^ 64 ≤ self.line + length text.now + 1)
-            ⊎ (2 ^ 64 ≤ self.column + length text.now + 1)) }
+        ensures fits { IsSome result ↔ Fits (place_after self text.now) }
     {
         self.then(place_behind(text))
     }

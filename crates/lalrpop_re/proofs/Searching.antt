@@ -14,7 +14,7 @@ use Rattle.lalrpop_hir.specs.Runs.{IsScalar}
 use Rattle.std.specs.Str.{chars, IsUtf8}
 use Rattle.std.proofs.Math.Utf8.{encodes}
 use Rattle.std.proofs.lemmas.Str.{encodes-chars}
-use Rattle.lalrpop_re.proofs.Walks.{Walk-cons, Walk-reads}
+use Rattle.lalrpop_re.proofs.Walks.{Walk-cons, Walk-inside, Walk-reads}
 
 -- ---- lists
 
@@ -196,12 +196,19 @@ module _ (start end : List ℕ) where
           Walk-cons (Automaton start end) (length end) (length end + 1) 0 start (u ++ end) w (e ∙ append_assoc start u end) (inl (refl, refl, refl)) (finds-walk (u ++ end) 0 l ((u, refl), only))
 
 -- a tree with the words of all walks
-pub Matches-IsFromTo : (t : Tree) (start end : List ℕ) (n : ℕ) (M : Graph) → n ≡ length end → 0 < length end → Reads (Automaton start end) M → ((w : List ℕ) → All IsScalar w → Matches t w ↔ Walk M n (n + 1) w) → (w : List ℕ) → All IsScalar w → Matches t w ↔ IsFromTo start end w
-Matches-IsFromTo t start end n M e some reads words w s =
-    let a : Matches t w ↔ Walk M (length end) (length end + 1) w = subst (λ m. Matches t w ↔ Walk M m (m + 1) w) e (words w s) in
-    let b = Walk-reads (Automaton start end) M (length end) (length end + 1) w reads s in
-    let d = Walk-IsFromTo start end some w in
-    (λ h. d.0 (b.0 (a.0 h)), λ h. a.1 (b.1 (d.1 h)))
+module _ (t : Tree) (start end : List ℕ) (n : ℕ) (M : Graph) (e : n ≡ length end) (some : 0 < length end) (reads : Reads (Automaton start end) M)
+    (words : (w : List ℕ) → Matches t w ↔ Walk M n (n + 1) w) where
+  walked : (w : List ℕ) → Matches t w ↔ Walk M (length end) (length end + 1) w
+  walked w = subst (λ m. Matches t w ↔ Walk M m (m + 1) w) e (words w)
+
+  -- has no others than from the beginning to the end
+  pub only-IsFromTo : (w : List ℕ) → Matches t w → IsFromTo start end w
+  only-IsFromTo w h = (Walk-IsFromTo start end some w).0 (Walk-inside (Automaton start end) M (length end) (length end + 1) w reads ((walked w).0 h))
+
+  -- and all of those that are characters
+  pub Matches-IsFromTo : (w : List ℕ) → All IsScalar w → Matches t w ↔ IsFromTo start end w
+  Matches-IsFromTo w s =
+      (only-IsFromTo w, λ h. (walked w).1 (Walk-reads (Automaton start end) M (length end) (length end + 1) w reads s ((Walk-IsFromTo start end some w).1 h)))
 
 -- a text that isn't empty has a character
 pub some-character : (bs : List ℕ) → IsUtf8 bs → bs ≢ [] → 0 < length (chars bs)

@@ -78,35 +78,35 @@ module _ (M N : Graph) (end k : ℕ) (without : IsWithout M k N) where
 
 -- the edges lead from state n + 1 or a state of the list, to state n or a state of the list
 abbrev pub IsAmong : ℕ → List ℕ → Graph → Type 0
-IsAmong n left M = (p q : ℕ) (w : List ℕ) → All IsScalar w → M p q w → ((p ≡ n + 1) ⊎ Contains left p) × ((q ≡ n) ⊎ Contains left q)
+IsAmong n left M = (p q : ℕ) (w : List ℕ) → M p q w → ((p ≡ n + 1) ⊎ Contains left p) × ((q ≡ n) ⊎ Contains left q)
 
 -- where no other states are left, one edge is the whole walk
-pub Walk-last : (n : ℕ) (left : List ℕ) (M : Graph) (w : List ℕ) → length left ≡ 0 → IsAmong n left M → All IsScalar w → Walk M n (n + 1) w ↔ M (n + 1) n w
-Walk-last n left M w none among s = (λ h. front h.0 h.1, λ m. Walk-cons M n (n + 1) n w [] w (sym (append-nil w)) m (0, (refl, refl)))
+pub Walk-last : (n : ℕ) (left : List ℕ) (M : Graph) (w : List ℕ) → length left ≡ 0 → IsAmong n left M → Walk M n (n + 1) w ↔ M (n + 1) n w
+Walk-last n left M w none among = (λ h. front h.0 h.1, λ m. Walk-cons M n (n + 1) n w [] w (sym (append-nil w)) m (0, (refl, refl)))
   where
     not_in : (q : ℕ) → Contains left q → ⊥
     not_in q c = omega arith
 
-    behind : (j : ℕ) (v : List ℕ) → All IsScalar v → Steps M n j n v → v ≡ []
-    behind zero v k h = h.1
-    behind (suc j) v k (q, (u, x, (e, m, h))) =
-        elim (among n q u (scalars-left u x (subst (λ z. All IsScalar z) e k)) m).0 [ inl a ↦ absurd (omega arith) | inr c ↦ absurd (not_in n c) ]
+    behind : (j : ℕ) (v : List ℕ) → Steps M n j n v → v ≡ []
+    behind zero v h = h.1
+    behind (suc j) v (q, (u, x, (e, m, h))) =
+        elim (among n q u m).0 [ inl a ↦ absurd (omega arith) | inr c ↦ absurd (not_in n c) ]
 
     by_end : (q : ℕ) (u v : List ℕ) (j : ℕ) → w ≡ u ++ v → M (n + 1) q u → Steps M n j q v → (q ≡ n) ⊎ Contains left q → M (n + 1) n w
     by_end q u v j e m h (inr c) = absurd (not_in q c)
     by_end q u v j e m h (inl a) =
-        let none_left : v ≡ [] = behind j v (scalars-right u v (subst (λ z. All IsScalar z) e s)) (subst (λ z. Steps M n j z v) a h) in
+        let none_left : v ≡ [] = behind j v (subst (λ z. Steps M n j z v) a h) in
         let same : u ≡ w = sym (e ∙ (ap (λ z. u ++ z) none_left ∙ append-nil u)) in
         subst (M (n + 1) n) same (subst (λ z. M (n + 1) z u) a m)
 
     front : (j : ℕ) → Steps M n j (n + 1) w → M (n + 1) n w
     front zero h = absurd (omega (arith, h.0))
     front (suc j) (q, (u, v, (e, m, h))) =
-        by_end q u v j e m h (among (n + 1) q u (scalars-left u v (subst (λ z. All IsScalar z) e s)) m).1
+        by_end q u v j e m h (among (n + 1) q u m).1
 
 -- without state k, the edges lead from and to the others
 pub among-without : (n k : ℕ) (old new : List ℕ) (M N : Graph) → ((q : ℕ) → Contains old q → (q ≡ k) ⊎ Contains new q) → IsWithout M k N → IsAmong n old M → IsAmong n new N
-among-without n k old new M N other without among p q w s h = by_kind ((without p q w).0 h)
+among-without n k old new M N other without among p q w h = by_kind ((without p q w).0 h)
   where
     from : (p ≢ k) → (p ≡ n + 1) ⊎ Contains old p → (p ≡ n + 1) ⊎ Contains new p
     from o (inl e) = inl e
@@ -117,32 +117,33 @@ among-without n k old new M N other without among p q w s h = by_kind ((without 
     to o (inr c) = elim (other q c) [ inl e ↦ absurd (o e) | inr d ↦ inr d ]
 
     by_kind : ((p ≢ k) × (q ≢ k) × (M p q w ⊎ Past M M k p q w)) → ((p ≡ n + 1) ⊎ Contains new p) × ((q ≡ n) ⊎ Contains new q)
-    by_kind (o, r, inl m) = let a = among p q w s m in (from o a.0, to r a.1)
+    by_kind (o, r, inl m) = let a = among p q w m in (from o a.0, to r a.1)
     by_kind (o, r, inr (u, v, (e, m, (t, x, (f, _, l))))) =
-        let right = scalars-right u v (subst (λ z. All IsScalar z) e s) in
-        let a = among p k u (scalars-left u v (subst (λ z. All IsScalar z) e s)) m in
-        let b = among k q x (scalars-right t x (subst (λ z. All IsScalar z) f right)) l in
-        (from o a.0, to r b.1)
+        (from o (among p k u m).0, to r (among k q x l).1)
 
--- graphs with the same words of characters have the same walks on them
-Steps-reads : (M N : Graph) (end j p : ℕ) (w : List ℕ) → ((p q : ℕ) (w : List ℕ) → All IsScalar w → M p q w → N p q w) → All IsScalar w → Steps M end j p w → Steps N end j p w
+-- walks are kept where words are
+Steps-inside : (M N : Graph) (end j p : ℕ) (w : List ℕ) → Reads M N → Steps N end j p w → Steps M end j p w
+Steps-inside M N end zero p w r h = h
+Steps-inside M N end (suc j) p w r (q, (u, v, (e, m, h))) = (q, (u, v, (e, (r p q u).0 m, Steps-inside M N end j q v r h)))
+
+pub Walk-inside : (M N : Graph) (end p : ℕ) (w : List ℕ) → Reads M N → Walk N end p w → Walk M end p w
+Walk-inside M N end p w r h = (h.0, Steps-inside M N end h.0 p w r h.1)
+
+Steps-reads : (M N : Graph) (end j p : ℕ) (w : List ℕ) → Reads M N → All IsScalar w → Steps M end j p w → Steps N end j p w
 Steps-reads M N end zero p w r s h = h
 Steps-reads M N end (suc j) p w r s (q, (u, v, (e, m, h))) =
-    (q, (u, v, (e, r p q u (scalars-left u v (subst (λ z. All IsScalar z) e s)) m, Steps-reads M N end j q v r (scalars-right u v (subst (λ z. All IsScalar z) e s)) h)))
+    (q, (u, v, (e, (r p q u).1 (scalars-left u v (subst (λ z. All IsScalar z) e s)) m, Steps-reads M N end j q v r (scalars-right u v (subst (λ z. All IsScalar z) e s)) h)))
 
-pub Walk-reads : (M N : Graph) (end p : ℕ) (w : List ℕ) → Reads M N → All IsScalar w → Walk N end p w ↔ Walk M end p w
-Walk-reads M N end p w r s = (
-  λ h. (h.0, Steps-reads N M end h.0 p w (λ p q w k. (r p q w k).0) s h.1),
-  λ h. (h.0, Steps-reads M N end h.0 p w (λ p q w k. (r p q w k).1) s h.1),
-)
+pub Walk-reads : (M N : Graph) (end p : ℕ) (w : List ℕ) → Reads M N → All IsScalar w → Walk M end p w → Walk N end p w
+Walk-reads M N end p w r s h = (h.0, Steps-reads M N end h.0 p w r s h.1)
 
 -- ---- the loop over all states
 
 pub among-start : (n : ℕ) (left : List ℕ) (M : Graph) → left ≡ range_with_len 0 n → IsWithin n M → IsAmong n left M
-among-start n left M e within p q w s m = (elim a.0 [ inl x ↦ inl x | inr x ↦ inr (listed p x) ], elim a.1 [ inl x ↦ inl x | inr x ↦ inr (listed q x) ])
+among-start n left M e within p q w m = (elim a.0 [ inl x ↦ inl x | inr x ↦ inr (listed p x) ], elim a.1 [ inl x ↦ inl x | inr x ↦ inr (listed q x) ])
   where
     a : ((p ≡ n + 1) ⊎ (p < n)) × ((q ≡ n) ⊎ (q < n))
-    a = within p q w s m
+    a = within p q w m
 
     listed : (x : ℕ) → x < n → Contains left x
     listed x h =
@@ -176,7 +177,7 @@ one-less n k old new M0 M N perm below among words without =
     }
 
 -- the words of the one edge that is left
-pub all-eliminated : (n : ℕ) (left : List ℕ) (M0 M : Graph) (L : Words) → length left ≡ 0 → IsAmong n left M → ((w : List ℕ) → Walk M0 n (n + 1) w ↔ Walk M n (n + 1) w) → ((w : List ℕ) → L w ↔ M (n + 1) n w) → (w : List ℕ) → All IsScalar w → L w ↔ Walk M0 n (n + 1) w
-all-eliminated n left M0 M L none among words edge w s =
-    let last = Walk-last n left M w none among s in
+pub all-eliminated : (n : ℕ) (left : List ℕ) (M0 M : Graph) (L : Words) → length left ≡ 0 → IsAmong n left M → ((w : List ℕ) → Walk M0 n (n + 1) w ↔ Walk M n (n + 1) w) → ((w : List ℕ) → L w ↔ M (n + 1) n w) → (w : List ℕ) → L w ↔ Walk M0 n (n + 1) w
+all-eliminated n left M0 M L none among words edge w =
+    let last = Walk-last n left M w none among in
     (λ h. (words w).1 (last.1 ((edge w).0 h)), λ h. (edge w).1 (last.0 ((words w).0 h)))

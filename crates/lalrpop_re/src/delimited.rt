@@ -33,6 +33,8 @@ pub const LONGEST_END: usize = 64;
 pub fn from_to(alloc: Global, from: &str, to: &str) -> Result<Regex, FromToError>
     ensures tree { IfOk result (λ tree. (w : List ℕ) → All IsScalar w
         → Matches tree w ↔ IsFromTo (chars from.now) (chars to.now) w) }
+    ensures only { IfOk result (λ tree. (w : List ℕ) → Matches tree w
+        → IsFromTo (chars from.now) (chars to.now) w) }
     ensures no_fault { IfOk result (λ tree. fault tree ≡ None) }
     ensures empty { (result ≡ Err EmptyEnd) ↔ (to.now ≡ []) }
     ensures long { (result ≡ Err LongEnd) ↔ (64 < length (chars to.now)) }

@@ -1,9 +1,8 @@
 //! States are eliminated one after another: the edges into a state and out of it give way to edges past it.
-ghost use Rattle.std.specs.Prelude.{◌≡◌, ◌≢◌, ℕ, ◌+◌, ◌<◌, ◌≤◌, ◌↔◌, List, length, All, IfOk, OnOk, None};
+ghost use Rattle.std.specs.Prelude.{◌≡◌, ◌≢◌, ℕ, ◌+◌, ◌<◌, ◌≤◌, ◌↔◌, List, length, IfOk, OnOk, None};
 ghost use Rattle.std.specs.List.{range_with_len};
 ghost use Rattle.lalrpop_hir.specs.Language.{Matches};
 ghost use Rattle.lalrpop_hir.specs.Fault.{fault};
-ghost use Rattle.lalrpop_hir.specs.Runs.{IsScalar};
 ghost use Rattle.lalrpop_re.specs.Internal.Walks.{Star, Walk, Gains, IsWithout, IsWithin};
 ghost use Rattle.lalrpop_re.specs.Internal.Edges.{between, Exits, IsSound, AreSound};
 
@@ -17,7 +16,7 @@ pub(crate) fn tree_of(alloc: Global, edges: Vec<Edge>, count: usize) -> Result<H
     requires small { count ≤ 64 }
     requires within { IsWithin count (between edges.items) }
     requires sound { AreSound edges.items }
-    ensures words { IfOk result (λ tree. (w : List ℕ) → All IsScalar w
+    ensures words { IfOk result (λ tree. (w : List ℕ)
         → Matches tree w ↔ Walk (between edges.items) count (count + 1) w) }
     ensures sound { IfOk result (λ tree. fault tree ≡ None) }
 {

@@ -5,7 +5,7 @@ ghost use Rattle.std.specs.Str.{chars};
 ghost use Rattle.lalrpop_hir.specs.Range.{Covered};
 ghost use Rattle.lalrpop_hir.specs.Tree.{class, unicode};
 ghost use Rattle.lalrpop_hir.specs.Parts.{of_text};
-ghost use Rattle.lalrpop_hir.specs.Runs.{IsCanon};
+ghost use Rattle.lalrpop_hir.specs.Runs.{IsCanon, IsScalar};
 ghost use Rattle.lalrpop_re.specs.Internal.Walks.{Reads};
 ghost use Rattle.lalrpop_re.specs.Internal.Edges.{between, AreSound};
 ghost use Rattle.lalrpop_re.specs.Internal.Steps.{IsStep, Automaton, AddsSteps};
@@ -17,7 +17,8 @@ use std::alloc::{AllocError, Global};
 /// The edges of the automaton: those of the search, whose state `end.len()` is reached where the end is read, and one that
 /// leads along `start` from the state `end.len() + 1` into the search.
 pub(crate) fn automaton(alloc: Global, start: &str, end: &[char]) -> Result<Vec<Edge>, AllocError>
-    requires { length end.now ≤ 64 }
+    requires short { length end.now ≤ 64 }
+    requires scalars { All IsScalar end.now }
     ensures words { IfOk result (λ edges.
         Reads (Automaton (chars start.now) end.now) (between edges.items)) }
     ensures sound { IfOk result (λ edges. AreSound edges.items) }
@@ -52,7 +53,8 @@ fn add_steps(
     end: &[char],
     state: usize,
 ) -> Result<(), AllocError>
-    requires { state < length end.now }
+    requires there { state < length end.now }
+    requires scalars { All IsScalar end.now }
     ensures words { OnOk result
         (AddsSteps end.now state (between edges.old.items) (between edges.new.items)) }
     ensures sound { OnOk result (AreSound edges.old.items → AreSound edges.new.items) }

@@ -1,7 +1,7 @@
 -- Cases of specs/Position.antt.
 use Rattle.std.proofs.Common.{◌≡◌, ◌≢◌, ℕ, ◌∷◌, inl, inr, codes, refl, ap, arith}
 use Rattle.std.specs.Str.{chars}
-use Rattle.bajofeki_rules.specs.Position.{IsBefore, moved, place_after, position_of}
+use Rattle.bajofeki_rules.specs.Position.{Fits, IsBefore, moved, place_after, position_of}
 use Rattle.bajofeki_rules.specs.declared.position.Position.{Position}
 
 abbrev place : ℕ → ℕ → Position
@@ -47,6 +47,12 @@ in_a_later_line = refl
 behind_a_text : place_after (place 7 3) (codes "ab\ncd") ≡ place 8 3
 unfolding chars
 behind_a_text = refl
+
+the_last_place_fits : Fits (place 0xFFFF_FFFF_FFFF_FFFF 1)
+the_last_place_fits = (omega arith, omega arith)
+
+a_line_further_does_not : ¬ Fits (moved (place 0xFFFF_FFFF_FFFF_FFFF 1) (place 2 1))
+a_line_further_does_not f = omega (arith, f.0)
 
 an_earlier_line_comes_first : IsBefore (place 1 9) (place 2 1)
 an_earlier_line_comes_first = inl (omega arith)

@@ -1,7 +1,6 @@
 -- The automaton that searches for the first end.
-use Rattle.std.specs.Prelude.{◌≡◌, ℕ, ◌+◌, ◌<◌, ◌≤◌, ◌⊎◌, ◌↔◌, List, [], ◌∷◌, ◌++◌, length, take, All}
-use Rattle.lalrpop_hir.specs.Runs.{IsScalar}
-use Rattle.lalrpop_re.specs.Internal.Walks.{Graph}
+use Rattle.std.specs.Prelude.{◌≡◌, ℕ, ◌+◌, ◌<◌, ◌≤◌, ◌⊎◌, List, [], ◌∷◌, ◌++◌, length, take}
+use Rattle.lalrpop_re.specs.Internal.Walks.{Graph, Reads}
 
 -- the text ends with these characters
 abbrev pub EndsWith : List ℕ → List ℕ → Type 0
@@ -21,6 +20,6 @@ StepsTo end k q w = (c : ℕ) × ((w ≡ c ∷ []) × IsStep end k c q)
 abbrev pub Automaton : List ℕ → List ℕ → Graph
 Automaton start end p q w = ((p ≡ length end + 1) × (q ≡ 0) × (w ≡ start)) ⊎ ((p < length end) × StepsTo end p q w)
 
--- N has the words of M, and those of the steps from state k, as far as they are characters
+-- N reads the words of M, and those of the steps from state k
 abbrev pub AddsSteps : List ℕ → ℕ → Graph → Graph → Type 0
-AddsSteps end k M N = (p q : ℕ) (w : List ℕ) → All IsScalar w → N p q w ↔ (M p q w ⊎ ((p ≡ k) × StepsTo end k q w))
+AddsSteps end k M N = Reads (λ p q w. M p q w ⊎ ((p ≡ k) × StepsTo end k q w)) N

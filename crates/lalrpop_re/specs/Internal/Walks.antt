@@ -36,10 +36,10 @@ IsWithoutAfter E M k N = (p q : ℕ) (w : List ℕ) → N p q w ↔ ((p ≢ k) �
 abbrev pub IsWithout : Graph → ℕ → Graph → Type 0
 IsWithout M = IsWithoutAfter M M
 
--- the two have the same words of characters
+-- N has no words that M hasn't, and all words of characters that M has
 abbrev pub Reads : Graph → Graph → Type 0
-Reads M N = (p q : ℕ) (w : List ℕ) → All IsScalar w → N p q w ↔ M p q w
+Reads M N = (p q : ℕ) (w : List ℕ) → (N p q w → M p q w) × (All IsScalar w → M p q w → N p q w)
 
 -- all lead from state n + 1 or a state below n, to state n or a state below n
 abbrev pub IsWithin : ℕ → Graph → Type 0
-IsWithin n M = (p q : ℕ) (w : List ℕ) → All IsScalar w → M p q w → ((p ≡ n + 1) ⊎ (p < n)) × ((q ≡ n) ⊎ (q < n))
+IsWithin n M = (p q : ℕ) (w : List ℕ) → M p q w → ((p ≡ n + 1) ⊎ (p < n)) × ((q ≡ n) ⊎ (q < n))

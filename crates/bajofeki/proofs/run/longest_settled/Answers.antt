@@ -48,6 +48,9 @@ returns-clause-settled c = λ d ts ps walks h.
     (over_settles w d ts ps walks h text (drop run.end text) (chars (drop run.end text)) run.end over.0 c.utf8.text cut refl
     (subst (λ (p : ℕ). IsOver w p (chars (drop run.end text)) over.0) stand.reached over.1.1))
 
+pub returns-clause-stand : goal.returns-clause-stand
+returns-clause-stand c = c.match_at-longest.ensures.stand
+
 pub returns-clause-prefix : goal.returns-clause-prefix
 returns-clause-prefix c =
     let w = c.args.walker.now in

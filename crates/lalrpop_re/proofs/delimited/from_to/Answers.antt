@@ -1,13 +1,15 @@
-use Rattle.std.proofs.Common.{◌≡◌, ◌≢◌, false, eqb, List, ℕ, [], length, ap, sym, subst, ◌∙◌, rules, arith}
+use Rattle.std.proofs.Common.{◌≡◌, ◌≢◌, false, eqb, List, ℕ, [], length, All, ap, sym, subst, ◌∙◌, rules, arith}
 use Rattle.std.specs.Str.{chars}
 use Rattle.std.proofs.lemmas.Bool.{false≢true}
 use Rattle.std.proofs.lemmas.Bool.Decides.{Decides-eqb}
 use Rattle.std.proofs.lemmas.Str.{chars-nil, chars_from_encodes}
 use Rattle.std.proofs.lemmas.List.{nil_from_length}
+use Rattle.lalrpop_hir.specs.Runs.{IsScalar}
 use Rattle.lalrpop_re.specs.Internal.Walks.{IsWithin}
 use Rattle.lalrpop_re.specs.Internal.Edges.{between}
-use Rattle.lalrpop_re.proofs.Searching.{Matches-IsFromTo, some-character}
+use Rattle.lalrpop_re.proofs.Searching.{Matches-IsFromTo, only-IsFromTo, some-character}
 use Rattle.lalrpop_re.proofs.Rows.{automaton-within}
+use Rattle.lalrpop_re.proofs.UpToLaws.{characters_of_text}
 use Rattle.lalrpop_re.proofs.delimited.from_to.Goals as goal
 
 is_not_empty : (bs : List ℕ) → false ≡ eqb (length bs) 0 → bs ≢ []
@@ -19,12 +21,18 @@ returns-then-is_empty-clause-long c =
     let short : length (chars c.args.to.now) ≡ 0 = ap (λ l. length (chars l)) none ∙ ap length chars-nil in
     (λ e. absurd (cc), λ h. absurd (omega arith))
 
-pub automaton-requires : goal.automaton-requires
-automaton-requires c =
+pub automaton-requires-clause-short : goal.automaton-requires-clause-short
+automaton-requires-clause-short c =
     let to = c.args.to.now in
     let all : c.in_ok-end.end.items ≡ chars to = search (rules, chars_from_encodes) in
     let count : c.count.result ≡ length (chars to) = search (rules, chars_from_encodes) in
     omega (arith, ap length c.deref.ensures.value, ap length all, count)
+
+pub automaton-requires-clause-scalars : goal.automaton-requires-clause-scalars
+automaton-requires-clause-scalars c =
+    let to = c.args.to.now in
+    let all : c.in_ok-end.end.items ≡ chars to = search (rules, chars_from_encodes) in
+    subst (All IsScalar) (sym (c.deref.ensures.value ∙ all)) (characters_of_text to c.utf8.to)
 
 pub tree_of-requires-clause-small : goal.tree_of-requires-clause-small
 tree_of-requires-clause-small c =
@@ -46,3 +54,10 @@ returns-clause-tree c =
     let all : c.in_ok-end.end.items ≡ chars to = search (rules, chars_from_encodes) in
     let n : c.len.result ≡ length (chars to) = c.len.ensures ∙ (c.in_ok-end.end.ok.0 ∙ ap length all) in
     Matches-IsFromTo c.in_ok-tree.tree (chars c.args.from.now) (chars to) c.len.result (between c.in_ok-edges.edges.items) n (some-character to c.utf8.to (is_not_empty to c.if-is_empty.ensures)) (rw (c.deref.ensures.value ∙ all) at c.in_ok-edges.ensures.words) c.in_ok-tree.ensures.words
+
+pub returns-clause-only : goal.returns-clause-only
+returns-clause-only c =
+    let to = c.args.to.now in
+    let all : c.in_ok-end.end.items ≡ chars to = search (rules, chars_from_encodes) in
+    let n : c.len.result ≡ length (chars to) = c.len.ensures ∙ (c.in_ok-end.end.ok.0 ∙ ap length all) in
+    only-IsFromTo c.in_ok-tree.tree (chars c.args.from.now) (chars to) c.len.result (between c.in_ok-edges.edges.items) n (some-character to c.utf8.to (is_not_empty to c.if-is_empty.ensures)) (rw (c.deref.ensures.value ∙ all) at c.in_ok-edges.ensures.words) c.in_ok-tree.ensures.words

@@ -41,7 +41,7 @@ loop-i-preserved c =
 pub returns-clause-words : goal.returns-clause-words
 returns-clause-words c =
     let x = c.step-2.ensures in
-    all-steps c.args.end.now c.args.state c.loop-i.i _ _ _ c.step-2.result c.loop-i.ranges.items c.in_ok-others.field-0 c.requires (omega arith) x.from x.to x.tree c.in_ok-others.ensures c.in_ok-push-3.ensures.items c.loop-i.invariant.words c.loop-i.invariant.ranges
+    all-steps c.args.end.now c.args.state c.loop-i.i _ _ _ c.step-2.result c.loop-i.ranges.items c.in_ok-others.field-0 c.requires.there c.requires.scalars (omega arith) x.from x.to x.tree c.in_ok-others.ensures c.in_ok-push-3.ensures.items c.loop-i.invariant.words c.loop-i.invariant.ranges
 
 pub returns-clause-sound : goal.returns-clause-sound
 returns-clause-sound c = λ h. subst AreSound (sym c.in_ok-push-3.ensures.items) (All-push IsSound _ c.step-2.result (c.loop-i.invariant.sound h) (ap fault c.step-2.ensures.tree))

@@ -1,5 +1,5 @@
 use Rattle.std.proofs.Common.{◌≡◌, ℕ, List, ◌+◌, ◌-◌, take, drop, string_bytes, arith, refl, sym, ap, subst, ◌∙◌}
-use Rattle.std.specs.Prelude.{Some}
+use Rattle.std.specs.Prelude.{Option, Some, IfNone, false}
 use Rattle.std.specs.Str.{IsCharBoundary}
 use Rattle.std.proofs.lemmas.List.{drop-drop}
 use Rattle.std.proofs.lemmas.Option.{IfSome_then}
@@ -18,7 +18,7 @@ returns-in_default c =
     let left : c.range_from-rest.result.now ≡ drop i.given text = cc (c.range_from-rest.ensures.value, c.deref.ensures) in
     let held = held_back_here i.lexer.now (take (i.given - i.last) (drop i.last text)) (drop i.given text) c.range_from-rest.result.now i.at c.top-mode.result i.stack i.is_ended left c.top-mode.ensures.mode
     c.in_default.ensures.empty c.in_default.ensures.held in
-    record { gives = (c.self.view_is, subst (λ (s : Chunked). IsHeldBack s) c.self.view_is held) }
+    record { gives = (c.self.view_is, subst (λ (s : Chunked). IsHeldBack s) c.self.view_is held); fault = tt }
 
 pub invariant_of-self-2 : goal.invariant_of-self-2
 invariant_of-self-2 c =
@@ -53,4 +53,5 @@ returns c =
           c.is_skipped.ensures.skipped (i.at + f.size) last refl same c.in_ok-act_by.ensures.acted in
           subst (λ (s : Chunked). GivesFinal s (Some (item_by c.number_of.result c.is_skipped.result i.at slice))
           (record { rules = i.lexer.now; last = last; rest = drop (i.given + f.size) text; at = i.at + f.size; stack = c.act_by.new.stack; is_ended = i.is_ended })) c.self.view_is gives;
+      fault = subst (λ (o : Option ℕ). IfNone o (c.is_skipped.result ≡ false)) (sym c.number_of.ensures.same) c.is_skipped.ensures.fault;
     }
