@@ -11,17 +11,17 @@ from pathlib import Path
 TOP = Path(__file__).resolve().parent.parent
 # The programs as rt ci leaves them in out/, built by LLVM and by Rattle's own compiler.
 BUILDS = ("", ".by-rattle")
-# `wanted` is what is written, what is said on standard error, and the exit status.
-Row = namedtuple("Row", "command is_setup given wanted")
+# `mark` is what the command is marked with. `wanted` is what is written, what is said on standard error, and the exit status.
+Row = namedtuple("Row", "mark command given wanted")
 
 
 def rows(file):
-    for row in re.split(r"^(?=[$%] )", (TOP / "examples/sessions" / file).read_text(), flags=re.M)[1:]:
-        said = dict.fromkeys("$%<>!=#", "")
+    for row in re.split(r"^(?=[$%&] )", (TOP / "examples/sessions" / file).read_text(), flags=re.M)[1:]:
+        said = dict.fromkeys("$%&<>!=#", "")
         for mark, _, text in (it.partition(" ") for it in row.splitlines() if it):
             said[mark[0]] += text + "\n" * (mark in "<>!")
         given, out, message = (said[it].encode() for it in "<>!")
-        yield Row(said["$"] or said["%"], not said["$"], given, (out, message, int(said["="] or 0)))
+        yield Row(row[0], said[row[0]], given, (out, message, int(said["="] or 0)))
 
 
 @contextmanager
@@ -35,7 +35,7 @@ def folder(build):
 
 def ran(words, given, at, env, **more):
     """What a command comes to."""
-    done = subprocess.run(words, input=given, capture_output=True, cwd=at, env=env, timeout=120, **more)
+    done = subprocess.run(words, input=given, capture_output=True, cwd=at, env=env, timeout=300, **more)
     return done.stdout, done.stderr, done.returncode
 
 
