@@ -18,7 +18,7 @@
 
    Places and lengths are in bytes, rules are numbered from 0 in the order of their lines, lines and columns count from 1, and columns
    are in characters. Nothing here keeps a pointer to the file of rules. What only reads a lexer may be called by several threads at
-   once on one lexer; a cut is one thread's at a time, and a document and a stream stay on the thread that began them. */
+   once on one lexer; a cut, a document and a stream are one thread's at a time. */
 #ifndef BAJOFEKI_H
 #define BAJOFEKI_H
 #include <stdbool.h>
@@ -52,9 +52,10 @@ enum {
     BAJOFEKI_BAD_ARGUMENT = 10 /* by the second part of this file alone: a null pointer to something, or a length past PTRDIFF_MAX */
 };
 
-/* What became of the page of a text: the code of a page. */
+/* What became of the page of a text, or of a source file: the code of a page. */
 enum {
-    BAJOFEKI_SHOWN = 0,      /* there is a page */
+    BAJOFEKI_SHOWN = 0,      /* there is one */
+    BAJOFEKI_BAD_NAME = 1,   /* a name can't stand in the source file */
     BAJOFEKI_NOT_UTF8 = 3    /* the text isn't UTF-8; else BAJOFEKI_OUT_OF_MEMORY or BAJOFEKI_NO_LEXER */
 };
 
@@ -104,8 +105,8 @@ typedef struct {
 
 typedef struct {
     uint32_t code;
-    size_t count; /* so many pieces were written */
-    size_t end;   /* after them the next piece begins */
+    size_t count; /* how many pieces were written */
+    size_t end;   /* where the next piece begins */
 } bajofeki_cut_t;
 
 typedef struct {
@@ -116,7 +117,7 @@ typedef struct {
 
 typedef struct {
     uint32_t code;
-    size_t length; /* so many bytes the page has, whether or not they fit; 0 without a page */
+    size_t length; /* how many bytes the page has, whether or not they fit; 0 without a page */
 } bajofeki_page_t;
 
 typedef struct {
@@ -128,9 +129,9 @@ typedef struct {
    other numbers are 0. */
 typedef struct {
     uint32_t code;
-    size_t first;    /* so many pieces at the front stay */
-    size_t removed;  /* so many old ones after those are gone */
-    size_t inserted; /* so many came in their place; all others are the old ones, shifted */
+    size_t first;    /* how many pieces at the front stay */
+    size_t removed;  /* how many old ones after those are gone */
+    size_t inserted; /* how many came in their place; all others are the old ones, shifted */
     size_t start;    /* where the first piece that is gone, or came, begins */
     size_t old_end;  /* where the last one that is gone ended in the old text */
     size_t new_end;  /* where the last one that came ends in the new text */
@@ -138,7 +139,7 @@ typedef struct {
 
 typedef struct {
     uint32_t code;
-    size_t count; /* so many pieces */
+    size_t count; /* how many pieces there are, or were written */
 } bajofeki_count_t;
 
 /* 1. The library's own functions.
@@ -190,6 +191,12 @@ bajofeki_look_t bajofeki_lookahead(const bajofeki_lexer *lexer, size_t mode);
    lie deeper than for a cut. */
 bajofeki_page_t bajofeki_html(const bajofeki_lexer *lexer, const char *text, size_t length, char *out, size_t room);
 bajofeki_page_t bajofeki_ansi(const bajofeki_lexer *lexer, const char *text, size_t length, char *out, size_t room);
+
+/* Writes the lexer as one source file, as `tokens --emit` does: in C, where all names begin with the prefix, or in Rust. As many bytes of it
+   as the array takes, with no 0 after it. The code is BAJOFEKI_BAD_NAME if the prefix isn't an identifier of ASCII letters, digits and _; in
+   Rust, if the name of a rule begins with a digit, or is _, self, super, crate or Self. */
+bajofeki_page_t bajofeki_c_source(const bajofeki_lexer *lexer, const char *prefix, size_t length, char *out, size_t room);
+bajofeki_page_t bajofeki_rust_source(const bajofeki_lexer *lexer, char *out, size_t room);
 
 /* Gives a lexer's memory back. Its room stays in order: a later report says BAJOFEKI_FREED. */
 void bajofeki_free(bajofeki_lexer *lexer);
@@ -345,6 +352,26 @@ static inline bajofeki_page_t bajofeki_lexer_ansi(const bajofeki_lexer *lexer, c
         return page;
     }
     return bajofeki_ansi(lexer, length == 0 ? "" : text, length, is_bad || room == 0 ? none : out, is_bad ? 0 : room);
+}
+
+/* As bajofeki_c_source. With an `out` of NULL nothing is written. The code is BAJOFEKI_BAD_ARGUMENT too. */
+static inline bajofeki_page_t bajofeki_lexer_c_source(const bajofeki_lexer *lexer, const char *prefix, size_t length, char *out, size_t room) {
+    char none[1];
+    bajofeki_page_t page = {BAJOFEKI_NO_LEXER, 0};
+    bool is_bad = bajofeki_is_bad(out, room, 1);
+    if (lexer == NULL || bajofeki_is_bad(prefix, length, 1)) {
+        page.code = lexer == NULL ? BAJOFEKI_NO_LEXER : BAJOFEKI_BAD_ARGUMENT;
+        return page;
+    }
+    return bajofeki_c_source(lexer, length == 0 ? "" : prefix, length, is_bad || room == 0 ? none : out, is_bad ? 0 : room);
+}
+
+/* As bajofeki_rust_source. With an `out` of NULL nothing is written. */
+static inline bajofeki_page_t bajofeki_lexer_rust_source(const bajofeki_lexer *lexer, char *out, size_t room) {
+    char none[1];
+    bajofeki_page_t page = {BAJOFEKI_NO_LEXER, 0};
+    bool is_bad = bajofeki_is_bad(out, room, 1);
+    return lexer == NULL ? page : bajofeki_rust_source(lexer, is_bad || room == 0 ? none : out, is_bad ? 0 : room);
 }
 
 /* A text that is being cut. The lexer and the bytes stay the caller's, and last longer than it. It may be moved, but of two copies only

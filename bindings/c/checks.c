@@ -12,7 +12,7 @@ static void fail(int line, const char *fact) {
     exit(1);
 }
 
-static size_t granted = SIZE_MAX; /* so many further requests for memory */
+static size_t granted = SIZE_MAX; /* how many further requests for memory are granted */
 
 void *__real_malloc(size_t size);
 void *__wrap_malloc(size_t size);
@@ -41,6 +41,8 @@ static void check_no_lexer(void) {
     CHECK(bajofeki_lexer_modes(NULL) == 0 && bajofeki_lexer_lookahead(NULL, 0).code == BAJOFEKI_NO_LEXER);
     CHECK(bajofeki_lexer_html(NULL, "a", 1, NULL, 0).code == BAJOFEKI_NO_LEXER);
     CHECK(bajofeki_lexer_ansi(NULL, NULL, 0, NULL, 0).code == BAJOFEKI_NO_LEXER);
+    CHECK(bajofeki_lexer_c_source(NULL, "lex", 3, NULL, 0).code == BAJOFEKI_NO_LEXER);
+    CHECK(bajofeki_lexer_rust_source(NULL, NULL, 0).code == BAJOFEKI_NO_LEXER);
     CHECK(text.code == BAJOFEKI_NO_LEXER && bajofeki_text_next(&text, &piece, 1).code == BAJOFEKI_NO_LEXER);
     CHECK(bajofeki_text_place(&text, 1).line == 0 && bajofeki_text_place(NULL, 1).line == 0);
     CHECK(bajofeki_text_next(NULL, &piece, 1).code == BAJOFEKI_BAD_ARGUMENT);
@@ -99,6 +101,36 @@ static void check_pages(const bajofeki_lexer *lexer, const char *text, size_t le
     CHECK(bajofeki_lexer_html(lexer, NULL, 1, NULL, 0).code == BAJOFEKI_BAD_ARGUMENT);
     CHECK(bajofeki_lexer_lookahead(lexer, bajofeki_lexer_modes(lexer)).code == BAJOFEKI_NO_LEXER);
     CHECK(bajofeki_lexer_modes(lexer) > 0 && bajofeki_lexer_lookahead(lexer, 0).code <= BAJOFEKI_UNBOUNDED);
+}
+
+static bajofeki_page_t rust_source(const bajofeki_lexer *lexer, const char *prefix, size_t length, char *out, size_t room) {
+    CHECK(length == strlen(prefix));
+    return bajofeki_lexer_rust_source(lexer, out, room);
+}
+
+/* A source file in either language, into an array of just its size and into the half of one, and names that can't stand in it. */
+static void check_sources(void) {
+    static const char rules[] = "LET = 'let'\n", bad[] = "self = 'a'\n";
+    bajofeki_lexer *lexer = bajofeki_lexer_new(rules, strlen(rules)), *self = bajofeki_lexer_new(bad, strlen(bad));
+    for (int i = 0; i < 2; i++) {
+        bajofeki_page_t (*writes)(const bajofeki_lexer *, const char *, size_t, char *, size_t) = i ? rust_source : bajofeki_lexer_c_source;
+        bajofeki_page_t page = writes(lexer, "lex", 3, NULL, 0);
+        char *all = (char *)malloc(page.length), *part = (char *)malloc(page.length);
+        memset(part, '?', page.length);
+        CHECK(page.code == BAJOFEKI_SHOWN && writes(lexer, "lex", 3, all, page.length).length == page.length);
+        CHECK(writes(lexer, "lex", 3, part, page.length / 2).length == page.length);
+        CHECK(memcmp(all, part, page.length / 2) == 0 && part[page.length / 2] == '?');
+        CHECK(memcmp(all, i ? "// A lexer in Rust" : "/* lex: a lexer in C", 18) == 0);
+        free(all);
+        free(part);
+    }
+    CHECK(bajofeki_lexer_c_source(lexer, "1ex", 3, NULL, 0).code == BAJOFEKI_BAD_NAME);
+    CHECK(bajofeki_lexer_c_source(lexer, NULL, 0, NULL, 0).code == BAJOFEKI_BAD_NAME);
+    CHECK(bajofeki_lexer_c_source(lexer, "\xFF", 1, NULL, 0).code == BAJOFEKI_BAD_NAME);
+    CHECK(bajofeki_lexer_c_source(lexer, NULL, 1, NULL, 0).code == BAJOFEKI_BAD_ARGUMENT);
+    CHECK(bajofeki_lexer_rust_source(self, NULL, 0).code == BAJOFEKI_BAD_NAME);
+    bajofeki_lexer_delete(lexer);
+    bajofeki_lexer_delete(self);
 }
 
 static void check_arguments(const bajofeki_lexer *lexer) {
@@ -224,8 +256,14 @@ static bool check_refused(const bajofeki_lexer *lexer, size_t n) {
     return is_cut || is_found || is_fed || is_next;
 }
 
+static bool is_source_refused(const bajofeki_lexer *lexer, size_t n) {
+    granted = n;
+    return is_refused(bajofeki_lexer_c_source(lexer, "lex", 3, NULL, 0).code);
+}
+
 static void check_memory(void) {
     bajofeki_lexer *lexer = NULL;
+    size_t refused = 0;
     for (size_t n = 0; bajofeki_lexer_report(lexer).code != BAJOFEKI_BUILT; n++) {
         CHECK(lexer == NULL || bajofeki_lexer_report(lexer).code == BAJOFEKI_OUT_OF_MEMORY);
         bajofeki_lexer_delete(lexer);
@@ -233,6 +271,10 @@ static void check_memory(void) {
         lexer = bajofeki_lexer_new(three, strlen(three));
         granted = SIZE_MAX;
     }
+    while (is_source_refused(lexer, refused)) {
+        refused++;
+    }
+    CHECK(refused > 0);
     CHECK(check_refused(lexer, 0));
     for (size_t n = 1; check_refused(lexer, n); n++) {
     }
@@ -243,7 +285,7 @@ static uint64_t sum_more(uint64_t sum, bajofeki_piece_t piece) {
     return sum * 1000003 + piece.kind + 3 * piece.rule + 977 * (piece.start + piece.length);
 }
 
-/* Cuts bytes by arrays of so many places, and gives a sum over their pieces, and how many bytes are left where it goes too deep. */
+/* Cuts bytes by arrays of `room` places. Gives a sum over their pieces, and how many bytes are left where modes lie too deep. */
 static uint64_t sum_of(const bajofeki_lexer *lexer, const char *bytes, size_t length, size_t room, size_t *left) {
     bajofeki_piece_t *pieces = (bajofeki_piece_t *)malloc(room * sizeof *pieces);
     bajofeki_text text = bajofeki_text_begin(lexer, bytes, length);
@@ -269,8 +311,8 @@ static uint64_t sum_of(const bajofeki_lexer *lexer, const char *bytes, size_t le
     return sum;
 }
 
-/* The same sum over the pieces of a document that is put together from its end, and of a stream that is fed so many bytes at a time; 0 of what is
-   no UTF-8. */
+/* The same sum over the pieces of a document that is put together from its end, and of a stream that is fed `most` bytes at a time; 0 if the
+   bytes aren't UTF-8. */
 static uint64_t sum_of_document(const bajofeki_lexer *lexer, const char *bytes, size_t length, size_t most) {
     bajofeki_document *document = bajofeki_document_new(lexer);
     bajofeki_piece_t *pieces = NULL;
@@ -370,6 +412,7 @@ static void check_files(const char *rules_path, const char *text_path, uint32_t 
 int main(int count, char **words) {
     check_no_lexer();
     check_rules();
+    check_sources();
     check_document();
     check_stream();
     check_memory();

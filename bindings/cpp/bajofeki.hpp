@@ -9,8 +9,8 @@
 
    Texts are any bytes, but those of a document and of a stream are UTF-8. Places and lengths are in bytes, rules are numbered from 0, lines
    and columns count from 1, and columns are in characters. All types here but records can be moved and not copied. A lexer may be moved, and
-   outlives what is made of it; many threads may read it at once, the pieces of a text are one thread's at a time, and a document and a stream
-   stay on the thread that began them. A string_view that is given lies in the text that was passed, in the lexer, or where its call says.
+   outlives what is made of it. Many threads may read it at once; the pieces of a text, a document and a stream are one thread's at a time. A
+   string_view that is given lies in the text that was passed, in the lexer, or where its call says.
 
    Memory that is refused is a std::bad_alloc, and what was moved away a std::logic_error. */
 #ifndef BAJOFEKI_HPP
@@ -222,6 +222,16 @@ public:
     std::string html(std::string_view text) const { return page(bajofeki_lexer_html, text); }
     std::string ansi(std::string_view text) const { return page(bajofeki_lexer_ansi, text); }
 
+    /* The lexer as one source file, in C with names that begin with the prefix, or in Rust. Throws std::invalid_argument if a name can't stand
+       in it: a prefix that isn't an identifier, or in Rust a rule's name that begins with a digit, or is _, self, super, crate or Self. */
+    std::string c_source(std::string_view prefix = "lex") const { return page(bajofeki_lexer_c_source, prefix); }
+    std::string rust_source() const {
+        auto writes = [](const bajofeki_lexer *it, const char *, std::size_t, char *out, std::size_t room) {
+            return bajofeki_lexer_rust_source(it, out, room);
+        };
+        return page(writes, {});
+    }
+
 private:
     detail::handle<bajofeki_lexer> lexer_;
     std::vector<std::string> names_;
@@ -239,6 +249,9 @@ private:
     std::string page(F shows, std::string_view text) const {
         bajofeki_page_t page = shows(lexer_.get(), text.data(), text.size(), nullptr, 0);
         std::string out(page.length, ' ');
+        if (page.code == BAJOFEKI_BAD_NAME) {
+            throw std::invalid_argument("bajofeki: a name can't stand in the source file");
+        }
         detail::check(page.code);
         detail::check(shows(lexer_.get(), text.data(), text.size(), out.data(), out.size()).code);
         return out;

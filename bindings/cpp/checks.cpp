@@ -50,6 +50,8 @@ void check_lexer() {
     CHECK(none.begin() == none.end() && moved.rules().size() == 3 && moved.rules()[2] == "SPACE" && moved.skips(2) && !moved.skips(0));
     CHECK(moved.modes() == 1 && moved.lookahead(0) == std::size_t{0} && moved.html("let") == "<span class=\"LET\">let</span>");
     CHECK(moved.ansi("let") != "" && throws<std::invalid_argument>([&] { moved.html("\xFF"); }));
+    CHECK(moved.c_source().substr(0, 8) == "/* lex: " && moved.rust_source().substr(0, 3) == "// ");
+    CHECK(throws<std::invalid_argument>([&] { moved.c_source("1ex"); }) && throws<std::logic_error>([&] { lexer.rust_source(); }));
     CHECK(throws<std::out_of_range>([&] { moved.lookahead(1); }) && throws<std::logic_error>([&] { lexer.pieces("a"); }));
     CHECK(throws<std::logic_error>([&] { lexer.html("a"); }) && throws<std::logic_error>([&] { bajofeki::document(std::move(lexer)); }));
     CHECK(!std::is_copy_constructible_v<bajofeki::lexer> && std::is_nothrow_move_constructible_v<bajofeki::lexer>);

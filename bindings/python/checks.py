@@ -7,6 +7,7 @@
 (12000, 12000, 12000)
 """
 import random
+from concurrent.futures import ThreadPoolExecutor
 
 from bajofeki import Columns, Document, Lexer, Places, Stream
 
@@ -53,6 +54,8 @@ def check(chance):
         assert old[: change.first] == pieces[: change.first] and len(pieces) == len(old) - change.removed + change.inserted
         for at, piece in enumerate(pieces):
             assert document.piece_at(piece.end - 1) == piece and document.pieces(piece.start, piece.end + 1) == pieces[at : at + 2]
+    with ThreadPoolExecutor(1) as other:
+        assert other.submit(document.pieces).result() == pieces
     for same in (bytearray(data), memoryview(data), memoryview(b"?" + data)[1:], data.decode()):
         assert list(LEXER.arrays(same).ends) == [piece.end for piece in pieces]
     assert [(item.start_byte, item.text) for item in LEXER.items(data.decode())] == [(piece.start, piece.text) for piece in pieces]

@@ -18,11 +18,11 @@ from ctypes import create_string_buffer
 from typing import NamedTuple, Optional, Tuple, Union
 
 from . import _library
-from ._library import LIBRARY, Piece as _Piece, Room as _Room, Text as _Text, name as _name, word as _word
+from ._library import LIBRARY, Piece as _Piece, Room as _Room, Text as _Text, name as _name, word as _word, written as _written
 
 __all__ = "Arrays Change Columns Document Item Kind Lexer NotUtf8Error Piece Place Places Rule RulesError RulesErrorKind Stream".split()
 
-_DONE, _BAD_RANGE, _FULL, _NOT_UTF8, _TOO_DEEP, _TOO_LARGE, _OUT_OF_MEMORY, _ENDED = 0, 1, 2, 3, 4, 6, 7, 8
+_DONE, _BAD_RANGE, _BAD_NAME, _FULL, _NOT_UTF8, _TOO_DEEP, _TOO_LARGE, _OUT_OF_MEMORY, _ENDED = 0, 1, 1, 2, 3, 4, 6, 7, 8
 _ROOM = 4096
 _PIECES = struct.Struct("@INNN")
 _made = tuple.__new__
@@ -250,7 +250,7 @@ class Lexer:
     def __init__(self, rules):
         if hasattr(self, "_room"):
             raise TypeError("a lexer is built once")
-        rules = rules.encode("utf-8", "surrogatepass") if isinstance(rules, str) else bytes(memoryview(rules))
+        rules = _bytes_of(rules)
         room = _Room(LIBRARY.bajofeki_lexer_size(), lambda it: LIBRARY.bajofeki_build(it, rules, len(rules)), LIBRARY.bajofeki_free)
         report = LIBRARY.bajofeki_report(room.words)
         if report.code:
@@ -337,17 +337,34 @@ class Lexer:
 
     def _page(self, shows, text):
         text = _Text(text.encode() if isinstance(text, str) else text)
-        length = 2 * text.size
-        while True:
-            page = create_string_buffer(length or 1)
-            told = shows(self._room.words, text.at, text.size, page, length)
-            if told.code == _NOT_UTF8:
-                raise NotUtf8Error(_first_bad(text.data))
-            if told.code:
-                raise MemoryError("no memory for the page of a text")
-            if told.length <= length:
-                return page.raw[: told.length].decode()
-            length = told.length
+        code, page = _written(lambda out, room: shows(self._room.words, text.at, text.size, out, room), 2 * text.size)
+        if code == _NOT_UTF8:
+            raise NotUtf8Error(_first_bad(text.data))
+        if code:
+            raise MemoryError("no memory for the page of a text")
+        return page
+
+    def c_source(self, prefix="lex"):
+        """The lexer as one source file in C, as `tokens --emit c` writes it, with names that begin with the prefix. ValueError if that isn't
+        an identifier of ASCII letters, digits and _.
+
+        >>> "mine_kind_A" in Lexer("A = 'a'\\n").c_source("mine")
+        True
+        """
+        data = _bytes_of(prefix)
+        call = lambda out, room: LIBRARY.bajofeki_c_source(self._room.words, data, len(data), out, room)
+        return _source(call, f"{prefix!r} isn't an identifier")
+
+    def rust_source(self):
+        """The lexer as one source file in Rust, as `tokens --emit rust` writes it. ValueError if the name of a rule begins with a digit, or
+        is _, self, super, crate or Self.
+
+        >>> Lexer("self = 'a'\\n").rust_source()
+        Traceback (most recent call last):
+        ValueError: the name of a rule can't be that of a variant
+        """
+        call = lambda out, room: LIBRARY.bajofeki_rust_source(self._room.words, out, room)
+        return _source(call, "the name of a rule can't be that of a variant")
 
     @property
     def modes(self):
@@ -392,6 +409,21 @@ class Lexer:
             cutter.end()
 
 
+def _bytes_of(text):
+    """A copy of the bytes of a buffer, or of a str those of its UTF-8."""
+    return text.encode("utf-8", "surrogatepass") if isinstance(text, str) else bytes(memoryview(text))
+
+
+def _source(call, reason):
+    """The source file that a call writes; ValueError if a name can't stand in it."""
+    code, source = _written(call, 1 << 16)
+    if code == _BAD_NAME:
+        raise ValueError(reason)
+    if code:
+        raise MemoryError("no memory for a source file")
+    return source
+
+
 def _rebuilt(kind, rules):
     """A lexer of this class, of a pickle or a copy."""
     lexer = kind.__new__(kind)
@@ -402,9 +434,9 @@ def _rebuilt(kind, rules):
 class Change(NamedTuple):
     """What an edit changed of the pieces of a document. Pieces are numbered from 0, and offsets are in bytes."""
 
-    first: int  # so many pieces at the front stay
-    removed: int  # so many old ones after those are gone
-    inserted: int  # so many came in their place; all others are the old ones, shifted
+    first: int  # how many pieces at the front stay
+    removed: int  # how many old ones after those are gone
+    inserted: int  # how many came in their place; all others are the old ones, shifted
     start: int  # where the first piece that is gone, or came, begins
     old_end: int  # where the last one that is gone ended in the old text
     new_end: int  # where the last one that came ends in the new text
@@ -433,23 +465,26 @@ def _str(data):
 
 
 class _Open:
-    """What a lexer has begun. It's closed by `close()` or the end of a `with`, and gives an error then. It stays on the thread that began
-    it: RuntimeError on another."""
+    """What a lexer has begun. It's closed by `close()` or the end of a `with`, and gives an error then. It is one thread's at a time:
+    RuntimeError while another is in a call of it."""
 
     def __init__(self, lexer, what):
         if hasattr(self, "_room"):
             raise TypeError("it is begun once")
         size, begin, end = (getattr(LIBRARY, f"bajofeki_{what}_{it}") for it in ("size", "begin", "end"))
         self._room = _Room(size(), lambda it: begin(lexer._room.words, it), end, lexer._room)
-        self._lexer, self._thread = lexer, threading.get_ident()
+        self._lexer, self._lock = lexer, threading.Lock()
 
-    def _own(self):
-        if threading.get_ident() != self._thread:
-            raise RuntimeError("it stays on the thread that began it")
-        return self._room
+    def _alone(self, call):
+        if not self._lock.acquire(blocking=False):
+            raise RuntimeError("another thread is in a call of it")
+        try:
+            return call()
+        finally:
+            self._lock.release()
 
     def _call(self, function, *words):
-        return function(self._own().words, *words)
+        return self._alone(lambda: function(self._room.words, *words))
 
     @property
     def lexer(self):
@@ -458,7 +493,7 @@ class _Open:
 
     def close(self):
         """Gives its memory back. A second call does nothing."""
-        self._own().end()
+        self._alone(self._room.end)
 
     def __enter__(self):
         return self
@@ -590,7 +625,7 @@ class Stream(_Open):
             raise NotUtf8Error(self._bad)
 
     def __iter__(self):
-        while self._own() and (self._given or self._takes_pieces()):
+        while self._given or self._takes_pieces():
             yield self._given.popleft()
 
     def _takes_pieces(self):

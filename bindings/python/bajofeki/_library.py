@@ -54,6 +54,8 @@ FUNCTIONS = {
     "bajofeki_lookahead": (Look, [c_void_p, c_size_t]),
     "bajofeki_html": (Page, [c_void_p, c_void_p, c_size_t, c_char_p, c_size_t]),
     "bajofeki_ansi": (Page, [c_void_p, c_void_p, c_size_t, c_char_p, c_size_t]),
+    "bajofeki_c_source": (Page, [c_void_p, c_void_p, c_size_t, c_char_p, c_size_t]),
+    "bajofeki_rust_source": (Page, [c_void_p, c_char_p, c_size_t]),
     "bajofeki_free": (None, [c_void_p]),
     "bajofeki_begin": (c_uint32, [c_void_p, c_void_p, c_size_t]),
     "bajofeki_cut": (Cut, [c_void_p, c_void_p, c_void_p, c_size_t, POINTER(Piece), c_size_t]),
@@ -129,7 +131,7 @@ class Text:
 
 
 class Room:
-    """Room of so many bytes, in which something of the library's begins. That ends by `end`, at the latest once nothing holds the room, and
+    """Room of `size` bytes, in which something of the library's begins. That ends by `end`, at the latest once nothing holds the room, and
     what lies in the rooms below stays until then. Python calls `end` before any `__del__` of a cycle that the room is in."""
 
     def __init__(self, size, begin, end, *below):
@@ -145,6 +147,16 @@ class Room:
         if not self.end.alive:
             raise ValueError("it was closed")
         return self._words
+
+
+def written(call, room):
+    """The code of a call, and what it writes into an array, which grows until all of it fits."""
+    while True:
+        out = create_string_buffer(room or 1)
+        page = call(out, room)
+        if page.length <= room:
+            return page.code, out.raw[: page.length].decode()
+        room = page.length
 
 
 def word(lexer):

@@ -39,13 +39,6 @@ pub struct Change {
 /// assert_eq!(document.offset(place, Columns::Utf16), Some(4));
 /// # Ok::<(), Box<dyn std::error::Error>>(())
 /// ```
-///
-/// It stays on the thread that began it.
-///
-/// ```compile_fail,E0277
-/// fn is_sent<T: Send>() {}
-/// is_sent::<bajofeki::Document>();
-/// ```
 pub struct Document<'a> {
     lexer: &'a Lexer,
     text: String,

@@ -1,12 +1,14 @@
 //! The library's functions, and safe calls of them. Their contracts are in `crates/bajofeki_c/src/lib.rt`.
 
+use std::cell::Cell;
 use std::ffi::c_void;
 use std::fmt;
 use std::marker::PhantomData;
 
-/// The codes of a cut, an edit or chunks.
+/// The codes of a cut, an edit, chunks or a page.
 pub const DONE: u32 = 0;
 pub const BAD_RANGE: u32 = 1;
+pub const BAD_NAME: u32 = 1;
 pub const FULL: u32 = 2;
 pub const NOT_UTF8: u32 = 3;
 pub const TOO_DEEP: u32 = 4;
@@ -112,6 +114,14 @@ extern "C" {
         out: *mut u8,
         room: usize,
     ) -> Page;
+    fn bajofeki_c_source(
+        lexer: *const c_void,
+        prefix: *const u8,
+        length: usize,
+        out: *mut u8,
+        room: usize,
+    ) -> Page;
+    fn bajofeki_rust_source(lexer: *const c_void, out: *mut u8, room: usize) -> Page;
     fn bajofeki_free(lexer: *mut c_void);
     fn bajofeki_begin(lexer: *const c_void, cutter: *mut c_void, size: usize) -> u32;
     fn bajofeki_cut(
@@ -261,31 +271,46 @@ impl Held {
 
     /// The page of a text: as HTML, or in colours for a terminal.
     pub fn page(&self, text: &[u8], markup: Markup) -> Result<Vec<u8>, u32> {
-        let mut all = vec![0; 2 * text.len()];
-        loop {
+        written(2 * text.len(), |out, room| {
             // SAFETY: as for `word`; the text's slice is what it is.
-            let page = unsafe {
+            unsafe {
                 let shows = match markup {
                     Markup::Html => bajofeki_html,
                     Markup::Ansi => bajofeki_ansi,
                 };
-                shows(
-                    self.at(),
-                    text.as_ptr(),
-                    text.len(),
-                    all.as_mut_ptr(),
-                    all.len(),
-                )
-            };
-            if page.code != 0 {
-                return Err(page.code);
+                shows(self.at(), text.as_ptr(), text.len(), out, room)
             }
-            if page.length <= all.len() {
-                all.truncate(page.length);
-                return Ok(all);
-            }
-            all.resize(page.length, 0);
+        })
+    }
+
+    pub fn c_source(&self, prefix: &[u8]) -> Result<Vec<u8>, u32> {
+        written(1 << 16, |out, room| {
+            // SAFETY: as for `page`.
+            unsafe { bajofeki_c_source(self.at(), prefix.as_ptr(), prefix.len(), out, room) }
+        })
+    }
+
+    pub fn rust_source(&self) -> Result<Vec<u8>, u32> {
+        written(1 << 16, |out, room| {
+            // SAFETY: as for `page`.
+            unsafe { bajofeki_rust_source(self.at(), out, room) }
+        })
+    }
+}
+
+/// What a call writes into an array, which grows until all of it fits; or the call's code.
+fn written(room: usize, call: impl Fn(*mut u8, usize) -> Page) -> Result<Vec<u8>, u32> {
+    let mut all = vec![0; room];
+    loop {
+        let page = call(all.as_mut_ptr(), all.len());
+        if page.code != 0 {
+            return Err(page.code);
         }
+        if page.length <= all.len() {
+            all.truncate(page.length);
+            return Ok(all);
+        }
+        all.resize(page.length, 0);
     }
 }
 
@@ -343,10 +368,10 @@ impl fmt::Debug for Cutting<'_> {
     }
 }
 
-/// A text that is edited. It borrows the lexer. By the header it stays on its thread, so it is neither `Send` nor `Sync`.
+/// A text that is edited. It borrows the lexer. By the header it is one thread's at a time, so it is `Send` and not `Sync`.
 pub struct HeldDocument<'a> {
     begun: Begun,
-    lexer: PhantomData<(&'a Held, *const ())>,
+    lexer: PhantomData<(&'a Held, Cell<()>)>,
 }
 
 impl<'a> HeldDocument<'a> {
@@ -385,10 +410,10 @@ impl<'a> HeldDocument<'a> {
     }
 }
 
-/// A text that comes in chunks. It borrows the lexer, and stays on its thread too.
+/// A text that comes in chunks. It borrows the lexer, and is one thread's at a time too.
 pub struct HeldStream<'a> {
     begun: Begun,
-    lexer: PhantomData<(&'a Held, *const ())>,
+    lexer: PhantomData<(&'a Held, Cell<()>)>,
 }
 
 impl<'a> HeldStream<'a> {

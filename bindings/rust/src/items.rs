@@ -8,7 +8,7 @@ use std::ops::Range;
 use crate::ffi::{Cutting, Piece, DONE, FULL, TOO_DEEP};
 use crate::Lexer;
 
-/// So many pieces are asked for at once.
+/// How many pieces are asked for at once.
 pub(crate) const ROOM: usize = 512;
 
 /// What an item is.

@@ -41,7 +41,7 @@ pub use text_error::TextError;
 use std::alloc::{handle_alloc_error, Layout};
 use std::fmt;
 
-use ffi::Markup;
+use ffi::{Markup, BAD_NAME};
 
 /// A rule of a lexer.
 #[derive(Clone, Debug, PartialEq, Eq)]
@@ -55,7 +55,7 @@ pub struct Rule {
 /// How many characters after a token can leave open whether a longer one comes.
 #[derive(Clone, Copy, Debug, PartialEq, Eq)]
 pub enum Lookahead {
-    /// So many, and no more.
+    /// At most this many.
     AtMost(usize),
     /// Any number of them.
     Unbounded,
@@ -194,6 +194,31 @@ impl Lexer {
         }
     }
 
+    /// The lexer as one source file in C, as `tokens --emit c` writes it: C99 and C++, with names that begin with the prefix. `None` if
+    /// that isn't an identifier of ASCII letters, digits and `_`. Memory is as for [`Lexer::items`].
+    ///
+    /// ```
+    /// let lexer = bajofeki::Lexer::new("A = 'a'\n")?;
+    /// assert!(lexer.c_source("lex").unwrap().contains("lex_kind_A"));
+    /// assert_eq!(lexer.c_source("1ex"), None);
+    /// # Ok::<(), bajofeki::RulesError>(())
+    /// ```
+    pub fn c_source(&self, prefix: &str) -> Option<String> {
+        source(self.held.c_source(prefix.as_bytes()))
+    }
+
+    /// The lexer as one source file in Rust, as `tokens --emit rust` writes it. `None` if the name of a rule begins with a digit, or is
+    /// `_`, `self`, `super`, `crate` or `Self`. Memory is as for [`Lexer::items`].
+    ///
+    /// ```
+    /// let lexer = bajofeki::Lexer::new("A = 'a'\n")?;
+    /// assert!(lexer.rust_source().unwrap().contains("pub enum Kind"));
+    /// # Ok::<(), bajofeki::RulesError>(())
+    /// ```
+    pub fn rust_source(&self) -> Option<String> {
+        source(self.held.rust_source())
+    }
+
     /// How many modes there are. They are numbered from 0, in the order in which the file first names them.
     pub fn modes(&self) -> usize {
         self.held.modes()
@@ -227,13 +252,25 @@ impl fmt::Debug for Lexer {
     }
 }
 
+/// A source file, unless a name can't stand in it.
+fn source(found: Result<Vec<u8>, u32>) -> Option<String> {
+    match found {
+        Ok(source) => Some(String::from_utf8_lossy(&source).into_owned()),
+        Err(BAD_NAME) => None,
+        Err(_) => handle_alloc_error(Layout::new::<u8>()),
+    }
+}
+
 /// The version of the library's functions, which is the first number of the crate's.
 pub fn version() -> u32 {
     ffi::version()
 }
 
-// Lexers, items and errors go from thread to thread, and threads may share them.
+// Lexers, items and errors go from thread to thread, and threads may share them. Documents and streams go, and are one thread's at a time.
 const _: () = {
+    const fn is_sent<T: Send>() {}
+    is_sent::<Document<'_>>();
+    is_sent::<Stream<'_>>();
     const fn is_shared<T: Send + Sync>() {}
     is_shared::<Lexer>();
     is_shared::<Items<'_>>();

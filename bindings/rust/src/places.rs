@@ -23,7 +23,7 @@ pub enum Columns {
 }
 
 impl Columns {
-    /// How many columns the end of a text takes that stands in one line and has so many characters.
+    /// How many columns the end of a text takes that stands in one line and has this many characters.
     pub(crate) fn width(self, line: &[u8], characters: usize) -> usize {
         // So begins each character that is two units in UTF-16.
         let is_pair = |byte: &&u8| (0xF0..0xF5).contains(*byte);

@@ -22,13 +22,6 @@ use crate::{Item, Lexer, TextError};
 /// assert_eq!(stream.pieces()?[0].text, "xy");
 /// # Ok::<(), Box<dyn std::error::Error>>(())
 /// ```
-///
-/// It stays on the thread that began it.
-///
-/// ```compile_fail,E0277
-/// fn is_sent<T: Send>() {}
-/// is_sent::<bajofeki::Stream>();
-/// ```
 pub struct Stream<'a> {
     lexer: &'a Lexer,
     held: HeldStream<'a>,
@@ -36,7 +29,7 @@ pub struct Stream<'a> {
     text: Vec<u8>,
     at: usize,
     pieces: Vec<Piece>,
-    /// So many of `pieces` were given.
+    /// How many of `pieces` were given.
     given: usize,
     /// The offset of the first byte that isn't UTF-8.
     bad: Option<usize>,

@@ -77,7 +77,8 @@ fn documents() -> Result<(), Box<dyn std::error::Error>> {
             }
             assert_eq!(document.text(), text);
         }
-        check_places(&document);
+        // It may go to another thread.
+        std::thread::scope(|scope| scope.spawn(move || check_places(&document)).join()).unwrap();
     }
     Ok(())
 }

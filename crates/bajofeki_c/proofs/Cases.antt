@@ -4,6 +4,7 @@ mod Report
 mod Rules
 mod Look
 mod Page
+mod Source
 mod Cutting
 mod Cut
 mod Place

@@ -5,3 +5,5 @@ pub mod Pages
 pub mod Writing
 pub mod Giving
 pub mod Lives
+pub mod Names
+pub mod Threads

@@ -3,6 +3,7 @@ pub mod Report
 pub mod Rules
 pub mod Look
 pub mod Page
+pub mod Source
 pub mod Cutting
 pub mod Cut
 pub mod Document

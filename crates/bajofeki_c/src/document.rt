@@ -39,10 +39,10 @@ pub struct Edit {
 #[repr(C)]
 #[derive(Copy, Clone)]
 pub struct Count {
-    /// 0: so many. 2: so many were written, and the array is full. 6: 2^64 bytes have come. 7: a request for memory was refused. 9:
+    /// 0: these are all. 2: the array is full, and there may be more. 6: 2^64 bytes have come. 7: a request for memory was refused. 9:
     /// there is no lexer.
     pub code: u32,
-    /// The number.
+    /// How many pieces there are, or were written.
     pub count: usize,
 }
 

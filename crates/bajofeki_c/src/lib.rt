@@ -31,6 +31,7 @@ mod page;
 mod position;
 mod report;
 mod rules;
+mod source;
 mod stream;
 
 ghost use Rattle.std.specs.Prelude.{◌≡◌, drop};
@@ -42,6 +43,7 @@ ghost use Rattle.bajofeki_c.specs.Page.{IsShown};
 ghost use Rattle.bajofeki_c.specs.Place.{place_in};
 ghost use Rattle.bajofeki_c.specs.Report.{report};
 ghost use Rattle.bajofeki_c.specs.Room.{Cutter, View, begun_at, cut_at, cutting_align, cutting_at, cutting_size, freed_at, held_align, held_at, held_size, made_at, room_for_cutting, room_for_held, seen_at};
+ghost use Rattle.bajofeki_c.specs.Source.{IsCSource, IsRustSource};
 ghost use Rattle.bajofeki_c.specs.Lent.{HeldDocument, HeldStream, document_align, document_at, document_begun_at, document_ended_at, document_size, edited_at, fed_at, given_at, room_for_document, room_for_stream, stream_align, stream_at, stream_begun_at, stream_ended_at, stream_size};
 ghost use Rattle.bajofeki_c.specs.Rules.{IsWritten, count_of, name_of, skips_rule, word_of};
 ghost use Rattle.bajofeki_c.specs.declared.cutting.Cutting.{Cutting as CuttingValue};
@@ -66,6 +68,7 @@ pub use page::{Markup, Page, ansi_into, html_into};
 pub use position::{Place, place_of};
 pub use report::{Report, report_of};
 pub use rules::{is_rule_skipped, name_into, rule_count, word_into};
+pub use source::{c_source_into, rust_source_into};
 use std::alloc::Global;
 pub use stream::{OpenStream, Stream, begin_stream, feed_stream, let_stream_go, next_in_stream};
 
@@ -93,6 +96,17 @@ fn errors_may_go_to_threads() {
 
 fn cuts_may_go_to_threads() {
     may_go_to_threads::<Cutting>();
+}
+
+// What sees a lexer as long as it lies there may go to another thread.
+fn may_go_to_a_thread<T: Send>() {}
+
+fn documents_may_go_to_a_thread<'rules>() {
+    may_go_to_a_thread::<Document<'rules>>();
+}
+
+fn streams_may_go_to_a_thread<'rules>() {
+    may_go_to_a_thread::<Stream<'rules>>();
 }
 
 /// The bytes that a lexer takes. They lie at a multiple of 8.
@@ -231,6 +245,37 @@ pub unsafe extern "C" fn bajofeki_ansi(
     ensures shown { IsShown view.held Ansi text.now out.old result out.new }
 {
     ansi_into(&*(lexer as *const Held), alloc, text, out)
+}
+
+/// Writes the lexer as a source file in C whose names begin with the prefix, as many bytes as fit, and says how many there are.
+#[unsafe(no_mangle)]
+pub unsafe extern "C" fn bajofeki_c_source(
+    lexer: *const u8,
+    alloc: Global,
+    prefix: &[u8],
+    out: &mut [u8],
+) -> Page
+    ghost view: { View }
+    requires* seen { sem 𝓛 (seen_at lexer view) }
+    ensures* seen { sem 𝓛 (seen_at lexer view) }
+    ensures source { IsCSource view.held prefix.now out.old result out.new }
+{
+    c_source_into(&*(lexer as *const Held), alloc, prefix, out)
+}
+
+/// The same in Rust.
+#[unsafe(no_mangle)]
+pub unsafe extern "C" fn bajofeki_rust_source(
+    lexer: *const u8,
+    alloc: Global,
+    out: &mut [u8],
+) -> Page
+    ghost view: { View }
+    requires* seen { sem 𝓛 (seen_at lexer view) }
+    ensures* seen { sem 𝓛 (seen_at lexer view) }
+    ensures source { IsRustSource view.held out.old result out.new }
+{
+    rust_source_into(&*(lexer as *const Held), alloc, out)
 }
 
 /// Gives the memory of a lexer back. What lies there then says so, and owns nothing, so the room can be given back as it is.

@@ -19,13 +19,14 @@ pub enum Markup {
     Ansi,
 }
 
-/// What became of the page of a text.
+/// What became of the page of a text, or of a source file.
 #[repr(C)]
 #[derive(Copy, Clone)]
 pub struct Page {
-    /// 0: there is a page. 3: the text isn't UTF-8. 7: a request for memory was refused. 9: there is no lexer.
+    /// 0: there is one. 1: a name can't stand in the source file. 3: the text isn't UTF-8. 7: a request for memory was refused. 9:
+    /// there is no lexer.
     pub code: u32,
-    /// The number of bytes of the page (0).
+    /// The number of its bytes (0).
     pub length: usize,
 }
 

@@ -73,7 +73,7 @@ bajofeki_edit_spec 𝓤 𝓛 𝓜 𝓡 wired =
     use1 𝓛 (later (some (λ (γ : ℕ). ‵ ((MutRef (named 0) ν row).own_val (record { ref_ptr = (b, o); ghost_name = γ; now = h.document }) (vptr b o ∷ []))
     ⊛ ‵ (flent ν (Body (mem row) b o γ)))))
     (lends_ref 𝓛 row (named 0) ν h.document b o) $ await ! tt $ pick ! (λ γ. split ! $
-    -- [the `&mut`; the right to the document; that of the lexer; the way back; its token; the handle, the range and the bytes; the tokens]
+    -- [the `&mut`; the right to the document; the lexer's token; the way back; the call's token; the handle, the range and the bytes; the tokens]
     let lent : MutBor Document = record { ref_ptr = (b, o); ghost_name = γ; now = h.document } in
     let z : G.Ghost = (((ν, (κ, κs)), (Share.right q, (Share.left q, qs)), (meet_⊑_right (α ∷ []) κ, tt), (lent, a.1), (vptr b o ∷ [], (heap_val ∷ [], (uint_vals w64 from, (uint_vals w64 to, (shr_slice_vals s, tt)))))), tt) in
     move ! (0 ∷ 5 ∷ []) $ fjoin ! $ move ! (2 ∷ 5 ∷ []) $ join ! $ move ! (4 ∷ 0 ∷ []) $ join ! $ join ! $

@@ -67,7 +67,7 @@ bajofeki_feed_spec 𝓤 𝓛 𝓜 𝓡 wired =
     use1 𝓛 (later (some (λ (γ : ℕ). ‵ ((MutRef (named 0) ν row).own_val (record { ref_ptr = (b, o); ghost_name = γ; now = h.stream }) (vptr b o ∷ []))
     ⊛ ‵ (flent ν (Body (mem row) b o γ)))))
     (lends_ref 𝓛 row (named 0) ν h.stream b o) $ await ! tt $ pick ! (λ γ. split ! $
-    -- [the `&mut`; the right to the stream; that of the lexer; the way back; its token; what is passed on; the tokens]
+    -- [the `&mut`; the right to the stream; the lexer's token; the way back; the call's token; what is passed on; the tokens]
     let lent : MutBor Stream = record { ref_ptr = (b, o); ghost_name = γ; now = h.stream } in
     let z : G.Ghost = (((ν, (κ, κs)), (Share.right q, (Share.left q, qs)), (meet_⊑_right (α ∷ []) κ, tt), (lent, a.1), (vptr b o ∷ [], (heap_val ∷ [], (shr_slice_vals s, (bool_vals last, tt))))), tt) in
     move ! (0 ∷ 5 ∷ []) $ fjoin ! $ move ! (2 ∷ 5 ∷ []) $ join ! $ move ! (4 ∷ 0 ∷ []) $ join ! $ join ! $

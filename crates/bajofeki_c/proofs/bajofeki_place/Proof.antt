@@ -50,7 +50,7 @@ bajofeki_place_spec 𝓤 𝓛 𝓜 𝓡 wired =
     ⊛ ‵ (flent ν (part_at row full_share h.document b o))) ⊛ ‵ (flft ν (Share.right q))))
     (lends_shr 𝓛 row (named 0) ν full_share h.document b o row.lives ((document_laws.the_row_laws at).shares 𝓛 h.document) ((ν, Share.right q) ∷ []) (lives_within ν κ (meet_⊑_right (α ∷ []) κ)) (Incl-refl ν)) $
     await ! tt $ split ! $ split ! $
-    -- [the `&`; the right to the document; its token; that of the lexer; the way back; what is passed on; the tokens]
+    -- [the `&`; the right to the document; the call's token; the lexer's token; the way back; what is passed on; the tokens]
     let z : G.Ghost = (((ν, (κ, tt)), (Share.right q, (Share.left q, tt)), (meet_⊑_right (α ∷ []) κ, tt), (record { ref_ptr = (b, o); now = h.document }, a.1), (vptr b o ∷ [], (uint_vals w64 at_byte, tt))), tt) in
     move ! (0 ∷ 5 ∷ []) $ fjoin ! $ move ! (3 ∷ 5 ∷ []) $ join ! $ move ! (3 ∷ 0 ∷ []) $ join ! $ join ! $
     nothing ! $ move ! (1 ∷ 0 ∷ []) $ use2 𝓛 (raw (G.pre z)) (id⊢ 𝓤 _) $
