@@ -10,4 +10,5 @@ mod PartLines
 mod LeftModes
 mod GoesOn
 mod OutsideClass
+mod PassedEnd
 mod Warnings

@@ -7,11 +7,12 @@ use Rattle.std.proofs.lemmas.Option.{slice_get_within, get_or_from_slice_get}
 use Rattle.lalrpop_rule_file.specs.declared.file.RuleFile.{RuleFile}
 use Rattle.lalrpop_rule_file.specs.declared.file_rule.FileRule.{FileRule}
 use Rattle.lalrpop_rule_file.specs.declared.warning.Warning.{Warning}
-use Rattle.lalrpop_rule_file.specs.declared.warning.Warning.TheVariants.{NoRules, PartUnused, ModeNotEntered, LiteralEmpty, ModeNotLeft, TextGoesOn, ClassOutside}
-use Rattle.lalrpop_rule_file.specs.Warnings.{AreInOrder, ComesBefore, HasText, IsEmptyLiteral, IsEnteredMode, IsNeverLeft, IsUnused, IsWarning, kind_of, number_of}
+use Rattle.lalrpop_rule_file.specs.declared.warning.Warning.TheVariants.{NoRules, PartUnused, ModeNotEntered, ModeNotLeft, TextGoesOn, ClassOutside, EndPassed}
+use Rattle.lalrpop_rule_file.specs.Warnings.{AreInOrder, ComesBefore, HasText, IsEnteredMode, IsNeverLeft, IsUnused, IsWarning, kind_of, number_of}
 use Rattle.lalrpop_rule_file.specs.LeftModes.{CanBeLeft}
 use Rattle.lalrpop_rule_file.specs.GoesOn.{IsGoingOn}
 use Rattle.lalrpop_rule_file.specs.OutsideClass.{HasOutsideClass}
+use Rattle.lalrpop_rule_file.specs.PassedEnd.{HasPassedEnd}
 use Rattle.bajofeki_rules.specs.declared.rule_text.RuleText.{RuleText}
 use Rattle.lalrpop_rule_file.specs.Internal.Found.{HasFound, IsBelow}
 
@@ -20,19 +21,19 @@ abbrev warning_of : ℕ → ℕ → Warning
 warning_of zero n = NoRules
 warning_of (suc zero) n = PartUnused n
 warning_of (suc (suc zero)) n = ModeNotEntered n
-warning_of (suc (suc (suc zero))) n = LiteralEmpty n
-warning_of (suc (suc (suc (suc zero)))) n = ModeNotLeft n
-warning_of (suc (suc (suc (suc (suc zero))))) n = TextGoesOn n
-warning_of (suc (suc (suc (suc (suc (suc k)))))) n = ClassOutside n
+warning_of (suc (suc (suc zero))) n = ModeNotLeft n
+warning_of (suc (suc (suc (suc zero)))) n = TextGoesOn n
+warning_of (suc (suc (suc (suc (suc zero))))) n = ClassOutside n
+warning_of (suc (suc (suc (suc (suc (suc k)))))) n = EndPassed n
 
 is_of : (w : Warning) → warning_of (kind_of w) (number_of w) ≡ w
 is_of NoRules = refl
 is_of (PartUnused i) = refl
 is_of (ModeNotEntered m) = refl
-is_of (LiteralEmpty i) = refl
 is_of (ModeNotLeft m) = refl
 is_of (TextGoesOn i) = refl
 is_of (ClassOutside i) = refl
+is_of (EndPassed i) = refl
 
 of_kind : (w : Warning) (kind : ℕ) → kind_of w ≡ kind → w ≡ warning_of kind (number_of w)
 of_kind w kind is = sym (is_of w) ∙ ap (λ (k : ℕ). warning_of k (number_of w)) is
@@ -147,10 +148,10 @@ found_all file ws h w = (λ has. ((h.those w).0 has).0, λ is. (h.those w).1 (is
     below NoRules = inl (omega arith)
     below (PartUnused i) = inl (omega arith)
     below (ModeNotEntered m) = inl (omega arith)
-    below (LiteralEmpty i) = inl (omega arith)
     below (ModeNotLeft m) = inl (omega arith)
     below (TextGoesOn i) = inl (omega arith)
     below (ClassOutside i) = inl (omega arith)
+    below (EndPassed i) = inl (omega arith)
 
 -- ---- where the warnings of a kind end
 
@@ -169,20 +170,20 @@ parts_end file k all w kind is = omega (arith, all, part_within file (number_of 
 pub modes_end : (file : RuleFile) (k : ℕ) → length file.modes.items ≤ k → (w : Warning) → kind_of w ≡ 2 → IsWarning file w → number_of w < k
 modes_end file k all w kind is = omega (arith, all, (told file w 2 kind is).0)
 
-pub left_modes_end : (file : RuleFile) (k : ℕ) → length file.modes.items ≤ k → (w : Warning) → kind_of w ≡ 4 → IsWarning file w → number_of w < k
-left_modes_end file k all w kind is = omega (arith, all, (told file w 4 kind is).1.0)
+pub left_modes_end : (file : RuleFile) (k : ℕ) → length file.modes.items ≤ k → (w : Warning) → kind_of w ≡ 3 → IsWarning file w → number_of w < k
+left_modes_end file k all w kind is = omega (arith, all, (told file w 3 kind is).1.0)
 
 rule_within : (is : RuleText → Type 0) (file : RuleFile) (i : ℕ) → HasText is file i → i < length file.rules.items
 rule_within is file i (r, (at, so)) = slice_get_within file.rules.items i r at
 
-pub literals_end : (file : RuleFile) (k : ℕ) → length file.rules.items ≤ k → (w : Warning) → kind_of w ≡ 3 → IsWarning file w → number_of w < k
-literals_end file k all w kind is = omega (arith, all, rule_within IsEmptyLiteral file (number_of w) (told file w 3 kind is))
+pub texts_end : (file : RuleFile) (k : ℕ) → length file.rules.items ≤ k → (w : Warning) → kind_of w ≡ 4 → IsWarning file w → number_of w < k
+texts_end file k all w kind is = omega (arith, all, rule_within IsGoingOn file (number_of w) (told file w 4 kind is))
 
-pub texts_end : (file : RuleFile) (k : ℕ) → length file.rules.items ≤ k → (w : Warning) → kind_of w ≡ 5 → IsWarning file w → number_of w < k
-texts_end file k all w kind is = omega (arith, all, rule_within IsGoingOn file (number_of w) (told file w 5 kind is))
+pub classes_end : (file : RuleFile) (k : ℕ) → length file.rules.items ≤ k → (w : Warning) → kind_of w ≡ 5 → IsWarning file w → number_of w < k
+classes_end file k all w kind is = omega (arith, all, rule_within HasOutsideClass file (number_of w) (told file w 5 kind is))
 
-pub classes_end : (file : RuleFile) (k : ℕ) → length file.rules.items ≤ k → (w : Warning) → kind_of w ≡ 6 → IsWarning file w → number_of w < k
-classes_end file k all w kind is = omega (arith, all, rule_within HasOutsideClass file (number_of w) (told file w 6 kind is))
+pub ends_end : (file : RuleFile) (k : ℕ) → length file.rules.items ≤ k → (w : Warning) → kind_of w ≡ 6 → IsWarning file w → number_of w < k
+ends_end file k all w kind is = omega (arith, all, rule_within HasPassedEnd file (number_of w) (told file w 6 kind is))
 
 -- ---- modes that are never left
 

@@ -35,6 +35,7 @@ pub mod UsedParts
 pub mod Elements
 pub mod EarlyEnds
 pub mod ClassLaws
+pub mod EndLaws
 pub mod FoundWarnings
 -- a file without sections, actions and parts
 pub mod PlainLaws

@@ -3,16 +3,17 @@ use Rattle.std.proofs.Common.{◌≡◌, ◌≢◌, ℕ, ◌+◌, ◌-◌, ◌�
 use Rattle.std.specs.Str.{IsUtf8}
 use Rattle.bajofeki_rules.specs.Position.{position_of}
 use Rattle.std.specs.Char.{is_ascii_digit}
-use Rattle.lalrpop_rule_file.specs.Words.{begins}
+use Rattle.lalrpop_rule_file.specs.Words.{IsSpan, begins}
 use Rattle.lalrpop_rule_file.specs.RuleLine.{Part, Start, Listing, Starred, Headed, Named, Entering, Equals, InAnyCase, From, Unjoined, Defining, Defines, Defined, Open, Closed, Reads, Section, WrittenPart, WrittenRule, IsPartLine, IsRule, IsSection}
 use Rattle.lalrpop_rule_file.specs.FileModes.{Said, Nothing, Heading, Define, Rule}
 use Rattle.lalrpop_rule_file.specs.RuleFault.{StopsBefore, fault_at}
-use Rattle.lalrpop_rule_file.specs.RuleFile.{IsBlankOrComment, IsLineFault, LineSays, Says, without_return}
+use Rattle.lalrpop_rule_file.specs.RuleFile.{IsBlankOrComment, IsLineFault, IsTextLine, LineSays, Says, is_no_return, without_return}
 use Rattle.lalrpop_rule_file.specs.declared.error.LineFault.{LineFault}
-use Rattle.lalrpop_rule_file.specs.declared.error.LineFault.TheVariants.{NotUtf8, NoName, NoMode, NoBracket, AfterSection, NoEquals, PrecedenceTooLarge, NoText, NoPattern, NoLiteral, NoFrom, NoTo, NotClosed}
+use Rattle.lalrpop_rule_file.specs.declared.error.LineFault.TheVariants.{NotUtf8, CarriageReturn, NoName, NoMode, NoBracket, AfterSection, NoEquals, PrecedenceTooLarge, NoText, NoPattern, NoLiteral, NoFrom, NoTo, NotClosed}
 use Rattle.lalrpop_rule_file.specs.Internal.Stops.{IsStopped, IsUnread}
 use Rattle.lalrpop_rule_file.specs.declared.stop.Unread.{Unread}
 use Rattle.lalrpop_rule_file.specs.declared.stop.Unread.TheVariants.{Stopped, OutOfMemory}
+use Rattle.lalrpop_rule_file.proofs.Spans.{IsSpan-unique, nothing_left}
 use Rattle.lalrpop_rule_file.proofs.Stopping.{Ends, behind_front, ends_reads}
 use Rattle.lalrpop_rule_file.proofs.Lexemes.{IsStuck, Reads-unique, end_is_stuck, part_is_stuck, section_is_stuck}
 
@@ -71,35 +72,35 @@ unread_says_neither line OutOfMemory some stops is = absurd is
 
 -- ---- the column
 
-no_bytes_fault : (p : Part) (rest : List ℕ) → fault_at p rest ≢ Some NotUtf8
-no_bytes_fault Start rest e = absurd (cc)
-no_bytes_fault (Listing []) rest e = absurd (cc)
-no_bytes_fault (Listing (mode ∷ modes)) rest e = absurd (cc)
-no_bytes_fault Starred rest e = absurd (cc)
-no_bytes_fault (Headed section) [] e = absurd (cc)
-no_bytes_fault (Headed section) (b ∷ rest) e = absurd (cc)
-no_bytes_fault (Named head) rest e = absurd (cc)
-no_bytes_fault (Entering head entry) rest e = absurd (cc)
-no_bytes_fault (Equals head None) rest e = by (begins is_ascii_digit rest) refl
+no_text_fault : (p : Part) (rest : List ℕ) → (fault_at p rest ≢ Some NotUtf8) × (fault_at p rest ≢ Some CarriageReturn)
+no_text_fault Start rest = (λ e. absurd (cc), λ e. absurd (cc))
+no_text_fault (Listing []) rest = (λ e. absurd (cc), λ e. absurd (cc))
+no_text_fault (Listing (mode ∷ modes)) rest = (λ e. absurd (cc), λ e. absurd (cc))
+no_text_fault Starred rest = (λ e. absurd (cc), λ e. absurd (cc))
+no_text_fault (Headed section) [] = (λ e. absurd (cc), λ e. absurd (cc))
+no_text_fault (Headed section) (b ∷ rest) = (λ e. absurd (cc), λ e. absurd (cc))
+no_text_fault (Named head) rest = (λ e. absurd (cc), λ e. absurd (cc))
+no_text_fault (Entering head entry) rest = (λ e. absurd (cc), λ e. absurd (cc))
+no_text_fault (Equals head None) rest = by (begins is_ascii_digit rest) refl
   where
-    by : (b : Bool) → begins is_ascii_digit rest ≡ b → ⊥
-    by true h = absurd (cc)
-    by false h = absurd (cc)
-no_bytes_fault (Equals head (Some n)) rest e = absurd (cc)
-no_bytes_fault (InAnyCase head written) rest e = absurd (cc)
-no_bytes_fault (From head written) rest e = absurd (cc)
-no_bytes_fault Unjoined rest e = absurd (cc)
-no_bytes_fault (Defining name) rest e = absurd (cc)
-no_bytes_fault (Defines name) rest e = absurd (cc)
-no_bytes_fault (Defined part) [] e = absurd (cc)
-no_bytes_fault (Defined part) (b ∷ rest) e = absurd (cc)
-no_bytes_fault Open rest e = absurd (cc)
-no_bytes_fault (Closed rule) [] e = absurd (cc)
-no_bytes_fault (Closed rule) (b ∷ rest) e = absurd (cc)
+    by : (b : Bool) → begins is_ascii_digit rest ≡ b → (fault_at (Equals head None) rest ≢ Some NotUtf8) × (fault_at (Equals head None) rest ≢ Some CarriageReturn)
+    by true h = (λ e. absurd (cc), λ e. absurd (cc))
+    by false h = (λ e. absurd (cc), λ e. absurd (cc))
+no_text_fault (Equals head (Some n)) rest = (λ e. absurd (cc), λ e. absurd (cc))
+no_text_fault (InAnyCase head written) rest = (λ e. absurd (cc), λ e. absurd (cc))
+no_text_fault (From head written) rest = (λ e. absurd (cc), λ e. absurd (cc))
+no_text_fault Unjoined rest = (λ e. absurd (cc), λ e. absurd (cc))
+no_text_fault (Defining name) rest = (λ e. absurd (cc), λ e. absurd (cc))
+no_text_fault (Defines name) rest = (λ e. absurd (cc), λ e. absurd (cc))
+no_text_fault (Defined part) [] = (λ e. absurd (cc), λ e. absurd (cc))
+no_text_fault (Defined part) (b ∷ rest) = (λ e. absurd (cc), λ e. absurd (cc))
+no_text_fault Open rest = (λ e. absurd (cc), λ e. absurd (cc))
+no_text_fault (Closed rule) [] = (λ e. absurd (cc), λ e. absurd (cc))
+no_text_fault (Closed rule) (b ∷ rest) = (λ e. absurd (cc), λ e. absurd (cc))
 
-pub fault_of_line : (line rest content : List ℕ) (column : ℕ) (fault : LineFault) → IsUtf8 line → content ≡ without_return line → StopsBefore Start content rest fault
+pub fault_of_line : (line rest content : List ℕ) (column : ℕ) (fault : LineFault) → IsTextLine line → content ≡ without_return line → StopsBefore Start content rest fault
     → column ≡ (position_of content (length content - length rest)).column → IsLineFault line column fault
-fault_of_line line rest content column fault utf8 is stops at =
+fault_of_line line rest content column fault text is stops at =
     let end : Ends content rest = ends_reads stops.reads in
     let place : column ≡ (position_of content (length end.0)).column = at ∙ ap (λ (n : ℕ). (position_of content n).column) (behind_front end.0 rest content end.1) in
     by fault (subst (λ (c : List ℕ). StopsBefore Start c rest fault) is stops)
@@ -107,45 +108,48 @@ fault_of_line line rest content column fault utf8 is stops at =
   where
     by : (f : LineFault) → StopsBefore Start (without_return line) rest f → without_return line ≡ (ends_reads stops.reads).0 ++ rest
         → column ≡ (position_of (without_return line) (length (ends_reads stops.reads).0)).column → IsLineFault line column f
-    by NotUtf8 s parts place = absurd (no_bytes_fault s.part rest s.is_fault)
-    by NoName s parts place = (utf8, (_, (rest, (parts, (place, s)))))
-    by NoMode s parts place = (utf8, (_, (rest, (parts, (place, s)))))
-    by NoBracket s parts place = (utf8, (_, (rest, (parts, (place, s)))))
-    by AfterSection s parts place = (utf8, (_, (rest, (parts, (place, s)))))
-    by NoEquals s parts place = (utf8, (_, (rest, (parts, (place, s)))))
-    by PrecedenceTooLarge s parts place = (utf8, (_, (rest, (parts, (place, s)))))
-    by NoText s parts place = (utf8, (_, (rest, (parts, (place, s)))))
-    by NoPattern s parts place = (utf8, (_, (rest, (parts, (place, s)))))
-    by NoLiteral s parts place = (utf8, (_, (rest, (parts, (place, s)))))
-    by NoFrom s parts place = (utf8, (_, (rest, (parts, (place, s)))))
-    by NoTo s parts place = (utf8, (_, (rest, (parts, (place, s)))))
-    by NotClosed s parts place = (utf8, (_, (rest, (parts, (place, s)))))
+    by NotUtf8 s parts place = absurd ((no_text_fault s.part rest).0 s.is_fault)
+    by CarriageReturn s parts place = absurd ((no_text_fault s.part rest).1 s.is_fault)
+    by NoName s parts place = (text, (_, (rest, (parts, (place, s)))))
+    by NoMode s parts place = (text, (_, (rest, (parts, (place, s)))))
+    by NoBracket s parts place = (text, (_, (rest, (parts, (place, s)))))
+    by AfterSection s parts place = (text, (_, (rest, (parts, (place, s)))))
+    by NoEquals s parts place = (text, (_, (rest, (parts, (place, s)))))
+    by PrecedenceTooLarge s parts place = (text, (_, (rest, (parts, (place, s)))))
+    by NoText s parts place = (text, (_, (rest, (parts, (place, s)))))
+    by NoPattern s parts place = (text, (_, (rest, (parts, (place, s)))))
+    by NoLiteral s parts place = (text, (_, (rest, (parts, (place, s)))))
+    by NoFrom s parts place = (text, (_, (rest, (parts, (place, s)))))
+    by NoTo s parts place = (text, (_, (rest, (parts, (place, s)))))
+    by NotClosed s parts place = (text, (_, (rest, (parts, (place, s)))))
 
 abbrev pub IsPlaced : List ℕ → ℕ → LineFault → Type 0
 IsPlaced line column fault =
-    IsUtf8 line × ((front : List ℕ) × ((rest : List ℕ) × ((without_return line ≡ front ++ rest)
+    IsTextLine line × ((front : List ℕ) × ((rest : List ℕ) × ((without_return line ≡ front ++ rest)
     × ((column ≡ (position_of (without_return line) (length front)).column) × StopsBefore Start (without_return line) rest fault))))
 
 abbrev pub WhereLine : List ℕ → ℕ → LineFault → Type 0
-WhereLine line column fault = ((fault ≡ NotUtf8) × IsLineFault line column NotUtf8) ⊎ IsPlaced line column fault
+WhereLine line column fault =
+    ((fault ≡ NotUtf8) × IsLineFault line column NotUtf8) ⊎ (((fault ≡ CarriageReturn) × IsLineFault line column CarriageReturn) ⊎ IsPlaced line column fault)
 
 pub where_line : (line : List ℕ) (column : ℕ) (fault : LineFault) → IsLineFault line column fault → WhereLine line column fault
 where_line line column NotUtf8 h = inl (refl, h)
-where_line line column NoName h = inr h
-where_line line column NoMode h = inr h
-where_line line column NoBracket h = inr h
-where_line line column AfterSection h = inr h
-where_line line column NoEquals h = inr h
-where_line line column PrecedenceTooLarge h = inr h
-where_line line column NoText h = inr h
-where_line line column NoPattern h = inr h
-where_line line column NoLiteral h = inr h
-where_line line column NoFrom h = inr h
-where_line line column NoTo h = inr h
-where_line line column NotClosed h = inr h
+where_line line column CarriageReturn h = inr (inl (refl, h))
+where_line line column NoName h = inr (inr h)
+where_line line column NoMode h = inr (inr h)
+where_line line column NoBracket h = inr (inr h)
+where_line line column AfterSection h = inr (inr h)
+where_line line column NoEquals h = inr (inr h)
+where_line line column PrecedenceTooLarge h = inr (inr h)
+where_line line column NoText h = inr (inr h)
+where_line line column NoPattern h = inr (inr h)
+where_line line column NoLiteral h = inr (inr h)
+where_line line column NoFrom h = inr (inr h)
+where_line line column NoTo h = inr (inr h)
+where_line line column NotClosed h = inr (inr h)
 
 both_placed : (line : List ℕ) (m n : ℕ) (f g : LineFault) → IsPlaced line m f → IsPlaced line n g → (m ≡ n) × (f ≡ g)
-both_placed line m n f g (utf8, (front, (rest, (parts, (column, stops))))) (is_utf8, (lead, (other, (own, (place, ends))))) =
+both_placed line m n f g (text, (front, (rest, (parts, (column, stops))))) (is_text, (lead, (other, (own, (place, ends))))) =
     let content : List ℕ = without_return line in
     let same = StopsBefore-unique Start content rest other f g stops ends in
     let total : length front + length rest ≡ length lead + length other = sym (length-append front rest) ∙ ap length (sym parts ∙ own) ∙ length-append lead other in
@@ -153,16 +157,42 @@ both_placed line m n f g (utf8, (front, (rest, (parts, (column, stops))))) (is_u
     let fronts : length front ≡ length lead = omega (arith, total, tails) in
     (column ∙ ap (λ (k : ℕ). (position_of content k).column) fronts ∙ sym place, same.1)
 
+both_returns : (line : List ℕ) (m n : ℕ) → IsLineFault line m CarriageReturn → IsLineFault line n CarriageReturn → m ≡ n
+both_returns line m n (utf8, (front, (rest, (span, column)))) (is_utf8, (lead, (other, (own, place)))) =
+    let content : List ℕ = without_return line in
+    column ∙ ap (λ (x : List ℕ). (position_of content (length x)).column) (IsSpan-unique is_no_return content front (13 ∷ rest) lead (13 ∷ other) span own).0 ∙ sym place
+
+-- a line with such a return isn't text
+not_text : (line front rest : List ℕ) → IsSpan is_no_return (without_return line) front (13 ∷ rest) → ¬ IsTextLine line
+not_text line front rest span text = let none : length (13 ∷ rest) ≡ 0 = nothing_left is_no_return (without_return line) front (13 ∷ rest) span text.1 in omega (arith, none)
+
+no_text : (line : List ℕ) (n : ℕ) → IsLineFault line n CarriageReturn → ¬ IsTextLine line
+no_text line n (utf8, (front, (rest, (span, column)))) text = not_text line front rest span text
+
 -- what is wrong with a line is one, in one column
 pub IsLineFault-unique : (line : List ℕ) (m n : ℕ) (f g : LineFault) → IsLineFault line m f → IsLineFault line n g → (m ≡ n) × (f ≡ g)
 IsLineFault-unique line m n f g a b = by (where_line line m f a) (where_line line n g b)
   where
     by : WhereLine line m f → WhereLine line n g → (m ≡ n) × (f ≡ g)
     by (inl x) (inl y) = (x.1.1 ∙ sym y.1.1, x.0 ∙ sym y.0)
-    by (inl x) (inr y) = absurd (x.1.0 y.0)
-    by (inr x) (inl y) = absurd (y.1.0 x.0)
-    by (inr x) (inr y) = both_placed line m n f g x y
+    by (inl x) (inr (inl y)) = absurd (x.1.0 y.1.0)
+    by (inl x) (inr (inr y)) = absurd (x.1.0 y.0.0)
+    by (inr (inl x)) (inl y) = absurd (y.1.0 x.1.0)
+    by (inr (inl x)) (inr (inl y)) = (both_returns line m n x.1 y.1, x.0 ∙ sym y.0)
+    by (inr (inl x)) (inr (inr y)) = absurd (no_text line m x.1 y.0)
+    by (inr (inr x)) (inl y) = absurd (y.1.0 x.0.0)
+    by (inr (inr x)) (inr (inl y)) = absurd (no_text line n y.1 x.0)
+    by (inr (inr x)) (inr (inr y)) = both_placed line m n f g x y
 
 -- what no text of a line says the line doesn't say
 pub says_nothing_else : (line content : List ℕ) → content ≡ without_return line → ((said : Said) → ¬ Says content said) → (said : Said) → ¬ LineSays line said
 says_nothing_else line content is none said says = none said (subst (λ (x : List ℕ). Says x said) (sym is) says.1)
+
+-- a carriage return before its end
+pub return_inside : (line content front rest : List ℕ) (column : ℕ) → IsUtf8 line → content ≡ without_return line → IsSpan is_no_return content front (13 ∷ rest) → column ≡ (position_of content (length front)).column
+    → ((said : Said) → ¬ LineSays line said) × IsLineFault line column CarriageReturn
+return_inside line content front rest column utf8 is span place =
+    let own = subst (λ (x : List ℕ). IsSpan is_no_return x front (13 ∷ rest)) is span in (
+      λ said says. not_text line front rest own says.0,
+      (utf8, (front, (rest, (own, place ∙ ap (λ (x : List ℕ). (position_of x (length front)).column) is)))),
+    )

@@ -9,6 +9,7 @@ pub mod PartLines
 pub mod LeftModes
 pub mod GoesOn
 pub mod OutsideClass
+pub mod PassedEnd
 pub mod Warnings
 -- used by proofs only
 pub mod Internal

@@ -5,7 +5,7 @@ use Rattle.std.specs.Char.{is_ascii_digit}
 use Rattle.lalrpop_rule_file.specs.Words.{begins}
 use Rattle.lalrpop_rule_file.specs.RuleLine.{Part, Start, Listing, Starred, Headed, Named, Entering, Equals, InAnyCase, From, Unjoined, Defining, Defines, Defined, Open, Closed, Lexeme, Reads}
 use Rattle.lalrpop_rule_file.specs.declared.error.LineFault.{LineFault}
-use Rattle.lalrpop_rule_file.specs.declared.error.LineFault.TheVariants.{NotUtf8, NoName, NoMode, NoBracket, AfterSection, NoEquals, PrecedenceTooLarge, NoText, NoPattern, NoLiteral, NoFrom, NoTo, NotClosed}
+use Rattle.lalrpop_rule_file.specs.declared.error.LineFault.TheVariants.{NotUtf8, CarriageReturn, NoName, NoMode, NoBracket, AfterSection, NoEquals, PrecedenceTooLarge, NoText, NoPattern, NoLiteral, NoFrom, NoTo, NotClosed}
 
 -- what is wrong if no lexeme follows this part, before this rest; nothing at the end of a section, a part or a rule
 abbrev pub fault_at : Part → List ℕ → Option LineFault
@@ -41,6 +41,7 @@ pub record StopsBefore (from : Part) (text rest : List ℕ) (fault : LineFault) 
 
 abbrev pub reason_of : LineFault → List ℕ
 reason_of NotUtf8 = codes "this isn't UTF-8"
+reason_of CarriageReturn = codes "this carriage return ends no line: a line ends with a line feed, or with a carriage return and a line feed"
 reason_of NoName =
     codes "a line is a rule, as NAME = 'TEXT' or NAME = /PATTERN/, a section, as [A], or a comment, as # TEXT; a name has ASCII letters, digits and `_`, and doesn't begin with a digit"
 reason_of NoMode = codes "the name of a mode is missing: ASCII letters, digits and `_`, not a digit first; in a section `[*]` is every mode"

@@ -1,12 +1,12 @@
 -- cases: proofs/Cases/RuleFile.antt
 -- What the lines of a file of rules say.
-use Rattle.std.specs.Prelude.{◌≡◌, ◌⊎◌, ℕ, zero, suc, ◌+◌, ◌-◌, ◌==◌, if◌then◌else◌, true, Some, List, [], ◌∷◌, ◌++◌, length, take, drop, map, chars, codes, slice_get, Contains}
+use Rattle.std.specs.Prelude.{◌≡◌, ◌⊎◌, ℕ, zero, suc, ◌+◌, ◌-◌, ◌==◌, if◌then◌else◌, Bool, true, not, Some, List, [], ◌∷◌, ◌++◌, length, take, drop, map, chars, codes, slice_get, Contains}
 use Rattle.std.specs.Str.{IsUtf8, bytes_eq}
 use Rattle.std.specs.Str.Lossy.{utf8_valid_len}
 use Rattle.bajofeki_rules.specs.Lines.{lines}
 use Rattle.bajofeki_rules.specs.Position.{position_of}
 use Rattle.bajofeki_rules.specs.declared.position.Position.{Position}
-use Rattle.lalrpop_rule_file.specs.Words.{AreBlanks, IsSpan, begins, begins_name, is_of_name}
+use Rattle.lalrpop_rule_file.specs.Words.{AreBlanks, EachByte, IsSpan, begins, begins_name, is_of_name}
 use Rattle.lalrpop_rule_file.specs.LineText.{Literal, Escaped, Pattern, Text, Quoted, AnyCase, FromTo, BeginsText}
 use Rattle.lalrpop_rule_file.specs.RuleLine.{Entry, Head, WrittenPart, WrittenRule, Section, Start, Entering, Reads, IsPartLine, IsRule, IsSection}
 use Rattle.lalrpop_rule_file.specs.RuleFault.{StopsBefore}
@@ -21,7 +21,7 @@ use Rattle.bajofeki_rules.specs.declared.rule_text.RuleText.{RuleText}
 use Rattle.bajofeki_rules.specs.declared.rule_text.RuleText.TheVariants as text
 use Rattle.lalrpop_rule_file.specs.declared.file_rule.FileRule.{FileRule}
 use Rattle.lalrpop_rule_file.specs.declared.error.LineFault.{LineFault}
-use Rattle.lalrpop_rule_file.specs.declared.error.LineFault.TheVariants.{NotUtf8}
+use Rattle.lalrpop_rule_file.specs.declared.error.LineFault.TheVariants.{NotUtf8, CarriageReturn}
 use Rattle.lalrpop_rule_file.specs.declared.error.RuleFileError.{RuleFileError}
 use Rattle.lalrpop_rule_file.specs.declared.error.RuleFileError.TheVariants.{BadLine, BadPart, RepeatedPart, NoSuchMode, OutOfMemory}
 
@@ -46,8 +46,15 @@ Says line (Heading section) = IsSection line section
 Says line (Define part) = IsPartLine line part
 Says line (Rule rule) = IsRule line rule
 
+-- the line is UTF-8, and a carriage return stands only at its end
+abbrev pub is_no_return : ℕ → Bool
+is_no_return b = not (b == 13)
+
+abbrev pub IsTextLine : List ℕ → Type 0
+IsTextLine line = IsUtf8 line × EachByte is_no_return (without_return line)
+
 abbrev pub LineSays : List ℕ → Said → Type 0
-LineSays line said = IsUtf8 line × Says (without_return line) said
+LineSays line said = IsTextLine line × Says (without_return line) said
 
 abbrev pub LinesSay : List (List ℕ) → List Said → Type 0
 LinesSay [] [] = Unit {0}
@@ -186,11 +193,15 @@ IsFirstBad (line ∷ rest) zero = ⊥
 IsFirstBad (line ∷ rest) (suc zero) = (said : Said) → ¬ LineSays line said
 IsFirstBad (line ∷ rest) (suc (suc n)) = ((said : Said) × LineSays line said) × IsFirstBad rest (suc n)
 
--- what is wrong with a line, and the column: where its bytes stop being UTF-8, or where it stops being a rule, a part or a section
+-- what is wrong with a line, and the column: where its bytes stop being UTF-8, where a carriage return stands before its end, or where it stops
+-- being a rule, a part or a section
 abbrev pub IsLineFault : List ℕ → ℕ → LineFault → Type 0
 IsLineFault line column NotUtf8 = ¬ IsUtf8 line × (column ≡ (position_of line (utf8_valid_len line)).column)
+IsLineFault line column CarriageReturn =
+    IsUtf8 line × ((front : List ℕ) × ((rest : List ℕ) × (IsSpan is_no_return (without_return line) front (13 ∷ rest)
+    × (column ≡ (position_of (without_return line) (length front)).column))))
 IsLineFault line column fault =
-    IsUtf8 line × ((front : List ℕ) × ((rest : List ℕ) × ((without_return line ≡ front ++ rest)
+    IsTextLine line × ((front : List ℕ) × ((rest : List ℕ) × ((without_return line ≡ front ++ rest)
     × ((column ≡ (position_of (without_return line) (length front)).column) × StopsBefore Start (without_return line) rest fault))))
 
 -- the name of a mode stands in this column of the line, after `mode` or `push`; the actions before it lead into modes of the file, and it doesn't

@@ -3,16 +3,17 @@
 use Rattle.std.specs.Prelude.{◌≡◌, ℕ, ◌<◌, ◌⊎◌, List, [], ◌++◌, Some, codes, length, map, slice_get}
 use Rattle.std.specs.Str.Iter.{HasSubslice}
 use Rattle.bajofeki_rules.specs.declared.rule_text.RuleText.{RuleText}
-use Rattle.bajofeki_rules.specs.declared.rule_text.RuleText.TheVariants.{Literal, Escaped, AnyCase, Pattern, PatternWith}
+use Rattle.bajofeki_rules.specs.declared.rule_text.RuleText.TheVariants.{Pattern, PatternWith}
 use Rattle.bajofeki_rules.specs.EnteredModes.{CanBeEntered}
 use Rattle.lalrpop_rule_file.specs.declared.file_rule.FileRule.{FileRule}
 use Rattle.lalrpop_rule_file.specs.declared.part_line.PartLine.{PartLine}
 use Rattle.lalrpop_rule_file.specs.declared.file.RuleFile.{RuleFile}
 use Rattle.lalrpop_rule_file.specs.declared.warning.Warning.{Warning}
-use Rattle.lalrpop_rule_file.specs.declared.warning.Warning.TheVariants.{NoRules, PartUnused, ModeNotEntered, LiteralEmpty, ModeNotLeft, TextGoesOn, ClassOutside}
+use Rattle.lalrpop_rule_file.specs.declared.warning.Warning.TheVariants.{NoRules, PartUnused, ModeNotEntered, ModeNotLeft, TextGoesOn, ClassOutside, EndPassed}
 use Rattle.lalrpop_rule_file.specs.LeftModes.{CanBeLeft}
 use Rattle.lalrpop_rule_file.specs.GoesOn.{IsGoingOn}
 use Rattle.lalrpop_rule_file.specs.OutsideClass.{HasOutsideClass}
+use Rattle.lalrpop_rule_file.specs.PassedEnd.{HasPassedEnd}
 
 -- ---- parts
 
@@ -50,13 +51,6 @@ IsEnteredMode file m = CanBeEntered (map (λ r. r.modes.items) file.rules.items)
 abbrev pub IsNeverLeft : RuleFile → ℕ → Type 0
 IsNeverLeft file m = (0 < m) × ((m < length file.modes.items) × (IsEnteredMode file m × ¬ CanBeLeft file.rules.items m))
 
--- a literal without characters: as it is, with escapes or in any case
-abbrev pub IsEmptyLiteral : RuleText → Type 0
-IsEmptyLiteral (Literal inner) = inner.now ≡ []
-IsEmptyLiteral (Escaped inner) = inner.now ≡ []
-IsEmptyLiteral (AnyCase inner) = inner.now ≡ []
-IsEmptyLiteral text = ⊥
-
 -- the rule with this index has such a text
 abbrev pub HasText : (RuleText → Type 0) → RuleFile → ℕ → Type 0
 HasText is file i = (r : FileRule) × ((slice_get file.rules.items i ≡ Some r) × is r.rule.text)
@@ -68,29 +62,29 @@ abbrev pub IsWarning : RuleFile → Warning → Type 0
 IsWarning file NoRules = file.rules.items ≡ []
 IsWarning file (PartUnused i) = IsUnused file i
 IsWarning file (ModeNotEntered m) = (m < length file.modes.items) × ¬ IsEnteredMode file m
-IsWarning file (LiteralEmpty i) = HasText IsEmptyLiteral file i
 IsWarning file (ModeNotLeft m) = IsNeverLeft file m
 IsWarning file (TextGoesOn i) = HasText IsGoingOn file i
 IsWarning file (ClassOutside i) = HasText HasOutsideClass file i
+IsWarning file (EndPassed i) = HasText HasPassedEnd file i
 
 -- the order of warnings: by their kinds, and then by their numbers
 abbrev pub kind_of : Warning → ℕ
 kind_of NoRules = 0
 kind_of (PartUnused i) = 1
 kind_of (ModeNotEntered m) = 2
-kind_of (LiteralEmpty i) = 3
-kind_of (ModeNotLeft m) = 4
-kind_of (TextGoesOn i) = 5
-kind_of (ClassOutside i) = 6
+kind_of (ModeNotLeft m) = 3
+kind_of (TextGoesOn i) = 4
+kind_of (ClassOutside i) = 5
+kind_of (EndPassed i) = 6
 
 abbrev pub number_of : Warning → ℕ
 number_of NoRules = 0
 number_of (PartUnused i) = i
 number_of (ModeNotEntered m) = m
-number_of (LiteralEmpty i) = i
 number_of (ModeNotLeft m) = m
 number_of (TextGoesOn i) = i
 number_of (ClassOutside i) = i
+number_of (EndPassed i) = i
 
 abbrev pub ComesBefore : Warning → Warning → Type 0
 ComesBefore v w = (kind_of v < kind_of w) ⊎ ((kind_of v ≡ kind_of w) × (number_of v < number_of w))

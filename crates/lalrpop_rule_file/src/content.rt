@@ -2,7 +2,7 @@
 ghost use Rattle.std.specs.Prelude.{◌≡◌, ◌≤◌, ◌-◌, ℕ, List, ◌++◌, length, take, IfOk, IfErr};
 ghost use Rattle.std.specs.Str.{IsUtf8};
 ghost use Rattle.bajofeki_rules.specs.Position.{position_of};
-ghost use Rattle.lalrpop_rule_file.specs.RuleFile.{LineSays, without_return as without_return_of};
+ghost use Rattle.lalrpop_rule_file.specs.RuleFile.{IsTextLine, LineSays, without_return as without_return_of};
 ghost use Rattle.lalrpop_rule_file.specs.Internal.Values.{KeepsPlaces, said_of};
 ghost use Rattle.lalrpop_rule_file.specs.Internal.Lines.{IsErrorOfLine};
 
@@ -49,19 +49,36 @@ fn column_behind(bytes: &[u8], at: usize) -> usize
     }
 }
 
-// The text of the line with this number, without the carriage return.
-fn content_of(number: usize, line: &[u8]) -> Result<&str, RuleFileError>
+// The text of the line with this number.
+fn text_of(number: usize, line: &[u8]) -> Result<&str, RuleFileError>
     ensures utf8 { IfOk result (λ _. IsUtf8 line.now) }
-    ensures content { IfOk result (λ content. content.now ≡ without_return_of line.now) }
+    ensures text { IfOk result (λ text. text.now ≡ line.now) }
     ensures error { IfErr result (λ e. IsErrorOfLine number line.now e) }
 {
     match str::from_utf8(line) {
-        Ok(text) => Ok(without_return(text)),
+        Ok(text) => Ok(text),
         Err(error) => Err(RuleFileError::BadLine {
             line: number,
             column: column_behind(line, error.valid_up_to()),
             fault: LineFault::NotUtf8,
         }),
+    }
+}
+
+// The same without the carriage return at its end, where there is no other.
+fn content_of(number: usize, line: &[u8]) -> Result<&str, RuleFileError>
+    ensures text { IfOk result (λ _. IsTextLine line.now) }
+    ensures content { IfOk result (λ content. content.now ≡ without_return_of line.now) }
+    ensures error { IfErr result (λ e. IsErrorOfLine number line.now e) }
+{
+    let content = without_return(text_of(number, line)?);
+    match content.find('\r') {
+        Some(at) => Err(RuleFileError::BadLine {
+            line: number,
+            column: column_of(content, &content[at..]),
+            fault: LineFault::CarriageReturn,
+        }),
+        None => Ok(content),
     }
 }
 

@@ -22,6 +22,8 @@ use thiserror::Error;
 pub enum LineFault {
     /// It isn't UTF-8.
     NotUtf8,
+    /// A carriage return stands in it, and not at its end: it ends no line.
+    CarriageReturn,
     /// The line doesn't begin with a name.
     NoName,
     /// There is no name of a mode after the word `mode` or `push`, or after the `[` of a section.
@@ -53,6 +55,8 @@ fn reason_of(fault: &LineFault) -> &'static str
 {
     match fault {
         LineFault::NotUtf8 => "this isn't UTF-8",
+        LineFault::CarriageReturn =>
+            "this carriage return ends no line: a line ends with a line feed, or with a carriage return and a line feed",
         LineFault::NoName =>
             "a line is a rule, as NAME = 'TEXT' or NAME = /PATTERN/, a section, as [A], or a comment, as # TEXT; a name has ASCII letters, digits and `_`, and doesn't begin with a digit",
         LineFault::NoMode =>

@@ -126,7 +126,7 @@ pub fn without_mark(bytes: &[u8]) -> &[u8]
 /// named further down. The text of a rule is `'LITERAL'`, `"LITERAL"`, `/PATTERN/`, `anycase 'LITERAL'` or `from 'A' to 'B'`.
 ///
 /// The file is UTF-8. A byte order mark at its beginning is left out. A line ends at a line feed, which the last may lack; a
-/// carriage return at its end isn't part of it. Blank lines say nothing, and neither do comments: lines of their own that begin
+/// carriage return at its end isn't part of it, and stands nowhere else. Blank lines say nothing, and neither do comments: lines of their own that begin
 /// with `#`. Spaces and tabs may surround the parts of a line. A name is an ASCII letter or `_`, followed by ASCII letters,
 /// digits and `_`; several rules may share one name. `skip`, `mode`, `push`, `pop`, `part`, `anycase` and `from` are words only
 /// in their places: a rule, a part or a mode may be called so. A precedence is 1 to 20 decimal digits whose value fits 64 bits;

@@ -24,6 +24,7 @@ mod numbers;
 mod outside_class;
 mod part_line;
 mod parts;
+mod passed_end;
 mod rules;
 mod section;
 mod span;

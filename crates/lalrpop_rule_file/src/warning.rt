@@ -6,8 +6,8 @@
 /// ```
 /// use lalrpop_rule_file::{Warning, read_rules};
 ///
-/// let file = read_rules(alloc, b"D part = /[0-9]/\nA = ''\n")?;
-/// let warnings = file.warnings(alloc)?; // [Warning::PartUnused { part: 0 }, Warning::LiteralEmpty { rule: 0 }]
+/// let file = read_rules(alloc, b"D part = /[0-9]/\nA = /'.*'/\n")?;
+/// let warnings = file.warnings(alloc)?; // [Warning::PartUnused { part: 0 }, Warning::EndPassed { rule: 0 }]
 /// ```
 #[derive(Clone, Copy, Debug, PartialEq, Eq)]
 pub enum Warning {
@@ -18,8 +18,6 @@ pub enum Warning {
     PartUnused { part: usize },
     /// No text ever enters this mode.
     ModeNotEntered { mode: usize },
-    /// This rule is a literal without characters, which never has a token.
-    LiteralEmpty { rule: usize },
     /// A text can enter this mode, which isn't the first, and nothing leads out of it: no rule of it pops it or puts another mode
     /// in its place, and no rule does after a pop.
     ModeNotLeft { mode: usize },
@@ -29,4 +27,7 @@ pub enum Warning {
     /// The first bracket in the pattern of this rule is a POSIX class, such as `[:alpha:]`, which is a class only inside of
     /// another bracket: `[[:alpha:]]`.
     ClassOutside { rule: usize },
+    /// The pattern of this rule is `A.*B`, or with a `+`, where A and B are plain characters: a match goes on to the last B of a
+    /// line, past the first one. `from 'A' to 'B'` ends at the first.
+    EndPassed { rule: usize },
 }

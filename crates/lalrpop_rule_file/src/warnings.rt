@@ -1,6 +1,6 @@
 //! The warnings about a file.
 ghost use Rattle.std.specs.Prelude.{◌≡◌, ◌↔◌, ◌<◌, ℕ, Some, true, length, slice_get, Contains, IfOk, IsTrue, OnOk};
-ghost use Rattle.lalrpop_rule_file.specs.Warnings.{AreInOrder, IsEmptyLiteral, IsEnteredMode, IsUnused, IsWarning};
+ghost use Rattle.lalrpop_rule_file.specs.Warnings.{AreInOrder, IsEnteredMode, IsUnused, IsWarning};
 ghost use Rattle.lalrpop_rule_file.specs.LeftModes.{CanBeLeft};
 ghost use Rattle.lalrpop_rule_file.specs.Internal.Found.{HasFound};
 ghost use Rattle.lalrpop_rule_file.specs.declared.warning.Warning.{Warning as WarningValue};
@@ -9,22 +9,11 @@ use crate::file::RuleFile;
 use crate::goes_on::is_going_on;
 use crate::left_modes::can_be_left;
 use crate::outside_class::has_outside_class;
+use crate::passed_end::has_passed_end;
 use crate::used_parts::{reference, stands_in_part, stands_in_rule};
 use crate::warning::Warning;
-use bajofeki_rules::{RuleText, entered_modes};
+use bajofeki_rules::entered_modes;
 use std::alloc::{AllocError, Global};
-
-// Whether the text is a literal without characters, of whichever kind.
-fn is_empty_literal(text: &RuleText<'_>) -> bool
-    ensures { IsTrue result ↔ IsEmptyLiteral text.now }
-{
-    match text {
-        RuleText::Literal(text) | RuleText::Escaped(text) | RuleText::AnyCase(text) => {
-            text.is_empty()
-        }
-        RuleText::Pattern(_) | RuleText::PatternWith { .. } | RuleText::FromTo { .. } => false,
-    }
-}
 
 impl<'text> RuleFile<'text> {
     // Adds `NoRules`, if that is so.
@@ -93,19 +82,6 @@ impl<'text> RuleFile<'text> {
         Ok(())
     }
 
-    // Adds the literals without characters.
-    fn add_empty_literals(&self, found: &mut Vec<Warning>) -> Result<(), AllocError>
-        ensures { OnOk result (HasFound self.now 3 0 found.old.items
-            → HasFound self.now 4 0 found.new.items) }
-    {
-        for rule in 0..self.rules.len() {
-            if is_empty_literal(&self.rules[rule].rule.text) {
-                found.push(Warning::LiteralEmpty { rule })?;
-            }
-        }
-        Ok(())
-    }
-
     // Whether this mode isn't the first, can be entered, and can't be left.
     fn is_never_left(&self, mode: usize, is_entered: bool) -> bool
         ensures { IsTrue result ↔ ((0 < mode) × (IsTrue is_entered
@@ -122,8 +98,8 @@ impl<'text> RuleFile<'text> {
 
     // Adds the modes that are never left.
     fn add_modes_not_left(&self, alloc: Global, found: &mut Vec<Warning>) -> Result<(), AllocError>
-        ensures { OnOk result (HasFound self.now 4 0 found.old.items
-            → HasFound self.now 5 0 found.new.items) }
+        ensures { OnOk result (HasFound self.now 3 0 found.old.items
+            → HasFound self.now 4 0 found.new.items) }
     {
         let entered = self.entered(alloc)?;
         for mode in 0..entered.len() {
@@ -136,8 +112,8 @@ impl<'text> RuleFile<'text> {
 
     // Adds the texts that go on after they seem to end.
     fn add_texts_going_on(&self, found: &mut Vec<Warning>) -> Result<(), AllocError>
-        ensures { OnOk result (HasFound self.now 5 0 found.old.items
-            → HasFound self.now 6 0 found.new.items) }
+        ensures { OnOk result (HasFound self.now 4 0 found.old.items
+            → HasFound self.now 5 0 found.new.items) }
     {
         for rule in 0..self.rules.len() {
             if is_going_on(&self.rules[rule].rule.text) {
@@ -149,12 +125,25 @@ impl<'text> RuleFile<'text> {
 
     // Adds the classes outside of brackets.
     fn add_classes_outside(&self, found: &mut Vec<Warning>) -> Result<(), AllocError>
-        ensures { OnOk result (HasFound self.now 6 0 found.old.items
-            → HasFound self.now 7 0 found.new.items) }
+        ensures { OnOk result (HasFound self.now 5 0 found.old.items
+            → HasFound self.now 6 0 found.new.items) }
     {
         for rule in 0..self.rules.len() {
             if has_outside_class(&self.rules[rule].rule.text) {
                 found.push(Warning::ClassOutside { rule })?;
+            }
+        }
+        Ok(())
+    }
+
+    // Adds the patterns that pass their end.
+    fn add_ends_passed(&self, found: &mut Vec<Warning>) -> Result<(), AllocError>
+        ensures { OnOk result (HasFound self.now 6 0 found.old.items
+            → HasFound self.now 7 0 found.new.items) }
+    {
+        for rule in 0..self.rules.len() {
+            if has_passed_end(&self.rules[rule].rule.text) {
+                found.push(Warning::EndPassed { rule })?;
             }
         }
         Ok(())
@@ -182,10 +171,10 @@ impl<'text> RuleFile<'text> {
         self.add_no_rules(&mut found)?;
         self.add_unused_parts(alloc, &mut found)?;
         self.add_modes_not_entered(alloc, &mut found)?;
-        self.add_empty_literals(&mut found)?;
         self.add_modes_not_left(alloc, &mut found)?;
         self.add_texts_going_on(&mut found)?;
         self.add_classes_outside(&mut found)?;
+        self.add_ends_passed(&mut found)?;
         Ok(found)
     }
 }

@@ -205,7 +205,7 @@ A push C pop = 'x';[C D];[*];B mode D = from '/*' to '*/' => A B";
 fn files_of_rules_are_warned_of(rt: HostRuntime) {
     let table = "\
 # no rule => [NoRules]
-D part = /d/;A = '' => [PartUnused { part: 0 }, LiteralEmpty { rule: 0 }]
+D part = /d/;A = /'.*'/ => [PartUnused { part: 0 }, EndPassed { rule: 0 }]
 A = 'a';[B];C push B = 'c' => [ModeNotEntered { mode: 1 }]";
     expect(&rt, rt.alloc(), Call::Warnings, table, 3);
 }

@@ -76,8 +76,8 @@ fn warnings_of_rules_are_said(rt: HostRuntime) {
             "tokens: f: warning: there is no rule in this file: a rule is a line NAME = 'TEXT' or NAME = /PATTERN/\n",
         ),
         (
-            b"A = /{D}/\n  D part = /[0-9]/\n[M]\nB = ''\n",
-            "tokens: f:2:3: warning: no pattern below uses the part {D}\ntokens: f:3:1: warning: no rule enters the mode M\ntokens: f:4:6: warning: this literal is empty, and no token is\n",
+            b"A = /{D}/\n  D part = /[0-9]/\n[M]\nB = /'.*'/\n",
+            "tokens: f:2:3: warning: no pattern below uses the part {D}\ntokens: f:3:1: warning: no rule enters the mode M\ntokens: f:4:6: warning: a match goes on past the first end to the last one: write from 'A' to 'B', or `[^x]*x` for `.*x`\n",
         ),
     ];
     for (bytes, said) in rows {

@@ -24,7 +24,7 @@ const FILES: Named = Named {
         ("none.rules", b"# nothing yet\n"),
         ("part.rules", b"WORD = /[a-z]+/\n  D part = /[0-9]/\n"),
         ("mode.rules", b"WORD = /[a-z]+/\n[TEXT]\nB = 'b'\n"),
-        ("empty.rules", b"WORD = /[a-z]+/\nB = \"\"\nC =  2 ''\n"),
+        ("ends.rules", b"WORD = /[a-z]+/\nB = /\".*\"/\nC =  2 /'.+'/\n"),
         ("bad.rules", b"D part = /[0-9]/\nA =\n"),
         ("one.rules", b"A = 'a'\n"),
         (
@@ -33,7 +33,7 @@ const FILES: Named = Named {
         ),
         (
             "refused.rules",
-            b"\xef\xbb\xbfD part = /[0-9]/\nA = /a/\nB = /a/\n[M N]\nC pop = anycase ''\n",
+            b"\xef\xbb\xbfD part = /[0-9]/\nA = /a/\nB = /a/\n[M N]\nC pop = /'.*'/\n",
         ),
         ("raw", b"if \xffa"),
         ("cut", b"if \xe2\x82"),
@@ -387,9 +387,9 @@ fn warnings_are_said(rt: HostRuntime) {
             0,
         ),
         (
-            &["empty.rules", "g"],
+            &["ends.rules", "g"],
             b"1:1 WORD \"x\"\n",
-            b"tokens: empty.rules:2:6: warning: this literal is empty, and no token is\ntokens: empty.rules:3:9: warning: this literal is empty, and no token is\n",
+            b"tokens: ends.rules:2:6: warning: a match goes on past the first end to the last one: write from 'A' to 'B', or `[^x]*x` for `.*x`\ntokens: ends.rules:3:9: warning: a match goes on past the first end to the last one: write from 'A' to 'B', or `[^x]*x` for `.*x`\n",
             0,
         ),
         (
@@ -405,7 +405,7 @@ fn warnings_are_said(rt: HostRuntime) {
 }
 
 const FOUR: &[u8] =
-    b"tokens: refused.rules:1:1: warning: no pattern below uses the part {D}\ntokens: refused.rules:4:1: warning: no rule enters the mode M\ntokens: refused.rules:4:1: warning: no rule enters the mode N\ntokens: refused.rules:5:18: warning: this literal is empty, and no token is\n";
+    b"tokens: refused.rules:1:1: warning: no pattern below uses the part {D}\ntokens: refused.rules:4:1: warning: no rule enters the mode M\ntokens: refused.rules:4:1: warning: no rule enters the mode N\ntokens: refused.rules:5:10: warning: a match goes on past the first end to the last one: write from 'A' to 'B', or `[^x]*x` for `.*x`\n";
 
 #[test]
 fn warnings_stand_before_the_answer(rt: HostRuntime) {
@@ -445,7 +445,7 @@ fn no_warning_is_said_with_quiet(rt: HostRuntime) {
         ),
         (&["--quiet", "mode.rules", "g"], b"1:1 WORD \"x\"\n", b"", 0),
         (
-            &["--quiet", "empty.rules", "g"],
+            &["--quiet", "ends.rules", "g"],
             b"1:1 WORD \"x\"\n",
             b"",
             0,

@@ -86,6 +86,7 @@ bad_end_is_safe ends.OutOfMemory = plain_is_safe (bad_end_text ends.OutOfMemory)
 
 fault_is_safe : (fault : LineFault) → IsSafe (reason_of fault)
 fault_is_safe faults.NotUtf8 = plain_is_safe (reason_of faults.NotUtf8) refl
+fault_is_safe faults.CarriageReturn = plain_is_safe (reason_of faults.CarriageReturn) refl
 fault_is_safe faults.NoName = plain_is_safe (reason_of faults.NoName) refl
 fault_is_safe faults.NoMode = plain_is_safe (reason_of faults.NoMode) refl
 fault_is_safe faults.NoBracket = plain_is_safe (reason_of faults.NoBracket) refl

@@ -14,7 +14,7 @@ use Rattle.lalrpop_verdicts.specs.WonWord.{WonWord}
 use Rattle.reports_lib.specs.ItemLines.{mode_named, name_at}
 use Rattle.reports_lib.specs.Reasons.{place_at, mode_said}
 use Rattle.reports_lib.specs.ReportedFile.{ReportedFile}
-use Rattle.reports_lib.specs.ReviewLines.{after_text, automaton_line, by_mode, characters_text, clash_line, clash_report, clash_told, empty_line, empty_told, idle_line, idle_reason, look_text, mode_before, mode_told, pair_text, place_text, review_text, rules_text, states_text, winner_text, winners_text, witness_text}
+use Rattle.reports_lib.specs.ReviewLines.{after_text, automaton_line, by_mode, characters_text, clash_line, clash_report, clash_told, empty_line, empty_told, idle_line, idle_once, idle_reason, is_only_empty, look_text, mode_before, mode_told, pair_text, place_text, review_text, rules_text, states_text, winner_text, winners_text, witness_text}
 use Rattle.reports_lib.specs.Safe.{IsSafe}
 use Rattle.reports_lib.specs.declared.layout.LineForm.TheVariants.{Plain}
 use Rattle.reports_lib.proofs.SafeLaws.{decimal_is_safe, plain_is_safe, quoted_word_is_safe, safe_append, safe_nil, said}
@@ -101,12 +101,19 @@ module _ (r : ReportedFile) (file_safe : IsSafe r.file) (names_safe : All IsSafe
       safe_append file_safe (said (codes ": ") refl (safe_append (before mode safe) (safe_append (states x.states) (said (codes ", ") refl
       (safe_append (decimal_is_safe x.least_states) (said (codes " in the smallest automaton; ") refl (safe_append (look x.look) (plain_is_safe (codes "\n") refl))))))))
 
-  told : (mode : Option (List ℕ)) → IsSafeIfSome mode → (x : ModeReview) → IsSafe (mode_told Plain r mode x)
-  told mode safe x = safe_append (each_is_safe (idle_line r mode) (idle_is_safe mode safe) x.idle.items) (automaton_is_safe mode safe x)
+  once : (empty : List ℕ) (mode : Option (List ℕ)) → IsSafeIfSome mode → (x : IdleRule) → IsSafe (idle_once Plain r empty mode x)
+  once empty mode safe x = by (is_only_empty empty x)
+    where
+      by : (t : Bool) → IsSafe (if t then [] else idle_line r mode x)
+      by true = safe_nil
+      by false = idle_is_safe mode safe x
+
+  told : (empty : List ℕ) (mode : Option (List ℕ)) → IsSafeIfSome mode → (x : ModeReview) → IsSafe (mode_told Plain r empty mode x)
+  told empty mode safe x = safe_append (each_is_safe (idle_once Plain r empty mode) (once empty mode safe) x.idle.items) (automaton_is_safe mode safe x)
 
   pub review_is_safe : (review : Review) → All IsSafe r.modes → IsSafe (review_text Plain r.file r.modes r.names r.places review)
   review_is_safe review modes_safe =
-      safe_append (each_is_safe (empty_line r) empty_is_safe review.empty.items) (by_mode_is_safe (mode_told Plain r) r.modes 0 review.modes.items modes_safe told)
+      safe_append (each_is_safe (empty_line r) empty_is_safe review.empty.items) (by_mode_is_safe (mode_told Plain r review.empty.items) r.modes 0 review.modes.items modes_safe (told review.empty.items))
 
   pub report_is_safe : (m : ℕ) (css : List (List Entry)) → All IsSafe r.modes → IsSafe (clash_report Plain r.file r.modes r.names r.places m css)
   report_is_safe m css modes_safe =

@@ -1,6 +1,6 @@
 -- cases: proofs/Cases/ReviewLines.antt
 -- What a review says, in plain lines, and the whole of it.
-use Rattle.std.specs.Prelude.{ℕ, ◌+◌, nat_lt, Bool, ◌||◌, ◌==◌, List, [], ◌∷◌, ◌++◌, length, Option, Some, None, codes, decimal, flat_map, if◌then◌else◌}
+use Rattle.std.specs.Prelude.{ℕ, ◌+◌, nat_lt, Bool, ◌&&◌, ◌||◌, ◌==◌, List, [], ◌∷◌, ◌++◌, length, Option, Some, None, codes, decimal, flat_map, if◌then◌else◌}
 use Rattle.std.specs.List.{join_by, list_any}
 use Rattle.lalrpop_hir.specs.Clashes.{Entry}
 use Rattle.lalrpop_dfa.specs.Witness.{OpenMatch}
@@ -116,13 +116,22 @@ abbrev pub by_mode : {X : Type 0} → (Option (List ℕ) → X → List ℕ) →
 by_mode tell modes m [] = []
 by_mode tell modes m (x ∷ xs) = tell (mode_named modes m) x ++ by_mode tell modes (m + 1) xs
 
+-- a rule that never wins is one of those that match the empty text, and matches no other
+abbrev pub is_only_empty : List ℕ → IdleRule → Bool
+is_only_empty empty x = length x.winners.items == 0 && list_any (λ i. i == x.rule) empty
+
+-- such a rule isn't told again, where those that match the empty text are told
+abbrev pub idle_once : LineForm → ReportedFile → List ℕ → Option (List ℕ) → IdleRule → List ℕ
+idle_once form r empty mode x = if is_only_empty empty x then [] else idle_told form r mode x
+
 -- a mode: its rules that never win, and then its automaton
-abbrev pub mode_told : LineForm → ReportedFile → Option (List ℕ) → ModeReview → List ℕ
-mode_told form r mode x = flat_map (idle_told form r mode) x.idle.items ++ automaton_told form r mode x
+abbrev pub mode_told : LineForm → ReportedFile → List ℕ → Option (List ℕ) → ModeReview → List ℕ
+mode_told form r empty mode x = flat_map (idle_once form r empty mode) x.idle.items ++ automaton_told form r mode x
 
 -- a review: the rules that match the empty text, and then each mode
 abbrev pub review_told : LineForm → ReportedFile → Review → List ℕ
-review_told form r review = flat_map (empty_told form r) review.empty.items ++ by_mode (mode_told form r) r.modes 0 review.modes.items
+review_told form r review =
+    flat_map (empty_told form r) review.empty.items ++ by_mode (mode_told form r review.empty.items) r.modes 0 review.modes.items
 
 -- the same, by the name of the file, the names of its modes and rules, and the places of these
 abbrev pub review_text : LineForm → List ℕ → List (List ℕ) → List (List ℕ) → List Position → Review → List ℕ

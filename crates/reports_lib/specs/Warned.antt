@@ -8,7 +8,7 @@ use Rattle.lalrpop_rule_file.specs.declared.file.RuleFile.{RuleFile}
 use Rattle.lalrpop_rule_file.specs.declared.file_rule.FileRule.{FileRule}
 use Rattle.lalrpop_rule_file.specs.declared.part_line.PartLine.{PartLine}
 use Rattle.lalrpop_rule_file.specs.declared.warning.Warning.{Warning}
-use Rattle.lalrpop_rule_file.specs.declared.warning.Warning.TheVariants.{NoRules, PartUnused, ModeNotEntered, LiteralEmpty, ModeNotLeft, TextGoesOn, ClassOutside}
+use Rattle.lalrpop_rule_file.specs.declared.warning.Warning.TheVariants.{NoRules, PartUnused, ModeNotEntered, ModeNotLeft, TextGoesOn, ClassOutside, EndPassed}
 use Rattle.reports_lib.specs.Answer.{about, headed}
 use Rattle.reports_lib.specs.ItemLines.{name_at, number_member, string_member}
 use Rattle.reports_lib.specs.ModePlace.{TellsSections}
@@ -52,13 +52,14 @@ abbrev pub warning_line : List ℕ → (List ℕ → Position) → RuleFile → 
 warning_line name section file NoRules = warned_of name (codes "there is no rule in this file: a rule is a line NAME = 'TEXT' or NAME = /PATTERN/")
 warning_line name section file (PartUnused i) = warned_at name (part_place file i) (codes "no pattern below uses the part {" ++ (part_name file i ++ codes "}"))
 warning_line name section file (ModeNotEntered m) = warned_at name (section (mode_name file m)) (codes "no rule enters the mode " ++ mode_name file m)
-warning_line name section file (LiteralEmpty i) = warned_at name (text_place file i) (codes "this literal is empty, and no token is")
 warning_line name section file (ModeNotLeft m) =
     warned_at name (section (mode_name file m)) (codes "no rule leaves the mode " ++ (mode_name file m ++ codes ": none pops it or puts another mode in its place"))
 warning_line name section file (TextGoesOn i) =
     warned_at name (text_place file i) (codes "this text goes on to the last delimiter of the line, past one that seems to end it")
 warning_line name section file (ClassOutside i) =
     warned_at name (text_place file i) (codes "the first bracket is a set of the characters in it: a class stands in brackets, as [[:alpha:]]")
+warning_line name section file (EndPassed i) =
+    warned_at name (text_place file i) (codes "a match goes on past the first end to the last one: write from 'A' to 'B', or `[^x]*x` for `.*x`")
 
 -- ---- objects
 
@@ -74,14 +75,14 @@ warning_members name section file (PartUnused i) =
     warned_members name (part_place file i) (codes "part-unused") ++ string_member (codes "part") (part_name file i)
 warning_members name section file (ModeNotEntered m) =
     warned_members name (section (mode_name file m)) (codes "mode-not-entered") ++ string_member (codes "mode") (mode_name file m)
-warning_members name section file (LiteralEmpty i) =
-    warned_members name (text_place file i) (codes "literal-empty") ++ string_member (codes "rule") (rule_name file i)
 warning_members name section file (ModeNotLeft m) =
     warned_members name (section (mode_name file m)) (codes "mode-not-left") ++ string_member (codes "mode") (mode_name file m)
 warning_members name section file (TextGoesOn i) =
     warned_members name (text_place file i) (codes "text-goes-on") ++ string_member (codes "rule") (rule_name file i)
 warning_members name section file (ClassOutside i) =
     warned_members name (text_place file i) (codes "class-outside") ++ string_member (codes "rule") (rule_name file i)
+warning_members name section file (EndPassed i) =
+    warned_members name (text_place file i) (codes "end-passed") ++ string_member (codes "rule") (rule_name file i)
 
 -- ---- what is said
 

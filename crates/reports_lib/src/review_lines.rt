@@ -4,7 +4,7 @@ ghost use Rattle.lalrpop_rules.specs.ModeSet.{rules_of};
 ghost use Rattle.lalrpop_rules.specs.RuleSet.{names_of};
 ghost use Rattle.reports_lib.specs.Internal.Commas.{comma_before};
 ghost use Rattle.reports_lib.specs.Reasons.{mode_said};
-ghost use Rattle.reports_lib.specs.ReviewLines.{after_text, automaton_line, automaton_told, by_mode, characters_text, clash_line, clash_report, clash_told, clashes_told, empty_line, empty_told, has_findings, has_idle, idle_line, idle_reason, idle_told, look_text, mode_before, mode_told, pair_text, place_text, review_text, review_told, rules_text, states_text, winner_text, winners_text, witness_text};
+ghost use Rattle.reports_lib.specs.ReviewLines.{after_text, automaton_line, automaton_told, by_mode, characters_text, clash_line, clash_report, clash_told, clashes_told, empty_line, empty_told, has_findings, has_idle, idle_line, idle_once, idle_reason, idle_told, is_only_empty, look_text, mode_before, mode_told, pair_text, place_text, review_text, review_told, rules_text, states_text, winner_text, winners_text, witness_text};
 
 use crate::layout::LineForm;
 use crate::reported_file::ReportedFile;
@@ -293,6 +293,31 @@ fn idle_told(
     }
 }
 
+// Whether a rule that never wins is one of those that match the empty text, and matches no other.
+fn is_only_empty(empty: &[NfaIndex], idle: &IdleRule) -> bool
+    ensures { result ≡ is_only_empty empty.now idle.now }
+{
+    idle.winners.is_empty() && empty.contains(&idle.rule)
+}
+
+// The line of a rule that never wins, unless all of it is told where those that match the empty text are.
+fn idle_once(
+    alloc: Global,
+    form: LineForm,
+    reported: &ReportedFile<'_>,
+    empty: &[NfaIndex],
+    mode: Option<&str>,
+    idle: &IdleRule,
+) -> Result<Vec<u8>, AllocError>
+    ensures { IfOk result (λ line. line.items
+        ≡ idle_once form reported.now empty.now (option_map (λ m. m.now) mode.entry) idle.now) }
+{
+    if is_only_empty(empty, idle) {
+        return Ok(Vec::new(alloc));
+    }
+    idle_told(alloc, form, reported, mode, idle)
+}
+
 // The line of the automaton of a mode, in either form.
 fn automaton_told(
     alloc: Global,
@@ -351,14 +376,15 @@ fn push_idle(
     lines: &mut Vec<u8>,
     form: LineForm,
     reported: &ReportedFile<'_>,
+    empty: &[NfaIndex],
     mode: Option<&str>,
     rules: &[IdleRule],
 ) -> Result<(), AllocError>
-    ensures { OnOk result (lines.new.items ≡ lines.old.items
-        ++ flat_map (idle_told form reported.now (option_map (λ m. m.now) mode.entry)) rules.now) }
+    ensures { OnOk result (lines.new.items ≡ lines.old.items ++ flat_map
+        (idle_once form reported.now empty.now (option_map (λ m. m.now) mode.entry)) rules.now) }
 {
     for idle in rules {
-        let line = idle_told(alloc, form, reported, mode, idle)?;
+        let line = idle_once(alloc, form, reported, empty, mode, idle)?;
         lines.extend_from_slice(&line)?;
     }
     Ok(())
@@ -370,13 +396,14 @@ fn push_mode(
     lines: &mut Vec<u8>,
     form: LineForm,
     reported: &ReportedFile<'_>,
+    empty: &[NfaIndex],
     mode: Option<&str>,
     review: &ModeReview,
 ) -> Result<(), AllocError>
     ensures { OnOk result (lines.new.items ≡ lines.old.items
-        ++ mode_told form reported.now (option_map (λ m. m.now) mode.entry) review.now) }
+        ++ mode_told form reported.now empty.now (option_map (λ m. m.now) mode.entry) review.now) }
 {
-    push_idle(alloc, lines, form, reported, mode, &review.idle)?;
+    push_idle(alloc, lines, form, reported, empty, mode, &review.idle)?;
     let line = automaton_told(alloc, form, reported, mode, review)?;
     lines.extend_from_slice(&line)
 }
@@ -387,14 +414,15 @@ fn push_modes(
     lines: &mut Vec<u8>,
     form: LineForm,
     reported: &ReportedFile<'_>,
+    empty: &[NfaIndex],
     modes: &[ModeReview],
 ) -> Result<(), AllocError>
     ensures { OnOk result (lines.new.items ≡ lines.old.items
-        ++ by_mode (mode_told form reported.now) reported.now.modes 0 modes.now) }
+        ++ by_mode (mode_told form reported.now empty.now) reported.now.modes 0 modes.now) }
 {
     for mode in 0..modes.len() {
         let name = reported.mode(mode);
-        push_mode(alloc, lines, form, reported, name, &modes[mode])?;
+        push_mode(alloc, lines, form, reported, empty, name, &modes[mode])?;
     }
     Ok(())
 }
@@ -409,13 +437,20 @@ fn review_told(
 {
     let mut lines = Vec::new(alloc);
     push_empty(alloc, &mut lines, form, reported, &review.empty)?;
-    push_modes(alloc, &mut lines, form, reported, &review.modes)?;
+    push_modes(
+        alloc,
+        &mut lines,
+        form,
+        reported,
+        &review.empty,
+        &review.modes,
+    )?;
     Ok(lines)
 }
 
 /// The text of a review of rules with these modes, whose texts begin at these places of the file: a line for each rule that
-/// matches the empty text, and then, mode by mode, a line for each rule that never wins there and one for its automaton. A line
-/// names the mode if there are several.
+/// matches the empty text, and then, mode by mode, a line for each rule that never wins there, unless it matches only the empty
+/// text, and one for its automaton. A line names the mode if there are several.
 ///
 /// ```
 /// use reports_lib::{LineForm, review_text};

@@ -105,13 +105,13 @@ fn write_warning(
             let mode = mode_name(&file.modes, mode);
             write_of_mode(writer, name, bytes, mode, "mode-not-entered")
         }
-        Warning::LiteralEmpty { rule } => write_of_text(writer, name, file, rule, "literal-empty"),
         Warning::ModeNotLeft { mode } => {
             let mode = mode_name(&file.modes, mode);
             write_of_mode(writer, name, bytes, mode, "mode-not-left")
         }
         Warning::TextGoesOn { rule } => write_of_text(writer, name, file, rule, "text-goes-on"),
         Warning::ClassOutside { rule } => write_of_text(writer, name, file, rule, "class-outside"),
+        Warning::EndPassed { rule } => write_of_text(writer, name, file, rule, "end-passed"),
     }
 }
 
@@ -133,14 +133,14 @@ fn warning_object(
 
 /// The warnings about a file of rules (`RuleFile::warnings`) as JSON: a line for each, with an object whose members are `file`, `line`, `column`, `kind`, and `part`,
 /// `mode` or `rule`; of a warning about the whole file only `file` and `kind`. The kinds are `no-rules`, `part-unused`,
-/// `mode-not-entered`, `literal-empty`, `mode-not-left`, `text-goes-on` and `class-outside`.
+/// `mode-not-entered`, `mode-not-left`, `text-goes-on`, `class-outside` and `end-passed`.
 ///
 /// ```
 /// use tokens_lib::{read_rules, warnings_json};
 ///
-/// let bytes = b"A = ''\n";
+/// let bytes = b"A = /'.*'/\n";
 /// let file = read_rules(alloc, bytes)?;
-/// let lines = warnings_json(alloc, "c.rules", bytes, &file)?; // {"file":"c.rules","line":1,"column":6,"kind":"literal-empty","rule":"A"}
+/// let lines = warnings_json(alloc, "c.rules", bytes, &file)?; // {"file":"c.rules","line":1,"column":6,"kind":"end-passed","rule":"A"}
 /// ```
 ///
 /// # Errors

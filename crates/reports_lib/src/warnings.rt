@@ -15,13 +15,14 @@ use lalrpop_rule_file::{FileRule, PartLine, RuleFile, Warning, without_mark};
 use std::alloc::{AllocError, Global};
 
 // What is said of texts.
-const LITERAL_EMPTY: &str = "this literal is empty, and no token is";
-
 const TEXT_GOES_ON: &str =
     "this text goes on to the last delimiter of the line, past one that seems to end it";
 
 const CLASS_OUTSIDE: &str =
     "the first bracket is a set of the characters in it: a class stands in brackets, as [[:alpha:]]";
+
+const END_PASSED: &str =
+    "a match goes on past the first end to the last one: write from 'A' to 'B', or `[^x]*x` for `.*x`";
 
 // A warning about the whole file.
 fn warned_of(alloc: Global, name: &str, words: &str) -> Result<String, AllocError>
@@ -136,7 +137,6 @@ fn warning_line(
             let words = format!(in alloc; "no rule enters the mode {mode}")?;
             warned_of_mode(alloc, name, bytes, mode, words.as_str())
         }
-        Warning::LiteralEmpty { rule } => warned_of_text(alloc, name, file, rule, LITERAL_EMPTY),
         Warning::ModeNotLeft { mode } => {
             let mode = mode_name(&file.modes, mode);
             let words = format!(in alloc;
@@ -146,6 +146,7 @@ fn warning_line(
         }
         Warning::TextGoesOn { rule } => warned_of_text(alloc, name, file, rule, TEXT_GOES_ON),
         Warning::ClassOutside { rule } => warned_of_text(alloc, name, file, rule, CLASS_OUTSIDE),
+        Warning::EndPassed { rule } => warned_of_text(alloc, name, file, rule, END_PASSED),
     }
 }
 
@@ -156,9 +157,9 @@ fn warning_line(
 /// ```
 /// use tokens_lib::{read_rules, warnings_message};
 ///
-/// let bytes = b"A = ''\n";
+/// let bytes = b"D part = /0/\nA = 'a'\n";
 /// let file = read_rules(alloc, bytes)?;
-/// let message = warnings_message(alloc, "c.rules", bytes, &file)?; // "tokens: c.rules:1:6: warning: this literal is empty, and no token is\n"
+/// let message = warnings_message(alloc, "c.rules", bytes, &file)?; // "tokens: c.rules:1:1: warning: no pattern below uses the part {D}\n"
 /// ```
 ///
 /// # Errors

@@ -268,12 +268,14 @@ fn bad_lines_are_named(rt: HostRuntime) {
         let (line, wanted) = halves(row, " => ");
         expect(&rt, refused(rt.alloc(), line.as_bytes()), wanted);
     }
-    let rows: [(&[u8], &str); 9] = [
+    let rows: [(&[u8], &str); 11] = [
         (b"\xef\xbb\xbfA 'x'", "1 3 NoEquals"),
         (b"\xef\xbb\xbf\xef\xbb\xbfA = 'x'", "1 1 NoName"),
         (b"A = 'x'\n\xef\xbb\xbfB = 'y'", "2 1 NoName"),
         (b"A = 'x'\n\nB\nC\n", "3 2 NoEquals"),
         (b"# \xc3\xa9\xff", "1 4 NotUtf8"),
+        (b"A = 'x'\rB = 'y'\r", "1 8 CarriageReturn"),
+        (b"A = 'x'\n# \xc3\xa9\r\r\n", "2 4 CarriageReturn"),
         (b"A push B = 'x'\n[b]", "1 8 NoSuchMode"),
         (b"[B]\n\xc3\xa9", "2 1 NoName"),
         (

@@ -14,9 +14,9 @@ use Rattle.lalrpop_rule_file.specs.LineText.{Literal, Escaped, Pattern, Quoted, 
 use Rattle.lalrpop_rule_file.specs.RuleLine.{Entry, Mode, Push, word_of, WrittenRule, bare, These, Start, a_bracket, a_blank, a_mode, a_name, an_end, an_entry, lexeme_then, nothing}
 use Rattle.lalrpop_rule_file.specs.RuleFault.{StopsBefore}
 use Rattle.lalrpop_rule_file.specs.FileModes.{Said, Nothing, Heading, Define, Rule, AreModes, initial, modes_of}
-use Rattle.lalrpop_rule_file.specs.RuleFile.{without_mark, without_return, IsBlankOrComment, Says, LineSays, LinesSay, AreRules, AreRulesBelow, IsFileRule, NamesMode, IsText, HasParts, IsTextColumn, ArePlaces, ArePlacesFrom, IsFirstBad, IsLineFault, IsNoMode, IsFirstNoMode, IsRuleFileError}
+use Rattle.lalrpop_rule_file.specs.RuleFile.{without_mark, without_return, IsBlankOrComment, IsTextLine, Says, LineSays, LinesSay, AreRules, AreRulesBelow, IsFileRule, NamesMode, IsText, HasParts, IsTextColumn, ArePlaces, ArePlacesFrom, IsFirstBad, IsLineFault, IsNoMode, IsFirstNoMode, IsRuleFileError}
 use Rattle.lalrpop_rule_file.specs.declared.file_rule.FileRule.{FileRule}
-use Rattle.lalrpop_rule_file.specs.declared.error.LineFault.TheVariants.{NoEquals}
+use Rattle.lalrpop_rule_file.specs.declared.error.LineFault.TheVariants.{CarriageReturn, NoEquals}
 use Rattle.lalrpop_rule_file.specs.declared.error.RuleFileError.TheVariants.{BadLine, OutOfMemory}
 use Rattle.lalrpop_rule_file.specs.Internal.Stops.{NoActionAt}
 use Rattle.lalrpop_rule_file.proofs.Stopping.{no_equals}
@@ -63,7 +63,7 @@ letter_is_no_comment (inr (b ∷ lead, (comment, (parts, blanks)))) =
     blank_letter c e = ap is_blank e
 
 empty_line_says_nothing : LineSays [] Nothing
-empty_line_says_nothing = (([], (refl, refl)), inl tt)
+empty_line_says_nothing = ((([], (refl, refl)), tt), inl tt)
 
 section_line : Says (codes "[A]") (Heading (These (codes "A" ∷ [])))
 section_line =
@@ -199,7 +199,19 @@ x_is_text = (codes "x", (refl, refl))
 
 x_fault : IsLineFault (codes "x") 2 NoEquals
 unfolding chars
-x_fault = (x_is_text, (codes "x", ([], (refl, (refl, x_stops)))))
+x_fault = ((x_is_text, (refl, tt)), (codes "x", ([], (refl, (refl, x_stops)))))
+
+-- a carriage return that ends no line
+return_alone : IsLineFault (codes "a\rb") 2 CarriageReturn
+unfolding chars encode
+return_alone = ((codes "a\rb", (refl, refl)), (codes "a", (codes "b", (record { parts = refl; passes = (refl, tt); stops = refl }, refl))))
+
+return_that_ends_it : IsTextLine (codes "a\r")
+unfolding encode
+return_that_ends_it = ((codes "a\r", (refl, refl)), (refl, tt))
+
+one_too_many : ¬ IsTextLine (codes "\r\r")
+one_too_many text = false≢true text.1.0
 
 error_of_a_file : IsRuleFileError (codes "\nx") (BadLine 2 2 NoEquals)
 error_of_a_file = (first_bad_line, (codes "x", (refl, x_fault)))

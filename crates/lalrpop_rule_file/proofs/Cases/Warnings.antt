@@ -1,5 +1,5 @@
 -- Cases of specs/Warnings.antt.
-use Rattle.std.proofs.Common.{◌≡◌, ℕ, zero, suc, inl, inr, List, [], ◌∷◌, refl, sym, ap, ◌∙◌, arith, Bor}
+use Rattle.std.proofs.Common.{◌≡◌, ℕ, zero, suc, inl, inr, List, [], ◌∷◌, refl, ap, arith, Bor}
 use Rattle.std.specs.Prelude.{codes}
 use Rattle.std.specs.Str.Iter.{HasSubslice}
 use Rattle.bajofeki_rules.specs.declared.rule_text.RuleText.TheVariants as texts
@@ -7,8 +7,8 @@ use Rattle.bajofeki_rules.specs.EnteredModes.{first_mode}
 use Rattle.lalrpop_rule_file.specs.declared.file.RuleFile.{RuleFile}
 use Rattle.lalrpop_rule_file.specs.declared.file_rule.FileRule.{FileRule}
 use Rattle.lalrpop_rule_file.specs.declared.part_line.PartLine.{PartLine}
-use Rattle.lalrpop_rule_file.specs.declared.warning.Warning.TheVariants.{NoRules, PartUnused, ModeNotEntered, LiteralEmpty, ModeNotLeft}
-use Rattle.lalrpop_rule_file.specs.Warnings.{AreInOrder, ComesBefore, IsEmptyLiteral, IsWarning, StandsIn, StandsInPart, StandsInRule, reference}
+use Rattle.lalrpop_rule_file.specs.declared.warning.Warning.TheVariants.{NoRules, PartUnused, ModeNotEntered, ModeNotLeft}
+use Rattle.lalrpop_rule_file.specs.Warnings.{AreInOrder, ComesBefore, IsWarning, StandsIn, StandsInPart, StandsInRule, reference}
 
 reference_of_d : reference (codes "D") ≡ codes "{D}"
 reference_of_d = refl
@@ -30,16 +30,7 @@ rule_above : (bytes : List ℕ) (r : FileRule) → r.known ≡ 0 → ¬ StandsIn
 rule_above bytes r known (zero, (q, (less, at, stands))) = let same : q ≡ r = cc in omega (arith, less, known, ap (λ (x : FileRule). x.known) same)
 rule_above bytes r known (suc j, (q, (less, at, stands))) = absurd (cc)
 
--- ---- literals and modes
-
-empty_literals : (text : Bor (List ℕ)) → text.now ≡ [] → IsEmptyLiteral (texts.Literal text) × IsEmptyLiteral (texts.Escaped text) × IsEmptyLiteral (texts.AnyCase text)
-empty_literals text none = (none, none, none)
-
-literal_of_a_letter : (text : Bor (List ℕ)) → text.now ≡ codes "a" → ¬ IsEmptyLiteral (texts.AnyCase text)
-literal_of_a_letter text is none = let k : codes "a" ≡ [] = sym is ∙ none in absurd (cc)
-
-pattern_is_no_literal : (text : Bor (List ℕ)) → ¬ IsEmptyLiteral (texts.Pattern text)
-pattern_is_no_literal text is = is
+-- ---- rules and modes
 
 no_rules : (file : RuleFile) → file.rules.items ≡ [] → IsWarning file NoRules
 no_rules file none = none
@@ -55,7 +46,7 @@ first_mode_needs_no_end file is = omega (arith, is.0)
 kinds_in_order : ComesBefore (PartUnused 7) (ModeNotEntered 0)
 kinds_in_order = inl (omega arith)
 
-numbers_in_order : ComesBefore (LiteralEmpty 1) (LiteralEmpty 2)
+numbers_in_order : ComesBefore (ModeNotLeft 1) (ModeNotLeft 2)
 numbers_in_order = inr (refl, omega arith)
 
 not_before_itself : ¬ ComesBefore (ModeNotEntered 1) (ModeNotEntered 1)

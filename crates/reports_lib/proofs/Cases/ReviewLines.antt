@@ -15,7 +15,7 @@ use Rattle.lalrpop_review.specs.declared.mode.ModeReview.{ModeReview}
 use Rattle.lalrpop_review.specs.declared.whole.Review.{Review}
 use Rattle.lalrpop_verdicts.specs.WonWord.{WonWord}
 use Rattle.reports_lib.specs.ReportedFile.{ReportedFile}
-use Rattle.reports_lib.specs.ReviewLines.{place_text, empty_line, winner_text, winners_text, idle_reason, idle_line, pair_text, clash_line, states_text, characters_text, after_text, witness_text, rules_text, look_text, mode_before, automaton_line, empty_told, idle_told, automaton_told, clash_told, by_mode, mode_told, review_told, review_text, clashes_told, clash_report, has_idle, has_findings}
+use Rattle.reports_lib.specs.ReviewLines.{place_text, empty_line, winner_text, winners_text, idle_reason, idle_line, pair_text, clash_line, states_text, characters_text, after_text, witness_text, rules_text, look_text, mode_before, automaton_line, empty_told, idle_told, automaton_told, clash_told, by_mode, is_only_empty, idle_once, mode_told, review_told, review_text, clashes_told, clash_report, has_idle, has_findings}
 use Rattle.reports_lib.specs.declared.layout.LineForm.TheVariants.{Plain, Json}
 
 -- two rules, IF in line 1 and NAME in line 2, and two modes
@@ -173,9 +173,20 @@ module _ (alloc : Global) where
   clash_in_plain = refl
 
   -- the rule that never wins is told before the automaton
-  one_mode : mode_told Plain two None mode_of_if ≡ idle_line two None idle_if ++ automaton_line two None mode_of_if
+  one_mode : mode_told Plain two [] None mode_of_if ≡ idle_line two None idle_if ++ automaton_line two None mode_of_if
   unfolding digits lib.Utf8.encode ucd_category ucd_derived
   one_mode = refl
+
+  -- IF matches no nonempty text
+  abbrev idle_always : IdleRule
+  idle_always = record { rule = 0; winners = vector [] (omega arith) }
+
+  only_empty : (is_only_empty (1 ∷ 0 ∷ []) idle_always ≡ true) × ((is_only_empty (1 ∷ []) idle_always ≡ false) × (is_only_empty (0 ∷ []) idle_if ≡ false))
+  only_empty = (refl, (refl, refl))
+
+  -- it isn't told again
+  told_before : (idle_once Plain two (0 ∷ []) None idle_always ≡ []) × (idle_once Plain two [] None idle_always ≡ idle_line two None idle_always)
+  told_before = (refl, refl)
 
   -- IF matches the empty text, and never wins in the second mode
   abbrev both : Review

@@ -6,7 +6,7 @@ use Rattle.bajofeki_rules.specs.declared.position.Position.{Position}
 use Rattle.lalrpop_rule_file.specs.declared.file.RuleFile.{RuleFile}
 use Rattle.lalrpop_rule_file.specs.declared.file_rule.FileRule.{FileRule}
 use Rattle.lalrpop_rule_file.specs.declared.part_line.PartLine.{PartLine}
-use Rattle.lalrpop_rule_file.specs.declared.warning.Warning.TheVariants.{NoRules, PartUnused, ModeNotEntered, LiteralEmpty, ModeNotLeft, TextGoesOn, ClassOutside}
+use Rattle.lalrpop_rule_file.specs.declared.warning.Warning.TheVariants.{NoRules, PartUnused, ModeNotEntered, ModeNotLeft, TextGoesOn, ClassOutside, EndPassed}
 use Rattle.reports_lib.specs.ModePlace.{TellsSections}
 use Rattle.reports_lib.specs.Warned.{AreWarnings, SaysWarnings, warned_at, warned_of, warning_text}
 use Rattle.reports_lib.specs.declared.layout.LineForm.{LineForm}
@@ -35,11 +35,6 @@ mode_not_entered : (file : RuleFile) (first second : Bor (List ℕ)) → file.mo
 unfolding digits
 mode_not_entered file first second modes name = rw modes (rw name refl)
 
-empty_literal : (file : RuleFile) (r : FileRule) → file.rules.items ≡ r ∷ [] → r.place ≡ place 3 6
-    → warning_text Plain (codes "r") there file (LiteralEmpty 0) ≡ codes "tokens: r:3:6: warning: this literal is empty, and no token is\n"
-unfolding digits
-empty_literal file r rules at = rw rules (rw at refl)
-
 mode_not_left : (file : RuleFile) (first second : Bor (List ℕ)) → file.modes.items ≡ first ∷ second ∷ [] → second.now ≡ codes "TEXT"
     → warning_text Plain (codes "r") there file (ModeNotLeft 1) ≡ codes "tokens: r:4:1: warning: no rule leaves the mode TEXT: none pops it or puts another mode in its place\n"
 unfolding digits
@@ -54,6 +49,11 @@ class_outside : (file : RuleFile) (r : FileRule) → file.rules.items ≡ r ∷ 
     → warning_text Plain (codes "r") there file (ClassOutside 0) ≡ codes "tokens: r:3:6: warning: the first bracket is a set of the characters in it: a class stands in brackets, as [[:alpha:]]\n"
 unfolding digits
 class_outside file r rules at = rw rules (rw at refl)
+
+end_passed : (file : RuleFile) (r : FileRule) → file.rules.items ≡ r ∷ [] → r.place ≡ place 3 6
+    → warning_text Plain (codes "r") there file (EndPassed 0) ≡ codes "tokens: r:3:6: warning: a match goes on past the first end to the last one: write from 'A' to 'B', or `[^x]*x` for `.*x`\n"
+unfolding digits
+end_passed file r rules at = rw rules (rw at refl)
 
 -- ---- the objects
 
@@ -71,11 +71,6 @@ mode_object : (file : RuleFile) (m : Bor (List ℕ)) → file.modes.items ≡ m 
 unfolding digits print_from escape_byte
 mode_object file m modes name = rw modes (rw name refl)
 
-literal_object : (file : RuleFile) (r : FileRule) → file.rules.items ≡ r ∷ [] → r.place ≡ place 3 6 → r.rule.name.now ≡ codes "A"
-    → warning_text Json (codes "r") there file (LiteralEmpty 0) ≡ codes "{\"file\":\"r\",\"line\":3,\"column\":6,\"kind\":\"literal-empty\",\"rule\":\"A\"}\n"
-unfolding digits print_from escape_byte
-literal_object file r rules at name = rw rules (rw (at, name) refl)
-
 left_object : (file : RuleFile) (m : Bor (List ℕ)) → file.modes.items ≡ m ∷ [] → m.now ≡ codes "M"
     → warning_text Json (codes "r") there file (ModeNotLeft 0) ≡ codes "{\"file\":\"r\",\"line\":4,\"column\":1,\"kind\":\"mode-not-left\",\"mode\":\"M\"}\n"
 unfolding digits print_from escape_byte
@@ -90,6 +85,11 @@ class_object : (file : RuleFile) (r : FileRule) → file.rules.items ≡ r ∷ [
     → warning_text Json (codes "r") there file (ClassOutside 0) ≡ codes "{\"file\":\"r\",\"line\":3,\"column\":6,\"kind\":\"class-outside\",\"rule\":\"A\"}\n"
 unfolding digits print_from escape_byte
 class_object file r rules at name = rw rules (rw (at, name) refl)
+
+end_object : (file : RuleFile) (r : FileRule) → file.rules.items ≡ r ∷ [] → r.place ≡ place 3 6 → r.rule.name.now ≡ codes "A"
+    → warning_text Json (codes "r") there file (EndPassed 0) ≡ codes "{\"file\":\"r\",\"line\":3,\"column\":6,\"kind\":\"end-passed\",\"rule\":\"A\"}\n"
+unfolding digits print_from escape_byte
+end_object file r rules at name = rw rules (rw (at, name) refl)
 
 -- another line, or none, is another warning
 another_line : warned_at (codes "r") (place 1 1) (codes "a") ≢ warned_at (codes "r") (place 2 1) (codes "a")

@@ -4,7 +4,7 @@ use Rattle.std.specs.Fmt.{digits}
 use Rattle.bajofeki_rules.specs.declared.position.Position.{Position}
 use Rattle.lalrpop_rule_file.specs.declared.file.RuleFile.{RuleFile}
 use Rattle.lalrpop_rule_file.specs.declared.warning.Warning.{Warning}
-use Rattle.lalrpop_rule_file.specs.declared.warning.Warning.TheVariants.{NoRules, PartUnused, ModeNotEntered, LiteralEmpty, ModeNotLeft, TextGoesOn, ClassOutside}
+use Rattle.lalrpop_rule_file.specs.declared.warning.Warning.TheVariants.{NoRules, PartUnused, ModeNotEntered, ModeNotLeft, TextGoesOn, ClassOutside, EndPassed}
 use Rattle.reports_lib.specs.ModePlace.{TellsSections}
 use Rattle.reports_lib.specs.Warned.{AreWarnings, warning_line}
 use Rattle.reports_lib.specs.declared.layout.LineForm.{LineForm}
@@ -36,7 +36,7 @@ no_rule_is_told ls file none (section, (tells, (ws, (are, e)))) = by ws ((are.al
     by (NoRules ∷ ws) has e = absurd (cc)
     by (PartUnused i ∷ ws) has e = absurd (cc)
     by (ModeNotEntered m ∷ ws) has e = absurd (cc)
-    by (LiteralEmpty i ∷ ws) has e = absurd (cc)
     by (ModeNotLeft m ∷ ws) has e = absurd (cc)
     by (TextGoesOn i ∷ ws) has e = absurd (cc)
     by (ClassOutside i ∷ ws) has e = absurd (cc)
+    by (EndPassed i ∷ ws) has e = absurd (cc)

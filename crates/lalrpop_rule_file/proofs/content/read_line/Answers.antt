@@ -15,5 +15,5 @@ returns-in-Err-Stopped-clause-error c =
     let stops = rw stop.field-0-is at stop.ensures.unread in (
       refl,
       says_nothing_else c.args.line.now content.content.now content.ensures.content (none tt),
-      fault_of_line c.args.line.now stop.stop.rest.now content.content.now c.column_of.result stop.stop.fault content.ensures.utf8 content.ensures.content stops c.column_of.ensures,
+      fault_of_line c.args.line.now stop.stop.rest.now content.content.now c.column_of.result stop.stop.fault content.ensures.text content.ensures.content stops c.column_of.ensures,
     )

@@ -20,10 +20,10 @@ loop-mode-preserved c =
     let is = never_left file m c.index.result.now entered c.is_never_left.result within at here c.is_never_left.ensures in
     λ h. elim c.if-is_never_left.branch [
       | then-is_never_left+in_ok-push w ↦
-          rw w.found-is (found_more file 4 m c.loop-mode.found.items (c.loop-mode.invariant h) w.push.new.self.items (ModeNotLeft m) refl refl
+          rw w.found-is (found_more file 3 m c.loop-mode.found.items (c.loop-mode.invariant h) w.push.new.self.items (ModeNotLeft m) refl refl
           (is.0 w.if-is_never_left.true) w.in_ok-push.ensures.items)
       | else-is_never_left w ↦
-          rw w.found-is (found_aside file 4 m c.loop-mode.found.items (c.loop-mode.invariant h) (ModeNotLeft m) refl refl
+          rw w.found-is (found_aside file 3 m c.loop-mode.found.items (c.loop-mode.invariant h) (ModeNotLeft m) refl refl
           (λ so. false≢true (sym w.if-is_never_left.false ∙ is.1 so)))
     ]
 
@@ -32,4 +32,4 @@ returns c =
     let file = c.args.self.now in
     let all : length file.modes.items ≤ c.loop-mode.mode =
     omega (arith, c.loop-mode-test.false, c.len-mode-end.ensures, c.in_ok-entered.entered.ok.0, c.in_ok-entered.ensures.same_length) in
-    λ h. found_kind file 4 c.loop-mode.mode c.loop-mode.found.items (c.loop-mode.invariant h) (left_modes_end file c.loop-mode.mode all)
+    λ h. found_kind file 3 c.loop-mode.mode c.loop-mode.found.items (c.loop-mode.invariant h) (left_modes_end file c.loop-mode.mode all)

@@ -16,9 +16,9 @@ loop-rule-preserved c =
     let at : slice_get file.rules.items k ≡ Some c.index.result.now = slice_get_read file.rules.items (length file.rules.items) k c.index.result.now refl within c.index.ensures in
     λ h. elim c.if-is_going_on.branch [
       | then-is_going_on+in_ok-push w ↦
-          rw w.found-is (found_more file 5 k c.loop-rule.found.items (c.loop-rule.invariant h) w.push.new.self.items (TextGoesOn k) refl refl (c.index.result.now, (at, c.is_going_on.ensures.0 w.if-is_going_on.true)) w.in_ok-push.ensures.items)
+          rw w.found-is (found_more file 4 k c.loop-rule.found.items (c.loop-rule.invariant h) w.push.new.self.items (TextGoesOn k) refl refl (c.index.result.now, (at, c.is_going_on.ensures.0 w.if-is_going_on.true)) w.in_ok-push.ensures.items)
       | else-is_going_on w ↦
-          rw w.found-is (found_aside file 5 k c.loop-rule.found.items (c.loop-rule.invariant h) (TextGoesOn k) refl refl
+          rw w.found-is (found_aside file 4 k c.loop-rule.found.items (c.loop-rule.invariant h) (TextGoesOn k) refl refl
           (lacks_text IsGoingOn file k c.index.result.now at (λ is. false≢true (sym w.if-is_going_on.false ∙ c.is_going_on.ensures.1 is))))
     ]
 
@@ -26,4 +26,4 @@ pub returns : goal.returns
 returns c =
     let file = c.args.self.now in
     let all : length file.rules.items ≤ c.loop-rule.rule = omega (arith, c.loop-rule-test.false, c.len-rule-end.ensures, file.rules.ok.0) in
-    λ h. found_kind file 5 c.loop-rule.rule c.loop-rule.found.items (c.loop-rule.invariant h) (texts_end file c.loop-rule.rule all)
+    λ h. found_kind file 4 c.loop-rule.rule c.loop-rule.found.items (c.loop-rule.invariant h) (texts_end file c.loop-rule.rule all)

@@ -1,5 +1,0 @@
-use Rattle.lalrpop_rule_file.specs.Internal.Found.{HasFound}
-use Rattle.lalrpop_rule_file.proofs.file.RuleFile.add_empty_literals.Given as goal
-
-abbrev pub invariant-loop-rule : goal.invariant-loop-rule
-invariant-loop-rule l = HasFound l.self 3 0 l.initial.found.items → HasFound l.self 3 l.rule l.found.items
