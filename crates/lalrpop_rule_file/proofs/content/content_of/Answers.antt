@@ -1,4 +1,4 @@
-use Rattle.std.proofs.Common.{◌≡◌, ℕ, List, ◌∷◌, ◌++◌, refl, sym, ap, subst, length, take, drop, lit<, ◌∙◌}
+use Rattle.std.proofs.Common.{◌≡◌, ℕ, ◌-◌, List, ◌∷◌, ◌++◌, refl, sym, ap, subst, length, take, drop, lit<, ◌∙◌}
 use Rattle.std.proofs.lemmas.List.{take-append-drop}
 use Rattle.std.proofs.lemmas.Str.Pattern.{drop_at_char}
 use Rattle.bajofeki_rules.specs.Position.{position_of}
@@ -24,8 +24,9 @@ returns-in-Some-clause-error c =
     let tail : drop at content ≡ 13 ∷ rest = drop_at_char 13 content at found.0 found.1.1 (lit< tt) in
     let parts : content ≡ front ++ drop at content = sym (take-append-drop at content) in
     let span : IsSpan is_no_return content front (13 ∷ rest) = record { parts = parts ∙ ap (λ (x : List ℕ). front ++ x) tail; passes = no_char 13 front (lit< tt) found.1.0; stops = refl } in
+    let there : c.column_of.result ≡ (position_of content (length content - length (drop at content))).column = rw c.range_from.ensures.value at c.column_of.ensures in
     let column : c.column_of.result ≡ (position_of content (length front)).column =
-    (rw c.range_from.ensures.value at c.column_of.ensures) ∙ ap (λ (n : ℕ). (position_of content n).column) (behind_front front (drop at content) content parts) in
+    there ∙ ap (λ (n : ℕ). (position_of content n).column) (behind_front front (drop at content) content parts) in
     let inside =
     return_inside c.args.line.now content front rest c.column_of.result c.in_ok-text_of.ensures.utf8 (c.without_return-content.ensures ∙ ap without_return c.in_ok-text_of.ensures.text) span column in
     (refl, inside.0, inside.1)
