@@ -24,7 +24,10 @@ const FILES: Named = Named {
         ("none.rules", b"# nothing yet\n"),
         ("part.rules", b"WORD = /[a-z]+/\n  D part = /[0-9]/\n"),
         ("mode.rules", b"WORD = /[a-z]+/\n[TEXT]\nB = 'b'\n"),
-        ("ends.rules", b"WORD = /[a-z]+/\nB = /\".*\"/\nC =  2 /'.+'/\n"),
+        (
+            "ends.rules",
+            b"WORD = /[a-z]+/\nB = /\".*\"/\nC =  2 /'.+'/\n",
+        ),
         ("bad.rules", b"D part = /[0-9]/\nA =\n"),
         ("one.rules", b"A = 'a'\n"),
         (
@@ -444,12 +447,7 @@ fn no_warning_is_said_with_quiet(rt: HostRuntime) {
             0,
         ),
         (&["--quiet", "mode.rules", "g"], b"1:1 WORD \"x\"\n", b"", 0),
-        (
-            &["--quiet", "ends.rules", "g"],
-            b"1:1 WORD \"x\"\n",
-            b"",
-            0,
-        ),
+        (&["--quiet", "ends.rules", "g"], b"1:1 WORD \"x\"\n", b"", 0),
         (
             &["--quiet", "--clashes", "refused.rules"],
             b"INITIAL A B \"a\"\n",
