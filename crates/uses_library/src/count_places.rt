@@ -1,7 +1,7 @@
 //! Places in a text, as line and column.
-ghost use Rattle.std.specs.Prelude.{◌≡◌, ◌≤◌, ◌+◌, ◌^◌, ◌++◌, ◌↔◌, ◌⊎◌, length, IfNone, IfSome, IsSome};
+ghost use Rattle.std.specs.Prelude.{◌≡◌, ◌≤◌, ◌+◌, ◌++◌, ◌↔◌, ◌⊎◌, IfNone, IfSome, IsSome};
 ghost use Rattle.std.specs.Str.{IsCharBoundary, chars};
-ghost use Rattle.bajofeki_rules.specs.Position.{place_behind, position_of};
+ghost use Rattle.bajofeki_rules.specs.Position.{Fits, place_after, place_behind, position_of};
 
 use lalrpop_lexer::{Position, Positions};
 
@@ -42,17 +42,27 @@ pub fn both_ends(text: &str, from: usize, to: usize) -> (Position, Position)
     (begins, ends)
 }
 
-// Needs lalrpop_lexer::Position::after: place, none.
-/// Where the second of two texts ends that follow one another. `None` if both have 2^64 bytes, or two less.
-pub fn behind_both(first: &str, second: &str) -> Option<Position>
-    ensures place { IfSome result (λ p. p ≡ place_behind (chars (first.now ++ second.now))) }
-    ensures none { IfNone result (2 ^ 64 ≤ length first.now + length second.now + 2) }
+// Needs lalrpop_lexer::Position::after: place, fits.
+// The place after the text, if its numbers fit.
+fn behind(place: Position, text: &str) -> Position
+    requires fits { Fits (place_after place text.now) }
+    ensures place { result ≡ place_after place text.now }
 {
-    let begin = Position { line: 1, column: 1 };
-    begin.after(first)?.after(second)
+    match place.after(text) {
+        Some(end) => end,
+        None => unreachable!(),
+    }
 }
 
-// Needs lalrpop_lexer::Position::then: place, none.
+/// Where the second of two texts ends that follow one another. Its numbers fit, since no text has 2^63 bytes.
+pub fn behind_both(first: &str, second: &str) -> Position
+    ensures place { result ≡ place_behind (chars (first.now ++ second.now)) }
+{
+    let begin = Position { line: 1, column: 1 };
+    behind(behind(begin, first), second)
+}
+
+// Needs lalrpop_lexer::Position::then: place, fits.
 /// The place of an offset that is counted from an earlier one, or `None` if one of them has none.
 pub fn place_in_part(text: &str, begin: usize, at: usize) -> Option<Position>
     ensures place { IfSome result (λ p. p ≡ position_of text.now (begin + at)) }

@@ -1,5 +1,5 @@
 //! A text comes in chunks, and is put together again from its pieces.
-ghost use Rattle.std.specs.Prelude.{◌≡◌, ◌++◌, ◌⊎◌, List, ℕ, [], true, false, length, string_bytes, take, slice_get, Some, IfOk, OnOk, IfSome, IfNone};
+ghost use Rattle.std.specs.Prelude.{◌≡◌, ◌++◌, ◌⊎◌, List, ℕ, [], true, false, length, string_bytes, take, slice_get, Some, IfOk, OnOk, OnErr, IfSome, IfNone};
 ghost use Rattle.std.specs.Borrow.{Bor};
 ghost use Rattle.std.specs.Str.{chars};
 ghost use Rattle.lalrpop_hir.specs.Winners.{Matched};
@@ -43,6 +43,20 @@ fn take_pieces(chunks: &mut Stream<'_>, whole: &mut String) -> Result<(), EditEr
             Some(_) => whole.push_str(chunks.slice())?,
             None => return Ok(()),
         }
+    }
+}
+
+// Needs bajofeki::Stream::next_piece: gives, fault.
+/// The rule of the next piece, if that is skipped. A fault isn't.
+pub fn skipped_next(chunks: &mut Stream<'_>) -> Result<Option<usize>, EditError>
+    ensures refused { OnErr result (chunks.new ≡ chunks.old) }
+{
+    match chunks.next_piece()? {
+        Some(piece) if piece.is_skipped => match piece.rule {
+            Some(rule) => Ok(Some(rule)),
+            None => unreachable!(),
+        },
+        _ => Ok(None),
     }
 }
 

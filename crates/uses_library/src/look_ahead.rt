@@ -1,7 +1,7 @@
 //! How far a lexer looks ahead.
 
 ghost use Rattle.std.specs.Prelude.{◌≡◌, ◌≢◌, ℕ, ◌+◌, ◌<◌, ◌↔◌, ◌++◌, [], List, Some, None, length, true, false, IfOk, IfSome, IfNone};
-ghost use Rattle.std.specs.Str.{chars};
+ghost use Rattle.bajofeki.specs.Lexed.{BeginsLonger};
 ghost use Rattle.lalrpop_lexer.specs.Longest.{IsLongest};
 ghost use Rattle.lalrpop_lexer.specs.Lookahead.{CanStayOpen, LooksAtMost, StaysOpenEver};
 ghost use Rattle.lalrpop_lexer.specs.Winners.{IsOnlyStrongest, Matched};
@@ -111,14 +111,10 @@ pub fn final_token<'text>(alloc: Global, lexer: &Lexer, text: &'text str) -> Opt
 // Needs bajofeki::SettledToken::of: none, least.
 /// Whether no token begins a text, but all of it begins one.
 pub fn is_begun(alloc: Global, lexer: &Lexer, text: &str) -> bool
-    ensures begun { result ≡ true → (v : List ℕ)
-        × Matched lexer.now.trees (chars text.now ++ v) }
+    ensures begun { result ≡ true → BeginsLonger lexer.now.trees text.now }
     ensures none { result ≡ true
         → IsLongest lexer.now.trees lexer.now.precedences text.now None }
 {
-    if text.is_empty() {
-        return false;
-    }
     let found = SettledToken::of(alloc, lexer, text);
     match found.token {
         Some(_) => false,

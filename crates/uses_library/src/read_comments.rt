@@ -9,8 +9,9 @@ use lalrpop_lexer::lexer::re::Regex;
 use lalrpop_re::{FromToError, from_to};
 use std::alloc::{AllocError, Global};
 
-// Needs lalrpop_re::from_to: tree, no_fault.
-/// The pattern of a block comment. Each text from `/*` up to the first `*/` is a word of it, and nothing else is; it can be compiled.
+// Needs lalrpop_re::from_to: tree, only, no_fault.
+/// The pattern of a block comment. Each text from `/*` up to the first `*/` is a word of it, and no other list of values is; it can be
+/// compiled.
 ///
 /// # Errors
 ///
@@ -18,6 +19,8 @@ use std::alloc::{AllocError, Global};
 pub fn block_comment(alloc: Global) -> Result<Regex, AllocError>
     ensures words { IfOk result (λ tree. (w : List ℕ) → All IsScalar w
         → Matches tree w ↔ IsFromTo (chars (codes "/*")) (chars (codes "*/")) w) }
+    ensures only { IfOk result (λ tree. (w : List ℕ) → Matches tree w
+        → IsFromTo (chars (codes "/*")) (chars (codes "*/")) w) }
     ensures compiled { IfOk result (λ tree. fault tree ≡ None) }
 {
     match from_to(alloc, "/*", "*/") {
