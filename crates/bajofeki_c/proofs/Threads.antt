@@ -15,9 +15,9 @@ use Rattle.lalrpop_lexer.specs.contracts.lexer.Lexer as Lexer
 use Rattle.lalrpop_rules.specs.contracts.known_rule.KnownRule as KnownRule
 use Rattle.lalrpop_rules.specs.contracts.rule_lexer.RuleLexer as RuleLexer
 use Rattle.bajofeki.specs.contracts.block.Block as Block
-use Rattle.bajofeki.specs.contracts.stream.CutStream as CutStream
+use Rattle.bajofeki.specs.contracts.stream.Stream as CutStream
 use Rattle.bajofeki.specs.contracts.cutter.Cutter as Cutter
-use Rattle.bajofeki.specs.contracts.document.EditedText as EditedText
+use Rattle.bajofeki.specs.contracts.document.Document as EditedText
 use Rattle.bajofeki.specs.contracts.memo.Memo as Memo
 use Rattle.bajofeki.specs.contracts.walker.Walker as Walker
 use Rattle.bajofeki_c.specs.contracts.document.Document as Document
