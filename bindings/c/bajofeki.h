@@ -14,7 +14,7 @@
        bajofeki_text_end(&text);
        bajofeki_lexer_delete(lexer);
 
-   A text that is edited is a bajofeki_document, which keeps its pieces; one that comes in chunks is a bajofeki_stream. Both take UTF-8 alone.
+   A text that is edited is a bajofeki_document, which keeps its pieces and takes UTF-8 alone; one that comes in chunks is a bajofeki_stream.
 
    Places and lengths are in bytes, rules are numbered from 0 in the order of their lines, lines and columns count from 1, and columns
    are in characters. Nothing here keeps a pointer to the file of rules. What only reads a lexer may be called by several threads at
@@ -241,9 +241,8 @@ void bajofeki_document_end(bajofeki_document *document);
    bajofeki_stream_end is owed. */
 void bajofeki_stream_begin(const bajofeki_lexer *lexer, bajofeki_stream *stream);
 
-/* More bytes come, cut anywhere, also in a character; after the last ones none do. Gives BAJOFEKI_DONE; BAJOFEKI_NOT_UTF8 from the call on
-   in which a byte of no character came, or the text ended in one: what came before it is cut, what comes after it isn't; BAJOFEKI_ENDED;
-   BAJOFEKI_OUT_OF_MEMORY, as each later call and bajofeki_next then do; or BAJOFEKI_NO_LEXER. */
+/* More bytes come, cut anywhere, also in a character; after the last ones none do. Gives BAJOFEKI_DONE; BAJOFEKI_ENDED, or
+   BAJOFEKI_OUT_OF_MEMORY, after which nothing has changed; or BAJOFEKI_NO_LEXER. */
 uint32_t bajofeki_feed(bajofeki_stream *stream, const char *bytes, size_t length, bool is_last);
 
 /* Writes the next pieces that nothing that comes can change, as many as the array takes, and gives how many it wrote. Places count from the
@@ -260,7 +259,7 @@ bajofeki_place_t bajofeki_position(const char *text, size_t length, size_t at);
 
 /* The version of these functions, the first number of a release's. A program works with any later library of the same version. */
 uint32_t bajofeki_version(void);
-#define BAJOFEKI_VERSION 2
+#define BAJOFEKI_VERSION 3
 
 #ifdef __cplusplus
 }

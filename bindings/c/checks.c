@@ -211,8 +211,9 @@ static void check_stream(void) {
     CHECK(count.code == BAJOFEKI_DONE && count.count == 2 && is_piece(pieces[0], BAJOFEKI_SKIPPED, 2, 3, 1));
     CHECK(is_piece(pieces[1], BAJOFEKI_FAULT, 0, 4, 2) && bajofeki_stream_feed(stream, "a", 1, false) == BAJOFEKI_ENDED);
     CHECK(bajofeki_stream_feed(broken, NULL, 1, false) == BAJOFEKI_BAD_ARGUMENT && bajofeki_stream_feed(broken, "a", SIZE_MAX, false) == BAJOFEKI_BAD_ARGUMENT);
-    CHECK(bajofeki_stream_feed(broken, "a\xFF" "b", 3, false) == BAJOFEKI_NOT_UTF8 && bajofeki_stream_feed(broken, "c", 1, true) == BAJOFEKI_NOT_UTF8);
-    CHECK(bajofeki_stream_next(broken, pieces, 8).count == 1 && is_piece(pieces[0], BAJOFEKI_TOKEN, 1, 0, 1));
+    CHECK(bajofeki_stream_feed(broken, "a\xFF" "b", 3, false) == BAJOFEKI_DONE && bajofeki_stream_feed(broken, "\xC3", 1, true) == BAJOFEKI_DONE);
+    CHECK(bajofeki_stream_next(broken, pieces, 8).count == 4 && is_piece(pieces[0], BAJOFEKI_TOKEN, 1, 0, 1));
+    CHECK(is_piece(pieces[1], BAJOFEKI_FAULT, 0, 1, 1) && is_piece(pieces[2], BAJOFEKI_TOKEN, 1, 2, 1) && is_piece(pieces[3], BAJOFEKI_FAULT, 0, 3, 1));
     CHECK(bajofeki_stream_feed(none, "a", 1, true) == BAJOFEKI_NO_LEXER && bajofeki_stream_next(none, pieces, 8).code == BAJOFEKI_NO_LEXER);
     bajofeki_stream_delete(none);
     bajofeki_stream_delete(broken);
@@ -249,8 +250,10 @@ static bool check_refused(const bajofeki_lexer *lexer, size_t n) {
         granted = n;
         is_next = is_refused(bajofeki_stream_next(stream, pieces, 8).code);
     }
-    /* What a feed refused stays so, and what a next refused is had again. */
-    CHECK(is_refused(bajofeki_stream_next(stream, pieces, 8).code) == is_fed && is_refused(bajofeki_stream_feed(stream, "y", 1, true)) == is_fed);
+    /* What was refused is had again. */
+    CHECK(!is_fed || bajofeki_stream_feed(stream, "let x ", 6, false) == BAJOFEKI_DONE);
+    count = bajofeki_stream_next(stream, pieces, 8);
+    CHECK(count.code == BAJOFEKI_DONE && count.count == (is_fed || is_next ? 3 : 0) && bajofeki_stream_feed(stream, "y", 1, true) == BAJOFEKI_DONE);
     bajofeki_stream_delete(stream);
     bajofeki_document_delete(document);
     return is_cut || is_found || is_fed || is_next;
@@ -311,8 +314,8 @@ static uint64_t sum_of(const bajofeki_lexer *lexer, const char *bytes, size_t le
     return sum;
 }
 
-/* The same sum over the pieces of a document that is put together from its end, and of a stream that is fed `most` bytes at a time; 0 if the
-   bytes aren't UTF-8. */
+/* The same sum over the pieces of a document that is put together from its end, 0 if the bytes aren't UTF-8; and of a stream that is fed
+   `most` bytes at a time. */
 static uint64_t sum_of_document(const bajofeki_lexer *lexer, const char *bytes, size_t length, size_t most) {
     bajofeki_document *document = bajofeki_document_new(lexer);
     bajofeki_piece_t *pieces = NULL;
@@ -345,10 +348,9 @@ static uint64_t sum_of_stream(const bajofeki_lexer *lexer, const char *bytes, si
     bajofeki_piece_t pieces[3];
     bajofeki_count_t count;
     uint64_t sum = 0;
-    uint32_t code = BAJOFEKI_DONE;
     for (size_t at = 0; at <= length; at += most) {
         size_t size = length - at < most ? length - at : most;
-        code = bajofeki_stream_feed(stream, bytes + at, size, at + most > length);
+        CHECK(bajofeki_stream_feed(stream, bytes + at, size, at + most > length) == BAJOFEKI_DONE);
         do {
             count = bajofeki_stream_next(stream, pieces, 3);
             for (size_t i = 0; i < count.count; i++) {
@@ -358,17 +360,17 @@ static uint64_t sum_of_stream(const bajofeki_lexer *lexer, const char *bytes, si
         CHECK(count.code == BAJOFEKI_DONE);
     }
     bajofeki_stream_delete(stream);
-    return code == BAJOFEKI_DONE ? sum : 0;
+    return sum;
 }
 
 /* Arrays of all sizes get the same pieces, and a document and a stream have those of a cut, unless it goes too deep. */
 static void check_sums(const bajofeki_lexer *lexer, const char *bytes, size_t length, size_t most) {
     bool is_utf8 = bajofeki_lexer_html(lexer, bytes, length, NULL, 0).code == BAJOFEKI_SHOWN;
-    uint64_t wanted = is_utf8 ? sum_of_stream(lexer, bytes, length, length + 1) : 0, sum;
+    uint64_t wanted = sum_of_stream(lexer, bytes, length, length + 1), sum;
     size_t left;
-    CHECK(sum_of_document(lexer, bytes, length, most) == wanted && sum_of_stream(lexer, bytes, length, most) == wanted);
+    CHECK(sum_of_document(lexer, bytes, length, most) == (is_utf8 ? wanted : 0) && sum_of_stream(lexer, bytes, length, most) == wanted);
     sum = sum_of(lexer, bytes, length, most, &left);
-    CHECK(sum_of(lexer, bytes, length, 1000, &left) == sum && (!is_utf8 || left > 0 || sum == wanted));
+    CHECK(sum_of(lexer, bytes, length, 1000, &left) == sum && (left > 0 || sum == wanted));
 }
 
 static char *read_file(const char *path, size_t *length) {

@@ -7,7 +7,7 @@
            }
        }
 
-   Texts are any bytes, but those of a document and of a stream are UTF-8. Places and lengths are in bytes, rules are numbered from 0, lines
+   Texts are any bytes, but those of a document are UTF-8. Places and lengths are in bytes, rules are numbered from 0, lines
    and columns count from 1, and columns are in characters. All types here but records can be moved and not copied. A lexer may be moved, and
    outlives what is made of it. Many threads may read it at once; the pieces of a text, a document and a stream are one thread's at a time. A
    string_view that is given lies in the text that was passed, in the lexer, or where its call says.
@@ -341,11 +341,10 @@ public:
         }
     }
 
-    /* More bytes come, cut anywhere, also in a character. Throws std::invalid_argument once a byte of no character has come: what came before
-       it is given still. */
+    /* More bytes come, cut anywhere, also in a character. Throws std::logic_error after finish. */
     void feed(std::string_view bytes) { feed(bytes, false); }
 
-    /* No more bytes come. Throws std::invalid_argument in a character. */
+    /* No more bytes come. */
     void finish() { feed({}, true); }
 
     /* The next piece that nothing that comes can change; nothing if more is to be fed first. Its text lasts until that. */
@@ -379,7 +378,11 @@ private:
             begin_ = end_;
         }
         bytes_.append(bytes);
-        detail::check(bajofeki_stream_feed(stream_.get(), bytes.data(), bytes.size(), is_last));
+        const std::uint32_t code = bajofeki_stream_feed(stream_.get(), bytes.data(), bytes.size(), is_last);
+        if (code != BAJOFEKI_DONE) {
+            bytes_.resize(bytes_.size() - bytes.size());
+        }
+        detail::check(code);
     }
 };
 

@@ -112,8 +112,10 @@ void check_stream() {
     stream.finish();
     CHECK(is(*stream.next(), kind::skipped, "SPACE", 3, " ") && is(*stream.next(), kind::fault, "", 4, "\xC3\xA9") && !stream.next());
     CHECK(throws<std::logic_error>([&] { stream.feed("a"); }) && throws<std::logic_error>([&] { first.feed("a"); }));
-    CHECK(throws<std::invalid_argument>([&] { broken.feed("a \xFF"); }) && is(*broken.next(), kind::token, "NAME", 0, "a"));
-    CHECK(throws<std::invalid_argument>([&] { broken.finish(); }) && is(*broken.next(), kind::skipped, "SPACE", 1, " ") && !broken.next());
+    broken.feed("a \xFF");
+    CHECK(is(*broken.next(), kind::token, "NAME", 0, "a") && is(*broken.next(), kind::skipped, "SPACE", 1, " ") && !broken.next());
+    broken.finish();
+    CHECK(is(*broken.next(), kind::fault, "", 2, "\xFF") && !broken.next());
     bajofeki::stream long_one(lexer);
     std::size_t end = 0;
     for (int i = 0; i < 3000; i++) {

@@ -461,7 +461,7 @@ def _size(number):
 
 
 def _str(data):
-    return str(data, "utf-8")
+    return str(data, "utf-8", "replace")
 
 
 class _Open:
@@ -587,7 +587,8 @@ class Document(_Open):
 
 
 class Stream(_Open):
-    """A text that comes in chunks. Going over it gives the Pieces that no later chunk can change, each once.
+    """A text that comes in chunks of any bytes. Going over it gives the Pieces that no later chunk can change, each once. What isn't UTF-8
+    lies in faults; its text has U+FFFD.
 
     >>> with Stream(Lexer("NAME = /[a-z]+/\\nSPACE skip = ' '\\n")) as stream:
     ...     stream.feed("let x")
@@ -601,28 +602,23 @@ class Stream(_Open):
 
     def __init__(self, lexer):
         super().__init__(lexer, "stream")
-        # What has come of the text and stands in no piece, where that begins, pieces to be given, and where the text isn't UTF-8.
-        self._rest, self._at, self._given, self._bad = bytearray(), 0, deque(), None
+        # What has come of the text and stands in no piece, where that begins, and pieces to be given.
+        self._rest, self._at, self._given = bytearray(), 0, deque()
 
     def feed(self, chunk):
-        """More of the text comes: a str, or a buffer, which may end in a character. NotUtf8Error from the chunk on in which the text isn't
-        UTF-8: what came before is cut, and no more. ValueError once the text has ended."""
+        """More of the text comes: a str, or a buffer, which may end in a character. ValueError once the text has ended."""
         self._feed(chunk, False)
 
     def finish(self):
-        """The text has ended. NotUtf8Error if that is in a character."""
+        """The text has ended."""
         self._feed(b"", True)
 
     def _feed(self, chunk, is_last):
         chunk = _Text(chunk.encode() if isinstance(chunk, str) else chunk)
         code = self._call(LIBRARY.bajofeki_feed, chunk.at, chunk.size, is_last)
-        if code not in (_DONE, _NOT_UTF8):
+        if code != _DONE:
             raise _failed(code)
-        if self._bad is None:
-            self._rest += chunk.data
-        if code == _NOT_UTF8:
-            self._bad = self._at + _first_bad(self._rest) if self._bad is None else self._bad
-            raise NotUtf8Error(self._bad)
+        self._rest += chunk.data
 
     def __iter__(self):
         while self._given or self._takes_pieces():

@@ -79,7 +79,7 @@ FUNCTIONS = {
 
 
 # The version of the functions, and so the number in the library's name.
-VERSION = 2
+VERSION = 3
 
 
 def _loaded():

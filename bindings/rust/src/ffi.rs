@@ -10,7 +10,6 @@ pub const DONE: u32 = 0;
 pub const BAD_RANGE: u32 = 1;
 pub const BAD_NAME: u32 = 1;
 pub const FULL: u32 = 2;
-pub const NOT_UTF8: u32 = 3;
 pub const TOO_DEEP: u32 = 4;
 pub const TOO_LARGE: u32 = 6;
 pub const ENDED: u32 = 8;

@@ -1,13 +1,13 @@
 //! A text that comes in chunks.
 
 use std::fmt;
-use std::str;
 
-use crate::ffi::{HeldStream, Piece, DONE, FULL, NOT_UTF8};
+use crate::ffi::{HeldStream, Piece, DONE, FULL};
 use crate::items::{item, ROOM};
 use crate::{Item, Lexer, TextError};
 
-/// A text that comes in chunks. Each of its pieces is given once no later chunk can change it.
+/// A text that comes in chunks of any bytes. Each of its pieces is given once no later chunk can change it. What isn't UTF-8 matches
+/// nothing, so it lies in a fault.
 ///
 /// ```
 /// use bajofeki::{Lexer, Stream};
@@ -16,10 +16,10 @@ use crate::{Item, Lexer, TextError};
 /// let mut stream = Stream::new(&lexer);
 /// stream.feed("let x")?;
 /// let parts: Vec<_> = stream.pieces()?.iter().map(|piece| piece.text).collect();
-/// assert_eq!(parts, ["let", " "]);
+/// assert_eq!(parts, [&b"let"[..], b" "]);
 /// stream.feed(b"y")?;
 /// stream.finish()?;
-/// assert_eq!(stream.pieces()?[0].text, "xy");
+/// assert_eq!(stream.pieces()?[0].text, b"xy");
 /// # Ok::<(), Box<dyn std::error::Error>>(())
 /// ```
 pub struct Stream<'a> {
@@ -31,8 +31,6 @@ pub struct Stream<'a> {
     pieces: Vec<Piece>,
     /// How many of `pieces` were given.
     given: usize,
-    /// The offset of the first byte that isn't UTF-8.
-    bad: Option<usize>,
 }
 
 impl<'a> Stream<'a> {
@@ -45,7 +43,6 @@ impl<'a> Stream<'a> {
             at: 0,
             pieces: Vec::new(),
             given: 0,
-            bad: None,
         }
     }
 
@@ -53,8 +50,7 @@ impl<'a> Stream<'a> {
     ///
     /// # Errors
     ///
-    /// [`TextError::NotUtf8`] from the chunk on in which the text isn't UTF-8: what came before is cut, and no more.
-    /// [`TextError::Ended`] after [`Stream::finish`], or [`TextError::OutOfMemory`].
+    /// [`TextError::Ended`] after [`Stream::finish`], or [`TextError::OutOfMemory`]. Then nothing has changed.
     pub fn feed(&mut self, chunk: impl AsRef<[u8]>) -> Result<(), TextError> {
         self.take(chunk.as_ref(), false)
     }
@@ -63,7 +59,7 @@ impl<'a> Stream<'a> {
     ///
     /// # Errors
     ///
-    /// As for [`Stream::feed`]; [`TextError::NotUtf8`] if the text ends in a character.
+    /// As for [`Stream::feed`].
     pub fn finish(&mut self) -> Result<(), TextError> {
         self.take(&[], true)
     }
@@ -74,19 +70,11 @@ impl<'a> Stream<'a> {
             return Err(TextError::OutOfMemory);
         }
         let code = self.held.feed(chunk, is_last);
-        if code != DONE && code != NOT_UTF8 {
+        if code != DONE {
             return Err(TextError::new(code));
         }
-        if self.bad.is_none() {
-            self.text.extend_from_slice(chunk);
-        }
-        if code == DONE {
-            return Ok(());
-        }
-        let first_bad = |text| str::from_utf8(text).map_or_else(|it| it.valid_up_to(), str::len);
-        let place = self.bad.unwrap_or_else(|| self.at + first_bad(&self.text));
-        self.bad = Some(place);
-        Err(TextError::NotUtf8(place))
+        self.text.extend_from_slice(chunk);
+        Ok(())
     }
 
     /// The further pieces that no later chunk can change.
@@ -94,7 +82,7 @@ impl<'a> Stream<'a> {
     /// # Errors
     ///
     /// [`TextError::OutOfMemory`]; then a later call gives them.
-    pub fn pieces(&mut self) -> Result<Vec<Item<'_>>, TextError> {
+    pub fn pieces(&mut self) -> Result<Vec<Item<'_, [u8]>>, TextError> {
         self.let_given_go();
         let mut code = FULL;
         while code == FULL {
@@ -116,7 +104,6 @@ impl<'a> Stream<'a> {
         }
         self.given = self.pieces.len();
         let text = &self.text[..self.given_bytes()];
-        let text = str::from_utf8(text).expect("pieces are whole characters");
         for piece in &self.pieces {
             let start = piece.start - self.at;
             let found = item(self.lexer, text, Piece { start, ..*piece });

@@ -13,8 +13,6 @@ pub enum TextError {
     NoBoundary,
     /// The document would have 4,294,967,295 bytes or more.
     TooLarge,
-    /// The stream isn't UTF-8: the offset of its first bad byte.
-    NotUtf8(usize),
     /// The stream has ended.
     Ended,
     /// A request for memory was refused.
@@ -40,7 +38,6 @@ impl Display for TextError {
                 f.write_str("the range isn't one of whole characters of the text")
             }
             TextError::TooLarge => f.write_str("the text would be too large"),
-            TextError::NotUtf8(place) => write!(f, "byte {place} of the text isn't UTF-8"),
             TextError::Ended => f.write_str("the text has ended"),
             TextError::OutOfMemory => f.write_str("out of memory"),
         }

@@ -4,9 +4,10 @@ mod Kept
 mod Lexed
 mod Given
 mod Chunked
-mod Decoded
+mod Begun
 mod Walking
 mod Noted
+mod Parts
 mod Costs
 mod Markup
 mod Places

@@ -9,7 +9,7 @@ use Rattle.lalrpop_rules.specs.Found.{MatchesAt}
 use Rattle.lalrpop_rules.specs.Pieces.{IsPiece, AreSame, slice_of, joined}
 use Rattle.lalrpop_rules.specs.declared.item.Item.{Item}
 use Rattle.lalrpop_rules.specs.declared.item.Item.TheVariants.{Token, Skipped, Fault}
-use Rattle.lalrpop_rules.proofs.PieceLaws.{is_front, is_some}
+use Rattle.lalrpop_rules.proofs.PieceLaws.{is_some, is_split}
 use Rattle.lalrpop_rules.proofs.FirstMatches.{some_length}
 use Rattle.bajofeki_rules.specs.Stack.{Stack, start}
 use Rattle.lalrpop_rules.specs.Modes.{ModeRules, ArePiecesFrom, trees_in, after}
@@ -64,8 +64,8 @@ held_after old new gives = subst (λ (c : Chunked). IsHeldBack c) (sym gives.0) 
 -- the bytes of a piece that is final, and the rest after them
 front_of_rest : (c : Chunked) (x : Item) → IsFinal c x → c.rest ≡ slice_of x ++ drop (length (slice_of x)) c.rest
 front_of_rest c x final =
-    let front = is_front (trees_in c.rules c.stack.mode) c.rules.precedences c.rules.skips (c.rest ++ []) 0 (placed 0 x) (final [] (λ _. refl)) in
-    let split : c.rest ≡ slice_of x ++ front.0 = sym (append-nil c.rest) ∙ front.1.0 ∙ ap (λ (p : List ℕ). p ++ front.0) (slice_placed 0 x) in
+    let front = is_split (trees_in c.rules c.stack.mode) c.rules.precedences c.rules.skips (c.rest ++ []) 0 (placed 0 x) (final [] (λ _. refl)) in
+    let split : c.rest ≡ slice_of x ++ front.0 = sym (append-nil c.rest) ∙ front.1 ∙ ap (λ (p : List ℕ). p ++ front.0) (slice_placed 0 x) in
     split ∙ ap (λ (t : List ℕ). slice_of x ++ t) (sym (ap (drop (length (slice_of x))) split ∙ drop_at (slice_of x) front.0 (length (slice_of x)) refl))
 
 -- less is left after a piece that is given, so a caller who asks for one after another comes to an end

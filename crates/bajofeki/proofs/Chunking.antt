@@ -30,9 +30,11 @@ use Rattle.bajofeki.specs.Internal.Reach.{AreAlike, IsSettledBy}
 use Rattle.bajofeki.specs.Internal.Kept.{IsFront, after_rule}
 use Rattle.bajofeki.specs.Internal.Noted.{IsCutter, IsNoted, IsSound}
 use Rattle.bajofeki.specs.Lexed.{placed}
-use Rattle.bajofeki.specs.Chunked.{Chunked, IsFinal, IsOpen, IsHeldBack, GivesFinal, BeginsFault}
+use Rattle.bajofeki.specs.Chunked.{Chunked, IsFinal, IsOpenIn, IsHeldBack, GivesFinal, BeginsFault, MayBegin, MayMatch}
+use Rattle.bajofeki.specs.Begun.{NoCharacter}
 use Rattle.bajofeki.specs.Given.{item_by}
 use Rattle.bajofeki.proofs.Noting.{left_sound}
+use Rattle.bajofeki.proofs.BytesLaws.{none_at, text_match}
 use Rattle.bajofeki.proofs.Settling.{settled_match}
 
 pub slice_placed : (at : ℕ) (x : Item) → slice_of (placed at x) ≡ slice_of x
@@ -113,62 +115,24 @@ module _ (r : ModeRules) (text : List ℕ) where
 
 -- ---- the piece at the front of a text
 
--- a piece at the front is a prefix
-pub front_prefix : (ts : List Tree) (ps text : List ℕ) (o : Option ℕ) (slice : List ℕ) → IsFront ts ps text o slice → IsPrefix slice text
-front_prefix ts ps text (Some i) slice is = is.0.0.0
-front_prefix ts ps text None slice is = is.front
+-- if nothing matches at the front of a text, and what comes can't change that, nothing does whatever comes
+pub none_comes : (ts : List Tree) (ps text tail : List ℕ) (o : Option (ℕ × Bor (List ℕ))) (reach : ℕ) → is_some o ≡ false
+    → IsLongest ts ps text (option_map (λ m. (m.0, m.1.now)) o) → IsSettledBy ts text reach → reach ≤ length text → NoMatchBefore ts (text ++ tail) 1
+none_comes ts ps text tail (Some m) reach none longest by little = absurd (cc)
+none_comes ts ps text tail None reach none longest by little =
+    none_at ts (text ++ tail) (λ m. longest m.0 (settled_match ts text (text ++ tail) m.0 reach by (sym (take-append-le reach text tail little)) m.1))
 
--- a text that goes on is alike as far as it has come
-alike_so_far : (rest more : List ℕ) (reach : ℕ) → (more ≡ []) ⊎ (reach ≤ length rest) → AreAlike reach rest (rest ++ more)
-alike_so_far rest more reach (inl none) = ap (take reach) (sym (ap (λ (t : List ℕ). rest ++ t) none ∙ append-nil rest))
-alike_so_far rest more reach (inr little) = sym (take-append-le reach rest more little)
-
--- a piece that depends on no more than has come, or on all that comes, is there whatever comes
-pub front_final : (ts : List Tree) (ps rest more : List ℕ) (o : Option ℕ) (n reach : ℕ)
-    → ((other : List ℕ) → AreAlike reach rest other → (slice : List ℕ) × ((length slice ≡ n) × IsFront ts ps other o slice))
-    → n ≤ length rest → (more ≡ []) ⊎ (reach ≤ length rest) → IsFront ts ps (rest ++ more) o (take n rest)
-front_final ts ps rest more o n reach front within settled =
-    let is = front (rest ++ more) (alike_so_far rest more reach settled) in
-    let begins = front_prefix ts ps (rest ++ more) o is.0 is.1.1 in
-    let same : is.0 ≡ take n rest =
-    sym (take-append_seam is.0 begins.0) ∙ ap (take (length is.0)) (sym begins.1.0) ∙ ap (λ (k : ℕ). take k (rest ++ more)) is.1.0
-    ∙ take-append-le n rest more within in
-    subst (λ (p : List ℕ). IsFront ts ps (rest ++ more) o p) same is.1.1
-
--- if nothing matches at the front of what has come, nothing does whatever comes
-pub none_comes : (ts : List Tree) (ps rest more : List ℕ) (o : Option (ℕ × Bor (List ℕ))) (reach : ℕ) → is_some o ≡ false
-    → IsLongest ts ps rest (option_map (λ m. (m.0, m.1.now)) o) → IsSettledBy ts rest reach → (more ≡ []) ⊎ (reach ≤ length rest) → NoMatchBefore ts (rest ++ more) 1
-none_comes ts ps rest more (Some m) reach none longest by settled n below there = cc
-none_comes ts ps rest more None reach none longest by settled n below there =
-    let front : n ≡ 0 = omega (arith, below) in
-    let here : MatchesAt ts (rest ++ more) 0 = subst (λ (k : ℕ). MatchesAt ts (rest ++ more) k) front there in
-    longest here.0 (settled_match ts rest (rest ++ more) here.0 reach by (alike_so_far rest more reach settled) here.1)
+-- nor does anything, if no character comes
+pub none_follows : (ts : List Tree) (ps text tail : List ℕ) (o : Option (ℕ × Bor (List ℕ))) → is_some o ≡ false
+    → IsLongest ts ps text (option_map (λ m. (m.0, m.1.now)) o) → IsUtf8 text → NoCharacter tail → NoMatchBefore ts (text ++ tail) 1
+none_follows ts ps text tail (Some m) none longest u over = absurd (cc)
+none_follows ts ps text tail None none longest u over =
+    none_at ts (text ++ tail) (λ m. longest m.0 (text_match ts text tail m.0 u over m.1))
 
 pub some_there : (ts : List Tree) (ps rest : List ℕ) (o : Option (ℕ × Bor (List ℕ))) → is_some o ≡ true
     → IsLongest ts ps rest (option_map (λ m. (m.0, m.1.now)) o) → MatchesAt ts rest 0
 some_there ts ps rest None some longest = absurd (cc)
 some_there ts ps rest (Some m) some longest = (m.1.now, longest.0)
-
--- ---- where a text may be cut, once more has come
-
-boundary_more : (text chunk : List ℕ) (n : ℕ) → IsUtf8 chunk → IsCharBoundary text n → IsCharBoundary (text ++ chunk) n
-boundary_more text chunk n utf8 here = (omega (arith, here.0, length-append text chunk), begins (cases_order n (length text)))
-  where
-    begins : (n ≡ length text) ⊎ ((n < length text) ⊎ (length text < n)) → n < length (text ++ chunk) → 128 ≤ get_or (text ++ chunk) n 0 → 192 ≤ get_or (text ++ chunk) n 0
-    begins (inl end) within high =
-        let place : n ≡ length text + 0 = omega (arith, end) in
-        let same : get_or (text ++ chunk) n 0 ≡ get_or chunk 0 0 = ap (λ (k : ℕ). get_or (text ++ chunk) k 0) place ∙ get_or-append-add text chunk 0 0 in
-        let some : 0 < length chunk = omega (arith, end, within, length-append text chunk) in
-        rw same ((IsCharBoundary-start chunk utf8).1 some (rw same at high))
-    begins (inr (inl before)) within high =
-        let same : get_or (text ++ chunk) n 0 ≡ get_or text n 0 = get_or_append_left text chunk 0 n before in
-        rw same (here.1 before (rw same at high))
-    begins (inr (inr behind)) within high = absurd (omega (arith, here.0, behind))
-
-pub boundary_if_more : {A B : Type 0} (text chunk new : List ℕ) (n : ℕ) (done : Result A B) → IsUtf8 chunk → IsCharBoundary text n
-    → new ≡ (if is_ok done then text ++ chunk else text) → IsCharBoundary new n
-boundary_if_more text chunk new n (Ok a) utf8 here is = subst (λ (t : List ℕ). IsCharBoundary t n) (sym is) (boundary_more text chunk n utf8 here)
-boundary_if_more text chunk new n (Err e) utf8 here is = subst (λ (t : List ℕ). IsCharBoundary t n) (sym is) here
 
 -- ---- what the rest is cut with
 
@@ -214,15 +178,11 @@ abbrev so_far : ModeRules → List ℕ → List ℕ → ℕ → Stack → Bool �
 so_far r last rest at s over = record { rules = r; last = last; rest = rest; at = at; stack = s; is_ended = over }
 
 pub held_back_here : (r : ModeRules) (last left rest : List ℕ) (at mode : ℕ) (s : Stack) (over : Bool) → rest ≡ left → mode ≡ s.mode → (over ≡ true → rest ≡ [])
-    → (over ≡ false → IsOpen (trees_in r mode) rest) → IsHeldBack (so_far r last left at s over)
+    → (over ≡ false → IsOpenIn (trees_in r mode) rest) → IsHeldBack (so_far r last left at s over)
 held_back_here r last left rest at mode s over same_rest same_mode empty held = (
   (λ is. sym same_rest ∙ empty is),
-  (λ is. subst (λ (m : ℕ). IsOpen (trees_in r m) left) same_mode (subst (λ (t : List ℕ). IsOpen (trees_in r mode) t) same_rest (held is))),
+  (λ is. subst (λ (m : ℕ). IsOpenIn (trees_in r m) left) same_mode (subst (λ (t : List ℕ). IsOpenIn (trees_in r mode) t) same_rest (held is))),
 )
-
-pub not_empty : (rest : List ℕ) (test : Bool) → test ≡ (length rest == 0) → test ≡ false → rest ≢ []
-not_empty [] test is fails none = cc
-not_empty (x ∷ rest) test is fails none = cc
 
 -- a fault begins at the rest, if nothing matches there
 pub fault_here : (c : Chunked) (rest : List ℕ) (ts : List Tree) (over : Bool) → rest ≡ c.rest → ts ≡ trees_in c.rules c.stack.mode → over ≡ c.is_ended → rest ≢ []
@@ -232,6 +192,14 @@ fault_here c rest ts over same_rest same_trees same_end some none = (
   (λ more may. subst (λ (us : List Tree). NoMatchBefore us (c.rest ++ more) 1) same_trees
       (subst (λ (t : List ℕ). NoMatchBefore ts (t ++ more) 1) same_rest (none more (λ is. may (sym same_end ∙ is))))),
 )
+
+-- something may match there, if something may match at the rest
+pub may_here : (c : Chunked) (rest : List ℕ) (ts : List Tree) (over : Bool) → rest ≡ c.rest → ts ≡ trees_in c.rules c.stack.mode → over ≡ c.is_ended
+    → MatchesAt ts rest 0 ⊎ ((over ≡ false) × MayBegin ts rest) → MayMatch c
+may_here c rest ts over same_rest same_trees same_end (inl m) =
+    inl (subst (λ (us : List Tree). MatchesAt us c.rest 0) same_trees (subst (λ (t : List ℕ). MatchesAt ts t 0) same_rest m))
+may_here c rest ts over same_rest same_trees same_end (inr (goes, may)) =
+    inr (sym same_end ∙ goes, subst (λ (us : List Tree). MayBegin us c.rest) same_trees (subst (λ (t : List ℕ). MayBegin ts t) same_rest may))
 
 start_by : (o : Option ℕ) (skipped : Bool) (at : ℕ) (slice : Bor (List ℕ)) → start_of (item_by o skipped at slice) ≡ at
 start_by None skipped at slice = refl

@@ -4,7 +4,7 @@ use Rattle.std.specs.Prelude.{Option, Some, None, IsSomeAnd, slice_get}
 use Rattle.std.specs.Str.{chars, IsUtf8, IsCharBoundary}
 use Rattle.std.specs.Char.{encode_utf8}
 use Rattle.std.proofs.lemmas.Bool.{cases_order, cases_lt}
-use Rattle.std.proofs.lemmas.Str.{IsUtf8-take, IsCharBoundary-from_take}
+use Rattle.std.proofs.lemmas.Str.{IsUtf8-drop, IsUtf8-take, IsCharBoundary-from_take}
 use Rattle.std.proofs.lemmas.List.{take-append-drop, append-nil}
 use Rattle.lalrpop_hir.specs.Tree.{Tree}
 use Rattle.lalrpop_hir.specs.Longest.{IsMatch, IsLongest}
@@ -80,7 +80,7 @@ fault_before ts ps text rest p at k i reach reach2 cut here some before read le 
 
     is : IsFault ts text (take at text)
     is = record {
-      front = (rest, (cut.split, cut.seen_utf8));
+      front = (rest, cut.split);
       some = λ none. omega (arith, cut.place, ap length none, here, some);
       nothing = subst (λ (n : ℕ). NoMatchBefore ts text n) (sym cut.place) before;
       ends = inr (subst (λ (n : ℕ). MatchesAt ts text n) there (p, longest.0));
@@ -100,7 +100,7 @@ fault_to_end ts ps text at u some here before = λ other alike.
   where
     is : IsFault ts text text
     is = record {
-      front = ([], (sym (append-nil text), u));
+      front = ([], sym (append-nil text));
       some = λ none. omega (arith, some, ap length none);
       nothing = subst (λ (n : ℕ). NoMatchBefore ts text n) here before;
       ends = inl refl;
@@ -114,9 +114,9 @@ token_front d ts ps text p i m reach h longest settled le = λ other alike.
 
 -- ---- more may come
 
--- at the beginning, or from a character on up to which none matches, some tree matches a longer word than the text from there on
+-- at the beginning, or from a place on up to which none matches, there is a text, and some tree matches a longer word than the text from there on
 abbrev pub BeginsMore : List Tree → List ℕ → ℕ → Type 0
-BeginsMore ts text k = IsCharBoundary text k × ((k ≡ 0) ⊎ NoMatchBefore ts text (k + 1)) × ((v : List ℕ) × ((v ≢ []) × Matched ts (chars (drop k text) ++ v)))
+BeginsMore ts text k = IsUtf8 (drop k text) × ((k ≡ 0) ⊎ NoMatchBefore ts text (k + 1)) × ((v : List ℕ) × ((v ≢ []) × Matched ts (chars (drop k text) ++ v)))
 
 -- nothing matches up to a place at which nothing matches
 pub none_up_to : (ts : List Tree) (ps text : List ℕ) (at : ℕ) → NoMatchBefore ts text at → IsLongest ts ps (drop at text) None → NoMatchBefore ts text (at + 1)
@@ -147,7 +147,7 @@ waits_more ts text rest part at k reach reach2 m u cut here is greater before ea
         let far : length part < m = omega (arith, greater, past, near, ap length there, length-drop at text, within, here) in (
           at,
           (
-            IsCharBoundary-from_take text at u within cut.seen_utf8,
+            IsUtf8-drop text at u (IsCharBoundary-from_take text at u within cut.seen_utf8),
             before,
             subst (λ (w : List ℕ). (v : List ℕ) × ((v ≢ []) × Matched ts (chars w ++ v))) there (more far),
           ),

@@ -14,7 +14,7 @@ use Rattle.lalrpop_rules.specs.Modes.{ModeRules, ArePiecesFrom, after, trees_in}
 use Rattle.lalrpop_rules.proofs.CallerLaws.{starts_at}
 use Rattle.lalrpop_rules.proofs.FirstMatches.{some_length}
 use Rattle.lalrpop_rules.proofs.ModePieces.{same_after}
-use Rattle.lalrpop_rules.proofs.PieceLaws.{is_front, is_some}
+use Rattle.lalrpop_rules.proofs.PieceLaws.{is_some, is_split}
 use Rattle.lalrpop_rules.proofs.UniquePieces.{same_slice}
 use Rattle.bajofeki_rules.specs.Stack.{Stack, start}
 use Rattle.bajofeki.specs.Internal.Blocks.{sizes}
@@ -31,10 +31,10 @@ all_hold : (r : ModeRules) (text : List ℕ) (from to at : ℕ) (s : Stack) (xs 
 all_hold r text from to at s [] t before past are = refl
 all_hold r text from to at s (x ∷ xs) t before past are =
     let ts = trees_in r s.mode in
-    let front = is_front ts r.precedences r.skips text at x are.0 in
+    let front = is_split ts r.precedences r.skips text at x are.0 in
     let begins = starts_at ts r.precedences r.skips text at x are.0 in
     let some = some_length (slice_of x) (is_some ts r.precedences r.skips text at x are.0) in
-    let within : at + length (slice_of x) ≤ length text = omega (arith, some, ap length front.1.0, length-append (slice_of x) front.0, length-drop at text) in
+    let within : at + length (slice_of x) ≤ length text = omega (arith, some, ap length front.1, length-append (slice_of x) front.0, length-drop at text) in
     let holds : holds_byte from to x ≡ true = lt-ltb (max from (start_of x)) (min to (start_of x + length (slice_of x))) (omega (arith, begins, some, within, before, past)) in
     ap (λ (b : Bool). cond b (x ∷ holding from to xs) (holding from to xs)) holds
     ∙ ap (λ (zs : List Item). x ∷ zs) (all_hold r text from to (at + length (slice_of x)) (after r.actions x s) xs t (omega (arith, before)) past are.1)

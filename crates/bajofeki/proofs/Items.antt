@@ -16,22 +16,19 @@ use Rattle.lalrpop_rules.proofs.ModePieces.{pieces-from-unique}
 use Rattle.bajofeki.specs.Internal.Kept.{rule_of, IsFront, IsKept, KeptUpTo, after_rule, after_kept}
 use Rattle.bajofeki.specs.Lexed.{Lexed, ArePiecesOf}
 use Rattle.bajofeki.specs.declared.kept.Kept.{Kept}
+use Rattle.bajofeki.proofs.KeptLaws.{front_split}
 use Rattle.bajofeki.specs.Internal.Items.{slice_with, token_or_skipped, item_with, item_at, items_from}
 
 -- ---- one piece
-
-prefix_of : (ts : List Tree) (ps text : List ℕ) (o : Option ℕ) (slice : List ℕ) → IsFront ts ps text o slice → IsPrefix slice text
-prefix_of ts ps text None slice is = is.front
-prefix_of ts ps text (Some i) slice is = is.0.0.0
 
 -- what is kept of the piece at the front of a text is its first bytes
 pub front_kept : (r : ModeRules) (mode : ℕ) (text : List ℕ) (k : Kept) → IsKept r mode text k
     → (k.size ≤ length text) × IsFront (trees_in r mode) r.precedences text (rule_of k) (take k.size text)
 front_kept r mode text k kept =
     let here = kept.front text refl in
-    let front = prefix_of (trees_in r mode) r.precedences text (rule_of k) here.0 here.1.1 in
-    let same : here.0 ≡ take k.size text = sym (take_at here.0 front.0 k.size here.1.0) ∙ ap (take k.size) (sym front.1.0) in
-    let fits : k.size ≤ length text = omega (arith, here.1.0, ap length front.1.0, length-append here.0 front.0) in
+    let front = front_split (trees_in r mode) r.precedences text (rule_of k) here.0 here.1.1 in
+    let same : here.0 ≡ take k.size text = sym (take_at here.0 front.0 k.size here.1.0) ∙ ap (take k.size) (sym front.1) in
+    let fits : k.size ≤ length text = omega (arith, here.1.0, ap length front.1, length-append here.0 front.0) in
     (fits, subst (λ (p : List ℕ). IsFront (trees_in r mode) r.precedences text (rule_of k) p) same here.1.1)
 
 token_is : (ts : List Tree) (ps : List ℕ) (skips : List Bool) (text : List ℕ) (at i : ℕ) (bytes : List ℕ) (b : Option Bool) → slice_get skips i ≡ b

@@ -8,6 +8,7 @@ use Rattle.lalrpop_hir.specs.Tree.{Tree}
 use Rattle.lalrpop_hir.specs.Prefix.{IsPrefix}
 use Rattle.lalrpop_lexer.proofs.Cuttings.{cut_behind}
 use Rattle.lalrpop_rules.proofs.FirstMatches.{some_length}
+use Rattle.lalrpop_rules.proofs.PieceLaws.{after_prefix, fault_utf8}
 use Rattle.bajofeki_rules.specs.Stack.{Stack}
 use Rattle.lalrpop_rules.specs.Modes.{ModeRules, trees_in}
 use Rattle.bajofeki.specs.Internal.Reach.{AreAlike}
@@ -17,27 +18,40 @@ use Rattle.bajofeki.proofs.Alike.{alike_less, alike_behind, alike_length}
 
 -- ---- one piece
 
--- it is a prefix of the text
-pub front_prefix : (ts : List Tree) (ps text : List ℕ) (o : Option ℕ) (slice : List ℕ) → IsFront ts ps text o slice → IsPrefix slice text
-front_prefix ts ps text None slice is = is.front
-front_prefix ts ps text (Some i) slice is = is.0.0.0
+-- it begins the bytes
+pub front_split : (ts : List Tree) (ps bytes : List ℕ) (o : Option ℕ) (slice : List ℕ) → IsFront ts ps bytes o slice
+    → (rest : List ℕ) × (bytes ≡ slice ++ rest)
+front_split ts ps bytes None slice is = is.front
+front_split ts ps bytes (Some i) slice is = after_prefix slice bytes is.0.0.0
+
+-- and is a prefix of a text
+pub front_prefix : (ts : List Tree) (ps text : List ℕ) (o : Option ℕ) (slice : List ℕ) → IsUtf8 text → IsFront ts ps text o slice → IsPrefix slice text
+front_prefix ts ps text None slice u is = (is.front.0, (is.front.1, fault_utf8 ts text slice u is))
+front_prefix ts ps text (Some i) slice u is = is.0.0.0
 
 -- and not empty
 pub front_some : (ts : List Tree) (ps text : List ℕ) (o : Option ℕ) (slice : List ℕ) → IsFront ts ps text o slice → slice ≢ []
 front_some ts ps text None slice is = is.some
 front_some ts ps text (Some i) slice is = is.0.0.1
 
--- so what is kept of it is the size of a nonempty prefix
-pub kept_prefix : (r : ModeRules) (mode : ℕ) (text : List ℕ) (k : Kept) → IsKept r mode text k
-    → (slice : List ℕ) × ((length slice ≡ k.size) × IsPrefix slice text × (slice ≢ []))
-kept_prefix r mode text k kept =
-    let is = kept.front text refl in (is.0, (is.1.0, front_prefix _ r.precedences text (rule_of k) is.0 is.1.1, front_some _ r.precedences text (rule_of k) is.0 is.1.1))
+-- so what is kept of it is the size of its first bytes, of which there are some
+pub kept_slice : (r : ModeRules) (mode : ℕ) (text : List ℕ) (k : Kept) → IsKept r mode text k
+    → (slice : List ℕ) × ((length slice ≡ k.size) × ((rest : List ℕ) × (text ≡ slice ++ rest)) × (slice ≢ []))
+kept_slice r mode text k kept =
+    let is = kept.front text refl in
+    (is.0, (is.1.0, front_split _ r.precedences text (rule_of k) is.0 is.1.1, front_some _ r.precedences text (rule_of k) is.0 is.1.1))
+
+-- or of a prefix of a text
+pub kept_prefix : (r : ModeRules) (mode : ℕ) (text : List ℕ) (k : Kept) → IsUtf8 text → IsKept r mode text k
+    → (slice : List ℕ) × ((length slice ≡ k.size) × IsPrefix slice text)
+kept_prefix r mode text k u kept =
+    let is = kept.front text refl in (is.0, (is.1.0, front_prefix _ r.precedences text (rule_of k) is.0 u is.1.1))
 
 pub kept_some : (r : ModeRules) (mode : ℕ) (text : List ℕ) (k : Kept) → IsKept r mode text k → 0 < k.size
-kept_some r mode text k kept = let p = kept_prefix r mode text k kept in omega (arith, p.1.0, some_length p.0 p.1.2)
+kept_some r mode text k kept = let p = kept_slice r mode text k kept in omega (arith, p.1.0, some_length p.0 p.1.2)
 
 pub kept_fits : (r : ModeRules) (mode : ℕ) (text : List ℕ) (k : Kept) → IsKept r mode text k → k.size ≤ length text
-kept_fits r mode text k kept = let p = kept_prefix r mode text k kept in omega (arith, p.1.0, ap length p.1.1.1.0, length-append p.0 p.1.1.0)
+kept_fits r mode text k kept = let p = kept_slice r mode text k kept in omega (arith, p.1.0, ap length p.1.1.1, length-append p.0 p.1.1.0)
 
 -- it is kept of each text that is alike as far as it depends on it
 pub kept_alike : (r : ModeRules) (mode : ℕ) (text text2 : List ℕ) (k : Kept) → AreAlike (reach_of k) text text2 → IsKept r mode text k → IsKept r mode text2 k
@@ -103,7 +117,7 @@ pub kept_boundary : (r : ModeRules) (text : List ℕ) (at : ℕ) (s : Stack) (ks
     → KeptUpTo r text at s ks to t → IsCharBoundary text to
 kept_boundary r text at s [] to t here u e = subst (IsCharBoundary text) e.0 here
 kept_boundary r text at s (k ∷ ks) to t here u are =
-    let p = kept_prefix r s.mode (drop at text) k are.0 in
+    let p = kept_prefix r s.mode (drop at text) k u are.0 in
     let cut = cut_behind p.0 (drop at text) u p.1.1 in
     let next : IsCharBoundary text (at + k.size) =
     subst (λ (n : ℕ). IsCharBoundary text (at + n)) p.1.0 (IsCharBoundary-from_rest text at (length p.0) here.0 cut) in

@@ -43,8 +43,11 @@ pub mod Undoing
 -- a text that comes in chunks
 pub mod Chunking
 pub mod ChunkLaws
--- text that comes as bytes
-pub mod Decoding
+-- text that comes as bytes, and the piece at the front of bytes that may be no text
+pub mod BegunLaws
+pub mod BytesLaws
+pub mod FrontLaws
+pub mod PartLaws
 -- a text shown as markup: its runs, what begins and ends tags, entities and sequences, and how it is read back
 pub mod Characters
 pub mod ShownRuns

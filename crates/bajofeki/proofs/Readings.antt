@@ -1,5 +1,5 @@
 -- The text of markup is the text that it was made of.
-use Rattle.std.proofs.Common.{◌≡◌, ◌≢◌, ℕ, ◌+◌, ◌⊎◌, inl, inr, ◌<◌, Bool, true, false, List, [], ◌∷◌, ◌++◌, length, refl, sym, ap, subst, ◌∙◌, arith, append_assoc, flat_map, codes}
+use Rattle.std.proofs.Common.{◌≡◌, ◌≢◌, ℕ, ◌+◌, ◌⊎◌, inl, inr, ◌<◌, Bool, true, false, List, [], ◌∷◌, ◌++◌, length, drop, refl, sym, ap, subst, ◌∙◌, arith, append_assoc, flat_map, codes}
 use Rattle.std.specs.Prelude.{unwrap_or, slice_get, nat_eq}
 use Rattle.std.specs.Str.{chars, IsUtf8, encode_utf8_all}
 use Rattle.std.specs.Char.{encode_utf8}
@@ -10,7 +10,7 @@ use Rattle.lalrpop_rules.specs.Modes.{ModeRules, ArePiecesFrom, after, trees_in}
 use Rattle.lalrpop_rules.specs.Pieces.{slice_of, joined}
 use Rattle.lalrpop_rules.specs.declared.item.Item.{Item}
 use Rattle.lalrpop_rules.specs.declared.item.Item.TheVariants.{Token, Skipped, Fault}
-use Rattle.lalrpop_rules.proofs.PieceLaws.{is_front}
+use Rattle.lalrpop_rules.proofs.PieceLaws.{is_front, utf8_behind}
 use Rattle.bajofeki.proofs.Characters.{Lacks, differs, lacks_char}
 use Rattle.bajofeki.specs.Markup.{told, escaped, span, mark, marked, outside, inside, entity_from}
 
@@ -104,8 +104,10 @@ marked_out names (Skipped token) rest u = text_out token.slice.now rest u
 marked_out names (Fault start slice) rest u = mark_out slice.now rest u
 
 pub pieces_out : (names : List (List ℕ)) (r : ModeRules) (text : List ℕ) (at : ℕ) (s : Stack) (xs : List Item) (end : Stack)
-    → ArePiecesFrom r text at s xs end → outside (flat_map (marked names) xs) ≡ joined xs
-pieces_out names r text at s [] end are = refl
-pieces_out names r text at s (x ∷ xs) end are =
-    marked_out names x (flat_map (marked names) xs) (is_front (trees_in r s.mode) r.precedences r.skips text at x are.0).1.1
-    ∙ ap (λ (p : List ℕ). slice_of x ++ p) (pieces_out names r text (at + length (slice_of x)) (after r.actions x s) xs end are.1)
+    → IsUtf8 (drop at text) → ArePiecesFrom r text at s xs end → outside (flat_map (marked names) xs) ≡ joined xs
+pieces_out names r text at s [] end u are = refl
+pieces_out names r text at s (x ∷ xs) end u are =
+    let front = is_front (trees_in r s.mode) r.precedences r.skips text at x u are.0 in
+    marked_out names x (flat_map (marked names) xs) front.1.1
+    ∙ ap (λ (p : List ℕ). slice_of x ++ p)
+    (pieces_out names r text (at + length (slice_of x)) (after r.actions x s) xs end (utf8_behind text at (slice_of x) u front) are.1)

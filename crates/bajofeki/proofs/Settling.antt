@@ -71,17 +71,17 @@ settled_fault ts text other slice n settled alike fault = by_end settled.ends
     by_end : (length text < n) ⊎ ((p : List ℕ) × (IsMatch ts (drop (length slice) text) p × (length slice + length p ≤ n))) → IsFault ts other slice
     by_end (inl whole) = subst (λ (t : List ℕ). IsFault ts t slice) (sym (alike_whole n text other whole alike)) fault
     by_end (inr (p, e)) =
-        let left : drop (length slice) text ≡ fault.front.0 = ap (drop (length slice)) fault.front.1.0 ∙ drop_at slice fault.front.0 (length slice) refl in
+        let left : drop (length slice) text ≡ fault.front.0 = ap (drop (length slice)) fault.front.1 ∙ drop_at slice fault.front.0 (length slice) refl in
         let behind : fault.front.0 ≡ p ++ e.0.0.0 = sym left ∙ e.0.0.1.0 in
         let split : text ≡ (slice ++ p) ++ e.0.0.0 =
-        fault.front.1.0 ∙ ap (λ (r : List ℕ). slice ++ r) behind ∙ sym (append_assoc slice p e.0.0.0) in
+        fault.front.1 ∙ ap (λ (r : List ℕ). slice ++ r) behind ∙ sym (append_assoc slice p e.0.0.0) in
         let size : length (slice ++ p) ≡ length slice + length p = length-append slice p in
         let same : AreAlike n ((slice ++ p) ++ e.0.0.0) other = subst (λ (t : List ℕ). AreAlike n t other) split alike in
         let tail : List ℕ = drop (length (slice ++ p)) other in
         let there : other ≡ slice ++ (p ++ tail) = alike_front n (slice ++ p) e.0.0.0 other (omega (arith, size, e.1)) same ∙ append_assoc slice p tail in
         let rest : drop (length slice) other ≡ p ++ tail = ap (drop (length slice)) there ∙ drop_at slice (p ++ tail) (length slice) refl in
         record {
-          front = (p ++ tail, (there, fault.front.1.1));
+          front = (p ++ tail, there);
           some = fault.some;
           nothing = λ k less m.
               let within : k < length slice + length p = omega (arith, less) in

@@ -2,7 +2,7 @@
 -- A text that comes in chunks, and the pieces that are given as soon as no later chunk can change them.
 use Rattle.std.specs.Prelude.{◌≡◌, ◌≢◌, ℕ, ◌+◌, ◌^◌, ◌≤◌, ◌⊎◌, Bool, true, false, List, [], ◌∷◌, ◌++◌, length, drop, Option, Some, None, Result, Ok, Err}
 use Rattle.std.specs.Borrow.{Bor}
-use Rattle.std.specs.Str.{IsCharBoundary}
+use Rattle.std.specs.Str.{IsUtf8}
 use Rattle.lalrpop_hir.specs.Tree.{Tree}
 use Rattle.lalrpop_rules.specs.Found.{MatchesAt, NoMatchBefore}
 use Rattle.lalrpop_rules.specs.Pieces.{IsPiece, slice_of, start_of}
@@ -10,6 +10,7 @@ use Rattle.lalrpop_rules.specs.declared.item.Item.{Item}
 use Rattle.bajofeki_rules.specs.Stack.{Stack, start}
 use Rattle.lalrpop_rules.specs.Modes.{ModeRules, trees_in, after}
 use Rattle.bajofeki.specs.Lexed.{BeginsLonger, placed}
+use Rattle.bajofeki.specs.Begun.{IsBegun}
 use Rattle.bajofeki.specs.Given.{item_of}
 use Rattle.bajofeki.specs.declared.given_piece.GivenPiece.{GivenPiece}
 use Rattle.bajofeki.specs.declared.error.EditError.{EditError}
@@ -34,15 +35,19 @@ abbrev pub IsFinal : Chunked → Item → Type 0
 IsFinal c x = (more : List ℕ) → (c.is_ended ≡ true → more ≡ [])
     → IsPiece (trees_in c.rules c.stack.mode) c.rules.precedences c.rules.skips (c.rest ++ more) 0 (placed 0 x)
 
--- what comes may still change the piece at the front of the text: no tree matches anywhere in it; or some tree matches a longer word than what
--- has come, from its beginning on, or from a later place on up to which none matches
+-- what comes may still change the piece at the front of the bytes: no tree matches anywhere in them; or they are text from their beginning on, or
+-- from a later place on up to which none matches, and some tree matches a longer word than that text
 abbrev pub IsOpen : List Tree → List ℕ → Type 0
-IsOpen ts text = NoMatchBefore ts text (length text)
-    ⊎ ((k : ℕ) × (IsCharBoundary text k × ((k ≡ 0) ⊎ NoMatchBefore ts text (k + 1)) × BeginsLonger ts (drop k text)))
+IsOpen ts bytes = NoMatchBefore ts bytes (length bytes)
+    ⊎ ((k : ℕ) × (IsUtf8 (drop k bytes) × ((k ≡ 0) ⊎ NoMatchBefore ts bytes (k + 1)) × BeginsLonger ts (drop k bytes)))
+
+-- the same where a character may have begun after them
+abbrev pub IsOpenIn : List Tree → List ℕ → Type 0
+IsOpenIn ts bytes = (come : List ℕ) × ((left : List ℕ) × ((bytes ≡ come ++ left) × (IsBegun left × IsOpen ts come)))
 
 -- so no piece is given: all was given, or more may come that changes the next one
 abbrev pub IsHeldBack : Chunked → Type 0
-IsHeldBack c = (c.is_ended ≡ true → c.rest ≡ []) × (c.is_ended ≡ false → IsOpen (trees_in c.rules c.stack.mode) c.rest)
+IsHeldBack c = (c.is_ended ≡ true → c.rest ≡ []) × (c.is_ended ≡ false → IsOpenIn (trees_in c.rules c.stack.mode) c.rest)
 
 -- one call gives the next piece, which is final; or none, and nothing changes, where it must be held back
 abbrev pub GivesFinal : Chunked → Option Item → Chunked → Type 0
@@ -67,9 +72,13 @@ GivesOrRefuses old (Err error) new = (new ≡ old) × IsChunkError old error
 abbrev pub BeginsFault : Chunked → Type 0
 BeginsFault c = (c.rest ≢ []) × ((more : List ℕ) → (c.is_ended ≡ true → more ≡ []) → NoMatchBefore (trees_in c.rules c.stack.mode) (c.rest ++ more) 1)
 
--- some tree matches a word that the rest begins with; or one that begins with the rest, if more may come
+-- the bytes are a text, after which a character may have begun, and some tree matches a longer word than the text
+abbrev pub MayBegin : List Tree → List ℕ → Type 0
+MayBegin ts bytes = (text : List ℕ) × ((left : List ℕ) × ((bytes ≡ text ++ left) × (IsUtf8 text × (IsBegun left × BeginsLonger ts text))))
+
+-- some tree matches a word that the rest begins with; or may match one that begins with the rest, if more may come
 abbrev pub MayMatch : Chunked → Type 0
-MayMatch c = MatchesAt (trees_in c.rules c.stack.mode) c.rest 0 ⊎ ((c.is_ended ≡ false) × BeginsLonger (trees_in c.rules c.stack.mode) c.rest)
+MayMatch c = MatchesAt (trees_in c.rules c.stack.mode) c.rest 0 ⊎ ((c.is_ended ≡ false) × MayBegin (trees_in c.rules c.stack.mode) c.rest)
 
 -- this text has come, in any chunks, and these pieces were given
 pub data Came (r : ModeRules) : List ℕ → List Item → Chunked → Type 0 where

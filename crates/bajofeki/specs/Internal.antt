@@ -12,5 +12,6 @@ pub mod Least
 pub mod ChunkCode
 pub mod Walking
 pub mod Noted
+pub mod Parts
 pub mod Paying
 pub mod Colours

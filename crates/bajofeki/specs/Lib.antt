@@ -2,7 +2,7 @@ pub mod Lexed
 pub mod Costs
 pub mod Given
 pub mod Chunked
-pub mod Decoded
+pub mod Begun
 pub mod Markup
 pub mod Places
 pub mod Terminal

@@ -1,24 +1,27 @@
 //! A text that comes in chunks.
 
-ghost use Rattle.std.specs.Prelude.{◌≡◌, ◌+◌, ◌^◌, ◌++◌, ◌<◌, ◌⊎◌, ℕ, List, [], None, true, false, length, take, drop, string_bytes, IfSome, IfNone, IsSome, IfOk, OnOk, OnErr};
-ghost use Rattle.std.specs.Str.{IsCharBoundary};
+ghost use Rattle.std.specs.Prelude.{◌≡◌, ◌+◌, ◌-◌, ◌++◌, ◌<◌, ◌≤◌, ◌⊎◌, ℕ, Bool, List, [], None, true, false, length, take, drop, vec_len, IfSome, IfNone, IsSome, IfOk, OnOk, OnErr};
+ghost use Rattle.std.specs.Str.{IsCharBoundary, IsUtf8};
 ghost use Rattle.std.specs.Borrow.{Bor};
 ghost use Rattle.lalrpop_hir.specs.Tree.{Tree};
 ghost use Rattle.lalrpop_rules.specs.Found.{MatchesAt, NoMatchBefore};
 ghost use Rattle.lalrpop_rules.specs.Pieces.{IsPiece};
-ghost use Rattle.lalrpop_rules.specs.Modes.{EachMode, ModeRules, trees_in};
+ghost use Rattle.lalrpop_rules.specs.Modes.{EachMode, ModeRules};
 ghost use Rattle.bajofeki.specs.Internal.Kept.{IsFront, after_rule};
 ghost use Rattle.bajofeki.specs.Internal.Noted.{IsCutter};
+ghost use Rattle.bajofeki.specs.Internal.Parts.{IsParted};
 ghost use Rattle.bajofeki.specs.Lexed.{BeginsLonger, placed};
-ghost use Rattle.bajofeki.specs.Chunked.{nothing_come, IsOpen, GivesOrRefuses, BeginsFault, MayMatch};
+ghost use Rattle.bajofeki.specs.Begun.{NoCharacter, IsBad};
+ghost use Rattle.bajofeki.specs.Chunked.{nothing_come, GivesOrRefuses, BeginsFault, MayMatch};
 ghost use Rattle.bajofeki.specs.Given.{item_by};
 
 use crate::cutter::Cutter;
 use crate::error::EditError;
-use crate::front::{Front, front_piece};
 use crate::given_piece::GivenPiece;
 use crate::memo::Memo;
+use crate::parts::final_front;
 use crate::run::longest_settled;
+use crate::text_front::front_of;
 use crate::walker::Walker;
 use lalrpop_lexer::Lexer;
 use lalrpop_lexer::lexer::dfa::NfaIndex;
@@ -31,6 +34,9 @@ use std::marker::Model;
 /// Cuts a text that comes in chunks by rules with modes, and gives each piece as soon as no later chunk can change it. However
 /// the text is cut into chunks, the pieces are those of the whole text.
 ///
+/// A text is any bytes. What isn't UTF-8 matches nothing, so it lies in a fault; the slice of a token is UTF-8. A character that the
+/// end of a chunk cuts in two is held back.
+///
 /// It keeps what has come and is in no piece that was given. What was given is dropped when more comes, once it is as long as
 /// what is left. A piece that comes in many chunks is read from its beginning once more has come: so feed much at once where much
 /// is held back.
@@ -39,37 +45,41 @@ use std::marker::Model;
 /// use bajofeki::Stream;
 ///
 /// let mut chunks = Stream::new(alloc, &lexer);
-/// chunks.feed("let x")?;
+/// chunks.feed(b"let x")?;
 /// while let Some(piece) = chunks.next_piece()? {
 ///     let slice = chunks.slice(); // `let` and the space; but `x` may go on
 /// }
-/// chunks.feed("y = 1")?; // now `xy`, and so on
+/// chunks.feed(b"y = 1")?; // now `xy`, and so on
 /// chunks.finish(); // and `1`
 /// ```
 #[derive(Drop)]
 pub struct Stream<'rules> {
     lexer: &'rules RuleLexer,
     // The end of what has come.
-    text: String,
+    text: Vec<u8>,
     // Where the last piece begins in it; where it ends, if more has come since.
     last: usize,
     // How many bytes of it were given.
     given: usize,
+    // Where the text at the front of the rest ends. After it a byte follows that is of no character, if `is_bad`; else nothing but a
+    // character that has begun. So no byte is decoded again.
+    ends: usize,
+    is_bad: bool,
     // How many bytes were given in all.
     at: usize,
     stack: ModeStack,
     is_ended: bool,
-    // What the rest is cut with, and what its runs read in vain. None, if more has come since.
+    // What the text at the front of the rest is cut with, and what its runs read in vain. None, if more has come since.
     cutter: Option<Cutter<'rules>>,
 }
 
 impl<'rules> Model for Stream<'rules> {
-    ghost use Rattle.std.specs.Prelude.{◌<◌, ◌≤◌, ◌-◌, take, drop, string_bytes, IfSome};
-    ghost use Rattle.std.specs.Str.{IsCharBoundary};
+    ghost use Rattle.std.specs.Prelude.{◌<◌, ◌≤◌, ◌-◌, take, drop, IfSome};
     ghost use Rattle.lalrpop_rules.specs.Modes.{EachMode};
     ghost use Rattle.bajofeki.specs.Chunked.{Chunked};
     ghost use Rattle.bajofeki.specs.Internal.ChunkCode.{chunked_code};
     ghost use Rattle.bajofeki.specs.Internal.Noted.{IsCutter};
+    ghost use Rattle.bajofeki.specs.Internal.Parts.{IsParted};
 
     ghost Value = { Chunked };
 
@@ -77,17 +87,17 @@ impl<'rules> Model for Stream<'rules> {
 
     ghost view = { λ c. record {
       rules = c.lexer.now;
-      last = take (c.given - c.last) (drop c.last (string_bytes c.text));
-      rest = drop c.given (string_bytes c.text);
+      last = take (c.given - c.last) (drop c.last c.text.items);
+      rest = drop c.given c.text.items;
       at = c.at;
       stack = c.stack;
       is_ended = c.is_ended;
     } };
 
-    ghost invariant = { λ c. (c.last ≤ c.given) × IsCharBoundary (string_bytes c.text) c.last
-        × IsCharBoundary (string_bytes c.text) c.given
+    ghost invariant = { λ c. (c.last ≤ c.given) × IsParted c.text.items c.given c.ends c.is_bad
         × EachMode (λ m. m < c.lexer.now.modes) c.stack
-        × IfSome c.cutter (λ t. IsCutter c.lexer.now t c.at (drop c.given (string_bytes c.text))) };
+        × IfSome c.cutter (λ t. IsCutter c.lexer.now t c.at
+        (take (c.ends - c.given) (drop c.given c.text.items))) };
 }
 
 // Keeps a new cutter, which has read nothing, if none is kept.
@@ -106,55 +116,21 @@ fn keep_cutter<'a>(
     Ok(())
 }
 
-// The piece at the front of the rest, which begins at the byte `at` of the text, if no more of the text can change it.
-fn final_front(
-    lexer: &RuleLexer,
-    kept: &mut Option<Cutter<'_>>,
-    mode: usize,
-    at: usize,
-    rest: &str,
-    is_ended: bool,
-) -> Option<Front>
-    requires there { mode < lexer.now.modes }
-    requires some { IsSome kept.old }
-    requires cutter { IfSome kept.old (λ c. IsCutter lexer.now c at rest.now) }
-    requires fits { at + length rest.now < 2 ^ 64 }
-    ensures settled { IfSome result (λ f. (more : List ℕ) → (is_ended ≡ true → more ≡ [])
-        → IsFront (trees_in lexer.now mode) lexer.now.precedences (rest.now ++ more) f.rule
-        (take f.size rest.now)) }
-    ensures boundary { IfSome result (λ f. IsCharBoundary rest.now f.size) }
-    ensures empty { IfNone result (is_ended ≡ true → rest.now ≡ []) }
-    ensures held { IfNone result (is_ended ≡ false → IsOpen (trees_in lexer.now mode) rest.now) }
-    ensures cutter { IfSome kept.new (λ c. IsCutter lexer.now c at rest.now) }
+// The first bytes as a text, which was looked at when they came.
+fn text_of(bytes: &[u8], size: usize) -> &str
+    requires within { size ≤ length bytes.now }
+    requires utf8 { IsUtf8 (take size bytes.now) }
+    ensures front { result.now ≡ take size bytes.now }
 {
-    if rest.is_empty() {
-        return None;
-    }
-    let Some(cutter) = kept else {
-        unreachable!();
-    };
-    let walker = &cutter.walkers[mode];
-    let front = front_piece(
-        lexer.lexer(mode),
-        walker,
-        &mut cutter.memo,
-        mode,
-        at,
-        rest,
-        &mut Steps::new(),
-    );
-    if is_ended || front.reach <= rest.len() {
-        return Some(front);
-    }
-    None
+    unsafe { std::str::from_utf8_unchecked(&bytes[..size]) }
 }
 
-// Whether nothing matches at the front of the rest, whatever comes after it, if anything may.
-fn nothing_matches(alloc: Global, lexer: &Lexer, rest: &str, is_ended: bool) -> bool
-    ensures yes { result ≡ true → (more : List ℕ) → (is_ended ≡ true → more ≡ [])
-        → NoMatchBefore lexer.now.trees (rest.now ++ more) 1 }
-    ensures no { result ≡ false → MatchesAt lexer.now.trees rest.now 0
-        ⊎ ((is_ended ≡ false) × BeginsLonger lexer.now.trees rest.now) }
+// Whether nothing matches at the front of a text, whatever comes after it: no character, if it is the last.
+fn nothing_matches(alloc: Global, lexer: &Lexer, text: &str, is_last: bool) -> bool
+    ensures yes { result ≡ true → (tail : List ℕ) → (is_last ≡ true → NoCharacter tail)
+        → NoMatchBefore lexer.now.trees (text.now ++ tail) 1 }
+    ensures no { result ≡ false → MatchesAt lexer.now.trees text.now 0
+        ⊎ ((is_last ≡ false) × BeginsLonger lexer.now.trees text.now) }
 {
     let walker = Walker::of(lexer.dense());
     let found = longest_settled(
@@ -162,13 +138,13 @@ fn nothing_matches(alloc: Global, lexer: &Lexer, rest: &str, is_ended: bool) -> 
         &mut Memo::new(alloc),
         0,
         0,
-        rest,
+        text,
         &mut Steps::new(),
     );
     if found.longest.is_some() {
         return false;
     }
-    is_ended || found.reach <= rest.len()
+    is_last || found.reach <= text.len()
 }
 
 // Does what a token of the rule does to the stack. A fault does nothing.
@@ -219,16 +195,66 @@ fn forget(cutter: &mut Option<Cutter<'_>>)
     *cutter = None;
 }
 
-// Drops what was given, unless it is less than what is left: so no more bytes are moved than are dropped. If that is refused, it
-// stays.
-fn drop_given(text: &mut String, given: &mut usize)
-    requires boundary { IsCharBoundary (string_bytes text.old) given.old }
-    ensures left { drop given.new (string_bytes text.new) ≡ drop given.old (string_bytes text.old) }
-    ensures boundary { IsCharBoundary (string_bytes text.new) given.new }
+// Reads on where the text at the front of the rest ended, after which more has come.
+fn read_on(bytes: &[u8], ends: &mut usize, is_bad: &mut bool)
+    requires within { ends.old ≤ length bytes.now }
+    ensures parted { (given : ℕ) → given ≤ ends.old
+        → IsUtf8 (take (ends.old - given) (drop given bytes.now))
+        → (is_bad.old ≡ true → IsBad (drop ends.old bytes.now))
+        → IsParted bytes.now given ends.new is_bad.new }
 {
-    if *given >= text.len() - *given && text.replace_range(..*given, "").is_ok() {
-        *given = 0;
+    if *is_bad {
+        return;
     }
+    let part = front_of(&bytes[*ends..]);
+    *ends += part.text.len();
+    *is_bad = part.is_bad;
+}
+
+// Finds the text at the front of the rest, if what was given goes past the one that was there. Then what runs read in vain in that one
+// is forgotten.
+fn go_past(
+    bytes: &[u8],
+    given: usize,
+    ends: &mut usize,
+    is_bad: &mut bool,
+    cutter: &mut Option<Cutter<'_>>,
+)
+    requires within { given ≤ length bytes.now }
+    ensures parted { (from : ℕ) → IsParted bytes.now from ends.old is_bad.old → from ≤ given
+        → (given ≤ ends.old
+        → IsCharBoundary (take (ends.old - from) (drop from bytes.now)) (given - from))
+        → IsParted bytes.now given ends.new is_bad.new }
+    ensures cutter { (r : ModeRules) (at from : ℕ) → from ≤ given → ends.old ≤ length bytes.now
+        → IfSome cutter.old (λ c. IsCutter r c at (take (ends.old - from) (drop from bytes.now)))
+        → IfSome cutter.new (λ c. IsCutter r c (at + (given - from))
+        (take (ends.new - given) (drop given bytes.now))) }
+{
+    if given <= *ends {
+        return;
+    }
+    *ends = given;
+    *is_bad = false;
+    read_on(bytes, ends, is_bad);
+    forget(cutter);
+}
+
+// Drops what was given, unless it is less than what is left: so no more bytes are moved than are dropped.
+fn drop_given(text: &mut Vec<u8>, given: &mut usize, ends: &mut usize)
+    requires order { given.old ≤ ends.old }
+    requires within { ends.old ≤ length text.old.items }
+    ensures left { drop given.new text.new.items ≡ drop given.old text.old.items }
+    ensures parted { (is_bad : Bool) → IsParted text.old.items given.old ends.old is_bad
+        → IsParted text.new.items given.new ends.new is_bad }
+{
+    let left = text.len() - *given;
+    if *given < left {
+        return;
+    }
+    text.copy_within(*given.., 0);
+    text.truncate(left);
+    *ends -= *given;
+    *given = 0;
 }
 
 impl<'rules> Stream<'rules> {
@@ -240,9 +266,11 @@ impl<'rules> Stream<'rules> {
         let _modes = lexer.modes();
         Stream {
             lexer,
-            text: String::new(alloc),
+            text: Vec::new(alloc),
             last: 0,
             given: 0,
+            ends: 0,
+            is_bad: false,
             at: 0,
             stack: ModeStack::new(alloc),
             is_ended: false,
@@ -255,14 +283,15 @@ impl<'rules> Stream<'rules> {
     /// # Errors
     ///
     /// `AllocError` if a request for memory was refused. Then nothing has changed.
-    pub fn feed(&mut self, chunk: &str) -> Result<(), AllocError>
+    pub fn feed(&mut self, chunk: &[u8]) -> Result<(), AllocError>
         ensures fed { OnOk result (self.new
             ≡ record self.old { last = []; rest = self.old.rest ++ chunk.now }) }
         ensures refused { OnErr result (self.new ≡ self.old) }
     {
-        self.text.push_str(chunk)?;
+        self.text.extend_from_slice(chunk)?;
         forget(&mut self.cutter);
-        drop_given(&mut self.text, &mut self.given);
+        read_on(&self.text, &mut self.ends, &mut self.is_bad);
+        drop_given(&mut self.text, &mut self.given, &mut self.ends);
         self.last = self.given;
         Ok(())
     }
@@ -289,14 +318,14 @@ impl<'rules> Stream<'rules> {
     }
 
     /// What has come and is in no piece that was given.
-    pub fn rest(&self) -> &str
+    pub fn rest(&self) -> &[u8]
         ensures rest { result.now ≡ self.now.rest }
     {
         &self.text[self.given..]
     }
 
-    /// The piece that `next_piece` gave last. It is empty before the first one, and once more has come.
-    pub fn slice(&self) -> &str
+    /// The piece that `next_piece` gave last. It is empty before the first one, and once more has come. That of a token is UTF-8.
+    pub fn slice(&self) -> &[u8]
         ensures slice { result.now ≡ self.now.last }
     {
         &self.text[self.last..self.given]
@@ -308,12 +337,14 @@ impl<'rules> Stream<'rules> {
         ensures yes { result ≡ true → BeginsFault self.now }
         ensures no { result ≡ false → (self.now.rest ≡ []) ⊎ MayMatch self.now }
     {
-        let rest = self.rest();
+        let rest = &self.text[self.given..];
         if rest.is_empty() {
             return false;
         }
+        let text = text_of(rest, self.ends - self.given);
         let lexer = self.lexer.lexer(self.stack.top());
-        nothing_matches(*self.text.allocator(), lexer, rest, self.is_ended)
+        let is_last = self.is_ended || self.is_bad;
+        nothing_matches(*self.text.allocator(), lexer, text, is_last)
     }
 
     /// The next piece, if no later chunk can change it; none if all that has come was given, or if what comes may still change
@@ -334,26 +365,37 @@ impl<'rules> Stream<'rules> {
         }
         keep_cutter(*self.text.allocator(), &mut self.cutter, self.lexer)?;
         let mode = self.stack.top();
+        let text = text_of(rest, self.ends - self.given);
         let found = final_front(
+            *self.text.allocator(),
             self.lexer,
             &mut self.cutter,
             mode,
             self.at,
             rest,
+            text,
+            self.is_bad,
             self.is_ended,
         );
-        let Some(front) = found else {
+        let Some(piece) = found else {
             return Ok(None);
         };
         let from = self.given;
         let start = self.at;
-        act_by(self.lexer, front.rule, &mut self.stack)?;
-        self.at = start + front.size;
+        act_by(self.lexer, piece.rule, &mut self.stack)?;
+        self.at = start + piece.size;
         self.last = from;
-        self.given = from + front.size;
+        self.given = from + piece.size;
+        go_past(
+            &self.text,
+            self.given,
+            &mut self.ends,
+            &mut self.is_bad,
+            &mut self.cutter,
+        );
         Ok(Some(GivenPiece {
-            rule: number_of(front.rule),
-            is_skipped: is_skipped(self.lexer, front.rule),
+            rule: number_of(piece.rule),
+            is_skipped: is_skipped(self.lexer, piece.rule),
             start,
         }))
     }

@@ -21,7 +21,6 @@ use Rattle.bajofeki.specs.contracts.document.Document as EditedText
 use Rattle.bajofeki.specs.contracts.memo.Memo as Memo
 use Rattle.bajofeki.specs.contracts.walker.Walker as Walker
 use Rattle.bajofeki_c.specs.contracts.document.Document as Document
-use Rattle.bajofeki_c.specs.contracts.stream.OpenStream as OpenStream
 use Rattle.bajofeki_c.specs.contracts.stream.Stream as Stream
 
 -- ---- the lexer that they see
@@ -69,8 +68,5 @@ cutter_send κ = search (walker_send, memo_send, crosses, sendable) depth 20
 chunks_send : (κ : NamedLft) → IsSend (CutStream.the_field κ).row
 chunks_send κ = search (rules_sync, cutter_send, crosses, sendable) depth 20
 
-going_send : (κ : NamedLft) → IsSend (OpenStream.the_field κ).row
-going_send κ = search (chunks_send, crosses, sendable) depth 20
-
 pub stream_send : (κ : NamedLft) → IsSend (Stream.the_row κ)
-stream_send κ = search (going_send, crosses, sendable) depth 20
+stream_send κ = search (chunks_send, crosses, sendable) depth 20

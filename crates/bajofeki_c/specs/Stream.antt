@@ -1,9 +1,8 @@
 -- cases: proofs/Cases/Stream.antt
 -- A text that comes in chunks.
-use Rattle.std.specs.Prelude.{◌≡◌, ◌≢◌, ◌⊎◌, ℕ, Bool, true, false, List, [], ◌∷◌, ◌++◌, length, take, drop, map, Option, Some, None, Result, Ok, Err}
+use Rattle.std.specs.Prelude.{◌≡◌, ◌⊎◌, ℕ, Bool, false, true, List, [], ◌∷◌, ◌++◌, length, take, drop, map, Option, Some, None, Result, Ok, Err}
 use Rattle.lalrpop_rules.specs.declared.item.Item.{Item}
 use Rattle.bajofeki.specs.Chunked.{Chunked, GivesFinal, IsChunkError, IsHeldBack, nothing_come}
-use Rattle.bajofeki.specs.Decoded.{Decodes, Decoding, nothing_decoded}
 use Rattle.bajofeki.specs.declared.error.EditError.{EditError}
 use Rattle.bajofeki_c.specs.Document.{code_of_edit, count_told, told}
 use Rattle.bajofeki_c.specs.declared.cut.Piece.{Piece}
@@ -11,13 +10,12 @@ use Rattle.bajofeki_c.specs.declared.document.Count.{Count}
 use Rattle.bajofeki_c.specs.declared.held.BuildError.{BuildError}
 use Rattle.bajofeki_c.specs.declared.held.BuiltLexer.{BuiltLexer}
 use Rattle.bajofeki_c.specs.declared.held.Held.{Held}
-use Rattle.bajofeki_c.specs.declared.stream.OpenStream.{OpenStream}
 use Rattle.bajofeki_c.specs.declared.stream.Stream.{Stream}
 
 -- ---- how it begins
 
-abbrev pub IsBegunBy : Result BuiltLexer BuildError → Option OpenStream → Type 0
-IsBegunBy (Ok l) going = going ≡ Some (record { chunks = nothing_come l.rules; decoder = nothing_decoded; is_refused = false })
+abbrev pub IsBegunBy : Result BuiltLexer BuildError → Option Chunked → Type 0
+IsBegunBy (Ok l) going = going ≡ Some (nothing_come l.rules)
 IsBegunBy (Err f) going = going ≡ None
 
 -- nothing has come, by the rules of a lexer; or there is none
@@ -26,34 +24,16 @@ IsStreamBegun h s = IsBegunBy h.made s.going
 
 -- ---- what comes
 
--- 0, or 3 once a byte of no character has come, or if the text ends inside one
-abbrev pub IsCode : Decoding → Bool → ℕ → Type 0
-IsCode d is_last code = ((code ≡ 3) × ((d.is_broken ≡ true) ⊎ ((is_last ≡ true) × (d.begun ≢ []))))
-    ⊎ ((code ≡ 0) × ((d.is_broken ≡ false) × (is_last ≡ true → d.begun ≡ [])))
-
--- the text of the bytes has come; after the last ones none does
-pub record HasCome (old : OpenStream) (bytes : List ℕ) (is_last : Bool) (code : ℕ) (new : OpenStream) : Type 0 where
-  pub text : List ℕ
-  pub goes_on : old.chunks.is_ended ≡ false
-  pub decoded : Decodes old.decoder bytes text new.decoder
-  pub chunks : new.chunks ≡ record old.chunks { last = []; rest = old.chunks.rest ++ text; is_ended = is_last }
-  pub is_refused : new.is_refused ≡ old.is_refused
-  pub is_code : IsCode new.decoder is_last code
-
-abbrev pub IsFedOpen : OpenStream → List ℕ → Bool → ℕ → OpenStream → Type 0
-IsFedOpen old bytes is_last code new = HasCome old bytes is_last code new
-    ⊎ ((old.chunks.is_ended ≡ true) × ((code ≡ 8) × (new ≡ old)))
-
--- or memory was refused, now or before
-abbrev pub IsFedOrRefused : OpenStream → List ℕ → Bool → ℕ → OpenStream → Type 0
-IsFedOrRefused old bytes is_last code new =
-    ((old.is_refused ≡ false) × IsFedOpen old bytes is_last code new)
-    ⊎ ((old.is_refused ≡ false) × ((code ≡ 7) × (new.is_refused ≡ true)))
-    ⊎ ((old.is_refused ≡ true) × ((code ≡ 7) × (new ≡ old)))
+-- 0: the bytes have come, and after the last ones none does. Nothing has changed where memory is refused, 7, or once the text has ended, 8
+abbrev pub IsFedOpen : Chunked → List ℕ → Bool → ℕ → Chunked → Type 0
+IsFedOpen old bytes is_last code new =
+    ((old.is_ended ≡ false) × ((code ≡ 0) × (new ≡ record old { last = []; rest = old.rest ++ bytes; is_ended = is_last })))
+    ⊎ ((old.is_ended ≡ false) × ((code ≡ 7) × (new ≡ old)))
+    ⊎ ((old.is_ended ≡ true) × ((code ≡ 8) × (new ≡ old)))
 
 -- or there is no lexer
-abbrev pub IsFedBetween : Option OpenStream → List ℕ → Bool → ℕ → Option OpenStream → Type 0
-IsFedBetween (Some old) bytes is_last code (Some new) = IsFedOrRefused old bytes is_last code new
+abbrev pub IsFedBetween : Option Chunked → List ℕ → Bool → ℕ → Option Chunked → Type 0
+IsFedBetween (Some old) bytes is_last code (Some new) = IsFedOpen old bytes is_last code new
 IsFedBetween (Some old) bytes is_last code None = ⊥
 IsFedBetween None bytes is_last code new = (new ≡ None) × (code ≡ 9)
 
@@ -84,14 +64,8 @@ pub record GivesPieces (old : Chunked) (before : List Piece) (c : Count) (after 
   pub given : AreGiven old before c.count after new
   pub why : IsEnd c after new
 
--- nothing is, and nothing changes, once memory was refused for what came
-abbrev pub GivesUnlessRefused : OpenStream → List Piece → Count → List Piece → OpenStream → Type 0
-GivesUnlessRefused old before c after new =
-    ((old.is_refused ≡ false) × (GivesPieces old.chunks before c after new.chunks × (new ≡ record old { chunks = new.chunks })))
-    ⊎ ((old.is_refused ≡ true) × ((c ≡ count_told 7 0) × ((after ≡ before) × (new ≡ old))))
-
-abbrev pub GivesBetween : Option OpenStream → List Piece → Count → List Piece → Option OpenStream → Type 0
-GivesBetween (Some old) before c after (Some new) = GivesUnlessRefused old before c after new
+abbrev pub GivesBetween : Option Chunked → List Piece → Count → List Piece → Option Chunked → Type 0
+GivesBetween (Some old) before c after (Some new) = GivesPieces old before c after new
 GivesBetween (Some old) before c after None = ⊥
 GivesBetween None before c after new = (c ≡ count_told 9 0) × ((after ≡ before) × (new ≡ None))
 

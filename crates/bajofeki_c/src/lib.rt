@@ -70,7 +70,7 @@ pub use report::{Report, report_of};
 pub use rules::{is_rule_skipped, name_into, rule_count, word_into};
 pub use source::{c_source_into, rust_source_into};
 use std::alloc::Global;
-pub use stream::{OpenStream, Stream, begin_stream, feed_stream, let_stream_go, next_in_stream};
+pub use stream::{Stream, begin_stream, feed_stream, let_stream_go, next_in_stream};
 
 // What a lexer and a cut are made of may go to another thread, and several threads may see it.
 fn may_go_to_threads<T: Send + Sync>() {}
@@ -509,10 +509,10 @@ pub extern "C" fn bajofeki_position(text: &[u8], at: usize) -> Place
     place_of(text, at)
 }
 
-/// The version of these functions: 2.
+/// The version of these functions: 3.
 #[unsafe(no_mangle)]
 pub extern "C" fn bajofeki_version() -> u32
-    ensures version { result ≡ 2 }
+    ensures version { result ≡ 3 }
 {
-    2
+    3
 }

@@ -4,6 +4,7 @@ pub mod Places
 pub mod InLine
 pub mod StartLaws
 pub mod PlaceLaws
+pub mod BytePlaces
 -- lines
 pub mod LineLemmas
 -- the characters of a quoted form

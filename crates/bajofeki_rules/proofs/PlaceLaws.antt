@@ -1,22 +1,15 @@
 -- The place after a text, by the place where it begins and by its bytes.
-use Rattle.std.proofs.Common.{◌≡◌, ◌≢◌, ℕ, ◌+◌, ◌-◌, ◌/◌, ◌%◌, ◌<◌, ◌≤◌, ◌⊎◌, inl, inr, eqb, Bool, true, false, List, [], ◌∷◌, ◌++◌, length, take, drop, length-take, length-drop, arith, refl, sym, ap, subst, ◌∙◌, append_assoc, append-nil}
+use Rattle.std.proofs.Common.{◌≡◌, ◌≢◌, ℕ, ◌+◌, ◌-◌, ◌<◌, ◌≤◌, ◌⊎◌, inl, inr, eqb, Bool, true, false, List, [], ◌∷◌, ◌++◌, length, take, drop, length-take, length-drop, arith, refl, sym, ap, subst, ◌∙◌, append_assoc, append-nil}
 use Rattle.std.specs.Prelude.{if◌then◌else◌}
-use Rattle.std.specs.List.{fold}
 use Rattle.std.specs.Str.{chars, IsUtf8, IsCharBoundary}
-use Rattle.std.proofs.Math.Utf8.{encode, encodes}
+use Rattle.std.proofs.Math.Utf8.{encodes}
 use Rattle.std.proofs.lemmas.Bool.{cases_lt, ne_eqb}
-use Rattle.std.proofs.lemmas.List.Sums.{fold-append}
 use Rattle.std.proofs.lemmas.Bool.Decides.{eqb_tells}
-use Rattle.std.proofs.lemmas.Str.{chars-append, chars_from_encodes, encodes-chars, IsUtf8-between}
+use Rattle.std.proofs.lemmas.Str.{chars-append, encodes-chars, IsUtf8-between}
 use Rattle.bajofeki_rules.specs.Position.{place_behind, position_of, is_line_feed, moved, place_after, IsBefore}
 use Rattle.bajofeki_rules.specs.declared.position.Position.{Position}
-use Rattle.bajofeki_rules.specs.Internal.Places.{next_place, place_after_byte}
-use Rattle.bajofeki_rules.specs.Starts.{is_start}
-use Rattle.bajofeki_rules.proofs.Places.{place_more, chars_up_to}
-use Rattle.bajofeki_rules.proofs.StartLaws.{begins, begins_low, encode_one, encode_two, encode_three, encode_four, follows}
-
-same_place : (line column l k : ℕ) → line ≡ l → column ≡ k → ◌≡◌ {A = Position} (record { line = line; column = column }) (record { line = l; column = k })
-same_place line column l k e f = cc
+use Rattle.bajofeki_rules.specs.Internal.Places.{next_place}
+use Rattle.bajofeki_rules.proofs.Places.{place_more, chars_up_to, same_place}
 
 -- in the same line, or in a later one
 moved_same : (p q : Position) → q.line ≡ 1 → moved p q ≡ record { line = p.line; column = p.column + (q.column - 1) }
@@ -25,7 +18,7 @@ moved_same p q e = rw e refl
 moved_later : (p q : Position) → q.line ≢ 1 → moved p q ≡ record { line = p.line + (q.line - 1); column = q.column }
 moved_later p q e = rw (ne_eqb q.line 1 e) refl
 
-abbrev at : ℕ → ℕ → Position
+abbrev pub at : ℕ → ℕ → Position
 at line column = record { line = line; column = column }
 
 -- a line feed first
@@ -40,25 +33,26 @@ feed_first p q h k = by (eqb_tells q.line 1)
         moved_later (at (p.line + 1) 1) q other ∙ same_place _ _ _ _ (omega (arith, other)) refl
         ∙ sym (moved_later p (at (2 + (q.line - 1)) q.column) (λ e. omega (arith, e))) ∙ ap (moved p) (sym (moved_later (at 2 1) q other))
 
--- another character first
-other_first : (p q : Position) → 1 ≤ q.line → 1 ≤ q.column → moved (at p.line (p.column + 1)) q ≡ moved p (moved (at 1 2) q)
-other_first p q h k = by (eqb_tells q.line 1)
+-- so many columns first
+other_first : (p q : Position) (n : ℕ) → 1 ≤ q.line → 1 ≤ q.column → moved (at p.line (p.column + n)) q ≡ moved p (moved (at 1 (1 + n)) q)
+other_first p q n h k = by (eqb_tells q.line 1)
   where
-    by : ((eqb q.line 1 ≡ true) × (q.line ≡ 1)) ⊎ ((eqb q.line 1 ≡ false) × (q.line ≢ 1)) → moved (at p.line (p.column + 1)) q ≡ moved p (moved (at 1 2) q)
+    by : ((eqb q.line 1 ≡ true) × (q.line ≡ 1)) ⊎ ((eqb q.line 1 ≡ false) × (q.line ≢ 1)) → moved (at p.line (p.column + n)) q ≡ moved p (moved (at 1 (1 + n)) q)
     by (inl (t, same)) =
-        moved_same (at p.line (p.column + 1)) q same ∙ same_place _ _ _ _ refl (omega arith)
-        ∙ sym (moved_same p (at 1 (2 + (q.column - 1))) refl) ∙ ap (moved p) (sym (moved_same (at 1 2) q same))
+        moved_same (at p.line (p.column + n)) q same ∙ same_place _ _ _ _ refl (omega arith)
+        ∙ sym (moved_same p (at 1 (1 + n + (q.column - 1))) refl) ∙ ap (moved p) (sym (moved_same (at 1 (1 + n)) q same))
     by (inr (t, other)) =
-        moved_later (at p.line (p.column + 1)) q other ∙ same_place _ _ _ _ (omega (arith, other)) refl
-        ∙ sym (moved_later p (at (1 + (q.line - 1)) q.column) (λ e. other (omega (arith, e, h)))) ∙ ap (moved p) (sym (moved_later (at 1 2) q other))
+        moved_later (at p.line (p.column + n)) q other ∙ same_place _ _ _ _ (omega (arith, other)) refl
+        ∙ sym (moved_later p (at (1 + (q.line - 1)) q.column) (λ e. other (omega (arith, e, h)))) ∙ ap (moved p) (sym (moved_later (at 1 (1 + n)) q other))
+
+-- a line feed, or so many columns, first
+pub moved_step : (p q : Position) (feed : Bool) (n : ℕ) → 1 ≤ q.line → 1 ≤ q.column
+    → moved (if feed then at (p.line + 1) 1 else at p.line (p.column + n)) q ≡ moved p (moved (if feed then at 2 1 else at 1 (1 + n)) q)
+moved_step p q true n h k = feed_first p q h k
+moved_step p q false n h k = other_first p q n h k
 
 moved_next : (p q : Position) (c : ℕ) → 1 ≤ q.line → 1 ≤ q.column → moved (next_place p c) q ≡ moved p (moved (next_place (at 1 1) c) q)
-moved_next p q c h k =
-    elim (is_line_feed c)
-    as (λ (b : Bool). moved (if b then at (p.line + 1) 1 else at p.line (p.column + 1)) q ≡ moved p (moved (if b then at 2 1 else at 1 2) q)) [
-      | true ↦ feed_first p q h k
-      | false ↦ other_first p q h k
-    ]
+moved_next p q c h k = moved_step p q (is_line_feed c) 1 h k
 
 begins_at_one : (cs : List ℕ) → (1 ≤ (place_behind cs).line) × (1 ≤ (place_behind cs).column)
 begins_at_one cs = (omega arith, omega arith)
@@ -73,77 +67,6 @@ moved_on cs (d ∷ ds) =
 
 pub place_behind_slice : (front slice : List ℕ) → IsUtf8 front → place_behind (chars (front ++ slice)) ≡ place_after (place_behind (chars front)) slice
 place_behind_slice front slice u = ap place_behind (chars-append front slice u) ∙ moved_on (chars front) (chars slice)
-
--- ---- byte by byte
-
-byte_begins : (p : Position) (b : ℕ) → 192 ≤ b → place_after_byte p b ≡ at p.line (p.column + 1)
-byte_begins p b h = rw (ne_eqb b 10 (λ e. omega (arith, h, e))) (same_place _ _ _ _ refl (omega (arith, begins b h)))
-
-byte_follows : (p : Position) (x : ℕ) → place_after_byte p (128 + x % 64) ≡ p
-byte_follows p x = rw (ne_eqb (128 + x % 64) 10 (λ e. omega (arith, e))) (same_place _ _ _ _ refl (omega (arith, follows x)))
-
-byte_alone : (p : Position) (c : ℕ) → c < 128 → place_after_byte p c ≡ next_place p c
-byte_alone p c h =
-    elim (is_line_feed c)
-    as (λ (b : Bool). (if b then at (p.line + 1) 1 else at p.line (p.column + (if is_start c then 1 else 0))) ≡ (if b then at (p.line + 1) 1 else at p.line (p.column + 1))) [
-      | true ↦ refl
-      | false ↦ same_place _ _ _ _ refl (omega (arith, begins_low c h))
-    ]
-
-not_alone : (p : Position) (c : ℕ) → 128 ≤ c → next_place p c ≡ at p.line (p.column + 1)
-not_alone p c h = rw (ne_eqb c 10 (λ e. omega (arith, h, e))) refl
-
--- the bytes of a character lead to the place after it
-place_after_char : (p : Position) (c : ℕ) → fold place_after_byte p (encode c) ≡ next_place p c
-place_after_char p c =
-    elim (cases_lt c 128) [
-      | inl low ↦ ap (fold place_after_byte p) (encode_one c low) ∙ byte_alone p c low
-      | inr high ↦ elim (cases_lt c 2048) [
-        | inl two ↦ ap (fold place_after_byte p) (encode_two c high two) ∙ byte_follows (place_after_byte p (192 + c / 64)) c
-            ∙ byte_begins p (192 + c / 64) (omega arith) ∙ sym (not_alone p c high)
-        | inr more ↦ elim (cases_lt c 65536) [
-          | inl three ↦ ap (fold place_after_byte p) (encode_three c more three)
-              ∙ byte_follows (place_after_byte (place_after_byte p (224 + c / 4096)) (128 + c / 64 % 64)) c
-              ∙ byte_follows (place_after_byte p (224 + c / 4096)) (c / 64)
-              ∙ byte_begins p (224 + c / 4096) (omega arith) ∙ sym (not_alone p c high)
-          | inr four ↦ ap (fold place_after_byte p) (encode_four c four)
-              ∙ byte_follows (place_after_byte (place_after_byte (place_after_byte p (240 + c / 262144)) (128 + c / 4096 % 64)) (128 + c / 64 % 64)) c
-              ∙ byte_follows (place_after_byte (place_after_byte p (240 + c / 262144)) (128 + c / 4096 % 64)) (c / 64)
-              ∙ byte_follows (place_after_byte p (240 + c / 262144)) (c / 4096)
-              ∙ byte_begins p (240 + c / 262144) (omega arith) ∙ sym (not_alone p c high)
-        ]
-      ]
-    ]
-
--- and those of all characters so far to the place after them
-place_after_chars : (front cs : List ℕ) → fold place_after_byte (place_behind front) (encodes cs) ≡ place_behind (front ++ cs)
-place_after_chars front [] = ap place_behind (sym (append-nil front))
-place_after_chars front (c ∷ cs) =
-    fold-append place_after_byte (place_behind front) (encode c) (encodes cs)
-    ∙ ap (λ (p : Position). fold place_after_byte p (encodes cs)) (place_after_char (place_behind front) c ∙ sym (place_more front c))
-    ∙ place_after_chars (front ++ c ∷ []) cs ∙ ap place_behind (append_assoc front (c ∷ []) cs)
-
-pub place_after_bytes : (text : List ℕ) → IsUtf8 text → fold place_after_byte (at 1 1) text ≡ place_behind (chars text)
-place_after_bytes text u =
-    let same : u.0 ≡ chars text = chars_from_encodes u.0 text u u.1.1 in
-    subst (λ (bs : List ℕ). fold place_after_byte (at 1 1) bs ≡ place_behind (chars text)) u.1.1 (place_after_chars [] u.0 ∙ ap place_behind same)
-
-byte_room : (p : Position) (b : ℕ) → ((place_after_byte p b).line ≤ p.line + 1) × ((place_after_byte p b).column ≤ p.column + 1)
-byte_room p b =
-    elim (is_line_feed b)
-    as (λ (f : Bool). ((if f then at (p.line + 1) 1 else at p.line (p.column + (if is_start b then 1 else 0))).line ≤ p.line + 1)
-    × ((if f then at (p.line + 1) 1 else at p.line (p.column + (if is_start b then 1 else 0))).column ≤ p.column + 1)) [
-      | true ↦ (omega arith, omega arith)
-      | false ↦ (omega arith, elim (is_start b) as (λ (s : Bool). p.column + (if s then 1 else 0) ≤ p.column + 1) [ true ↦ omega arith | false ↦ omega arith ])
-    ]
-
--- both numbers grow by no more than the bytes
-pub bytes_room : (p : Position) (bs : List ℕ) → ((fold place_after_byte p bs).line ≤ p.line + length bs) × ((fold place_after_byte p bs).column ≤ p.column + length bs)
-bytes_room p [] = (omega arith, omega arith)
-bytes_room p (b ∷ bs) =
-    let one = byte_room p b in
-    let rest = bytes_room (place_after_byte p b) bs in
-    (omega (arith, one.0, rest.0), omega (arith, one.1, rest.1))
 
 -- ---- places ascend
 

@@ -12,19 +12,19 @@ use Rattle.bajofeki_rules.specs.Position.{is_line_feed, place_behind, position_o
 use Rattle.bajofeki_rules.specs.Internal.Places.{next_place}
 use Rattle.bajofeki_rules.specs.declared.position.Position.{Position}
 
-length-after_last : (p : ℕ → Bool) (xs : List ℕ) → length (after_last p xs) ≡ suffix_len (λ x. not (p x)) xs
+pub length-after_last : (p : ℕ → Bool) (xs : List ℕ) → length (after_last p xs) ≡ suffix_len (λ x. not (p x)) xs
 length-after_last p xs =
     let n = suffix_len (λ x. not (p x)) xs in
     let short : n ≤ length xs = suffix_len-le-length (λ x. not (p x)) xs in
     omega (arith, length-drop (length xs - n) xs)
 
-suffix_len-push : (q : ℕ → Bool) (xs : List ℕ) (x : ℕ) → suffix_len q (xs ++ x ∷ []) ≡ cond (q x) (1 + suffix_len q xs) 0
+pub suffix_len-push : (q : ℕ → Bool) (xs : List ℕ) (x : ℕ) → suffix_len q (xs ++ x ∷ []) ≡ cond (q x) (1 + suffix_len q xs) 0
 suffix_len-push q xs x = ap (prefix_len q) (reverse-append xs (x ∷ []))
 
-count_by-push : (p : ℕ → Bool) (xs : List ℕ) (x : ℕ) → count_by p (xs ++ x ∷ []) ≡ count_by p xs + cond (p x) 1 0
+pub count_by-push : (p : ℕ → Bool) (xs : List ℕ) (x : ℕ) → count_by p (xs ++ x ∷ []) ≡ count_by p xs + cond (p x) 1 0
 count_by-push p xs x = sum_by-append (λ y. cond (p y) 1 0) xs (x ∷ []) ∙ omega arith
 
-same_place : (line column l k : ℕ) → line ≡ l → column ≡ k → ◌≡◌ {A = Position} (record { line = line; column = column }) (record { line = l; column = k })
+pub same_place : (line column l k : ℕ) → line ≡ l → column ≡ k → ◌≡◌ {A = Position} (record { line = line; column = column }) (record { line = l; column = k })
 same_place line column l k e f = cc
 
 pub place_more : (cs : List ℕ) (c : ℕ) → place_behind (cs ++ c ∷ []) ≡ next_place (place_behind cs) c

@@ -3,6 +3,7 @@
 use Rattle.std.specs.Prelude.{◌≡◌, ℕ, ◌+◌, ◌-◌, ◌<◌, ◌^◌, ◌⊎◌, Bool, ◌==◌, if◌then◌else◌, List, length, take}
 use Rattle.std.specs.List.{count_by, after_last}
 use Rattle.std.specs.Str.{chars}
+use Rattle.bajofeki_rules.specs.Starts.{is_start}
 use Rattle.bajofeki_rules.specs.declared.position.Position.{Position}
 
 abbrev pub is_line_feed : ℕ → Bool
@@ -16,6 +17,13 @@ place_behind cs = record { line = 1 + count_by is_line_feed cs; column = 1 + len
 -- the place of an offset in bytes: the place after the characters before it
 abbrev pub position_of : List ℕ → ℕ → Position
 position_of text offset = place_behind (chars (take offset text))
+
+-- the same of bytes, which may be no UTF-8: a column counts the bytes with which a character begins
+abbrev pub byte_place : List ℕ → Position
+byte_place bs = record { line = 1 + count_by is_line_feed bs; column = 1 + count_by is_start (after_last is_line_feed bs) }
+
+abbrev pub byte_place_of : List ℕ → ℕ → Position
+byte_place_of text offset = byte_place (take offset text)
 
 -- the first place comes before the second
 abbrev pub IsBefore : Position → Position → Type 0

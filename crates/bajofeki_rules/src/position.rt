@@ -1,8 +1,8 @@
 //! Places in a text, as line and column.
 
-ghost use Rattle.std.specs.Prelude.{◌≡◌, ℕ, ◌≤◌, ◌<◌, ◌↔◌, ◌+◌, true, length, slice_index, IfSome, IsSome};
-ghost use Rattle.std.specs.Str.{IsCharBoundary, chars};
-ghost use Rattle.bajofeki_rules.specs.Position.{Fits, moved, place_after, place_behind, position_of};
+ghost use Rattle.std.specs.Prelude.{◌≡◌, ℕ, ◌≤◌, ◌<◌, ◌↔◌, true, length, slice_index, IfSome, IsSome};
+ghost use Rattle.std.specs.Str.{IsCharBoundary};
+ghost use Rattle.bajofeki_rules.specs.Position.{Fits, byte_place, moved, place_after, position_of};
 ghost use Rattle.bajofeki_rules.specs.Internal.ByteRuns.{IsInLine};
 ghost use Rattle.bajofeki_rules.specs.Internal.Places.{next_place, place_after_byte};
 
@@ -76,7 +76,20 @@ impl Position {
         ensures place { IfSome result (λ p. p ≡ place_after self text.now) }
         ensures fits { IsSome result ↔ Fits (place_after self text.now) }
     {
-        self.then(place_behind(text))
+        self.after_bytes(text.as_bytes())
+    }
+
+    /// The place after the bytes, if they begin at this place; they may be no UTF-8. `None` if one of its numbers is too large.
+    ///
+    /// ```
+    /// let block = Position { line: 7, column: 3 };
+    /// let place = block.after_bytes(b"ab\n\xff"); // line 8, column 2
+    /// ```
+    pub fn after_bytes(self, bytes: &[u8]) -> Option<Position>
+        ensures place { IfSome result (λ p. p ≡ moved self (byte_place bytes.now)) }
+        ensures fits { IsSome result ↔ Fits (moved self (byte_place bytes.now)) }
+    {
+        self.then(byte_place(bytes))
     }
 
     // The place after one more byte: one with which no character begins changes nothing.
@@ -119,15 +132,13 @@ impl Position {
     }
 }
 
-// The place after a text.
-#[tactic(auto, using(std::proofs::lemmas::List::Sums::fold_more))]
-fn place_behind(text: &str) -> Position
-    ensures place { result ≡ place_behind (chars text.now) }
-    ensures line { result.line ≤ length text.now + 1 }
-    ensures column { result.column ≤ length text.now + 1 }
+// The place after bytes.
+#[tactic(auto, using(crate::proofs::BytePlaces::byte_further))]
+fn byte_place(bytes: &[u8]) -> Position
+    ensures place { result ≡ byte_place bytes.now }
 {
     let mut place = Position { line: 1, column: 1 };
-    for byte in text.as_bytes() {
+    for byte in bytes {
         place = place.next_byte(*byte);
     }
     place

@@ -8,13 +8,13 @@
 #![tactic(auto)]
 
 use anyhow::{Context, Result, bail};
-use bajofeki::{Change, Document, Item, Position, RuleLexer, Stream};
+use bajofeki::{Change, Document, GivenPiece, Item, Position, RuleLexer, Stream};
 use lalrpop_lexer::lexer::re::unescape;
 use std::alloc::Global;
 use std::io::{self, Print};
 use std::ops::Range;
 use std::vec::IntoIter;
-use std::{env, fs};
+use std::{env, fs, str};
 
 // What is replaced, and by what.
 #[derive(Drop)]
@@ -104,6 +104,14 @@ fn check(alloc: Global, text: &Document<'_>) -> Result<()> {
     Ok(())
 }
 
+// Whether this piece was given, with this slice.
+fn is_piece(given: &GivenPiece, slice: &[u8], piece: &Item<'_>) -> bool {
+    match str::from_utf8(slice) {
+        Ok(text) => given.item(text) == *piece,
+        Err(_) => false,
+    }
+}
+
 // Compares the pieces that are given with the next ones of the text. There are `most` at most.
 fn compare(chunks: &mut Stream<'_>, kept: &mut IntoIter<Item<'_>>, most: usize) -> Result<()> {
     for _ in 0..most {
@@ -113,21 +121,21 @@ fn compare(chunks: &mut Stream<'_>, kept: &mut IntoIter<Item<'_>>, most: usize) 
             Err(error) => return Err(error.into()),
         };
         match kept.next() {
-            Some(piece) if given.item(chunks.slice()) == piece => {}
+            Some(piece) if is_piece(&given, chunks.slice(), &piece) => {}
             _ => bail!("chunks give other pieces"),
         }
     }
     Ok(())
 }
 
-// Cuts the text in chunks of one and two characters, and compares.
+// Cuts the text in chunks of one and two bytes, and compares.
 fn check_chunks(alloc: Global, text: &Document<'_>) -> Result<()> {
     let mut chunks = Stream::new(alloc, text.lexer());
     let mut kept = text.pieces(alloc, 0..text.text().len())?.into_iter();
-    let mut chunk = String::new(alloc);
+    let mut chunk = Vec::new(alloc);
     let most = text.text().len().saturating_add(1);
-    for (n, c) in text.text().chars().enumerate() {
-        chunk.push(c)?;
+    for (n, byte) in text.text().bytes().enumerate() {
+        chunk.push(byte)?;
         if n % 3 != 1 {
             chunks.feed(&chunk)?;
             chunk.clear();

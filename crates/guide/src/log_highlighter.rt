@@ -3,13 +3,13 @@
 #![tactic(auto)]
 
 use anyhow::{Context, Result, bail};
-use bajofeki::{Painter, RuleLexer, Stream, TextDecoder};
+use bajofeki::{Painter, RuleLexer, Stream};
 use std::alloc::Global;
 use std::env;
 use std::fs::{self, File};
 use std::io::{Print, Read};
 
-// Paints the pieces that nothing that comes can change.
+// Paints the pieces that nothing that comes can change, with U+FFFD for what isn't UTF-8.
 fn paint(
     rt: &impl Print,
     alloc: Global,
@@ -20,7 +20,10 @@ fn paint(
     // A piece has one byte at least.
     for _ in 0..chunks.rest().len() {
         match chunks.next_piece()? {
-            Some(piece) => painter.push(&mut page, &piece.item(chunks.slice()))?,
+            Some(piece) => {
+                let text = String::from_utf8_lossy(alloc, chunks.slice())?;
+                painter.push(&mut page, &piece.item(&text))?;
+            }
             None => break,
         }
     }
@@ -36,7 +39,6 @@ fn paint_all<R: Read>(
     reader: &mut R,
 ) -> Result<()> {
     let mut chunks = Stream::new(alloc, lexer);
-    let mut decoder = TextDecoder::new(alloc);
     let mut painter = Painter::new(alloc, lexer.names())?;
     let mut buffer = [0u8; 4096];
     // Each loop ends, and a pipe may not.
@@ -45,15 +47,8 @@ fn paint_all<R: Read>(
         if count == 0 {
             break;
         }
-        let text = decoder.decode(alloc, &buffer[..count])?;
-        chunks.feed(&text)?;
+        chunks.feed(&buffer[..count])?;
         paint(rt, alloc, &mut chunks, &mut painter)?;
-        if decoder.is_broken() {
-            bail!("the log isn't UTF-8");
-        }
-    }
-    if !decoder.begun().is_empty() {
-        bail!("the log ends within a character");
     }
     chunks.finish();
     paint(rt, alloc, &mut chunks, &mut painter)

@@ -1,13 +1,13 @@
 -- The faults of a text of bytes.
-use Rattle.std.proofs.Common.{◌≡◌, ℕ, ◌+◌, ◌-◌, ◌<◌, ◌≤◌, ⊎_elim, inl, inr, Bool, true, false, List, length, take, drop, sym, ap, subst, ◌∙◌, arith, length-drop}
+use Rattle.std.proofs.Common.{◌≡◌, ℕ, ◌+◌, ◌-◌, ◌<◌, ◌≤◌, ◌⊎◌, ⊎_elim, inl, inr, Bool, true, false, List, length, take, drop, sym, ap, subst, ◌∙◌, arith, length-drop}
 use Rattle.std.specs.Prelude.{Option, Some, None}
 use Rattle.std.specs.Option.{option_map, is_some}
 use Rattle.std.proofs.lemmas.Bool.{cases_lt}
-use Rattle.std.proofs.lemmas.List.{drop-drop}
+use Rattle.std.proofs.lemmas.List.{drop-drop, length-take-le, take-append-drop, take_all}
 use Rattle.lalrpop_hir.specs.Tree.{Tree}
 use Rattle.lalrpop_hir.specs.Longest.{IsMatch, IsLongest}
 use Rattle.lalrpop_rules.specs.Found.{MatchesAt, NoMatchBefore}
-use Rattle.lalrpop_emit.specs.BytePieces.{IsByteFault}
+use Rattle.lalrpop_rules.specs.Pieces.{IsFault}
 use Rattle.lalrpop_emit.specs.declared.driver.Match.{Match}
 
 -- ---- places of a text and of its rest
@@ -56,20 +56,24 @@ none_more ts text start end l before none n below m =
     none (matches_in_text ts text start end l (subst (λ (k : ℕ). MatchesAt ts (drop start text) k) here m)))
     (cases_lt n (end - start))
 
+-- bytes at the front of a text, at none of which a tree matches
+fault_of : (ts : List Tree) (text : List ℕ) (size : ℕ) → 0 < size → size ≤ length text → NoMatchBefore ts text size → (size ≡ length text) ⊎ MatchesAt ts text size
+    → IsFault ts text (take size text)
+fault_of ts text size some within nothing ends =
+    let is : length (take size text) ≡ size = length-take-le size text within in
+    record {
+      front = (drop size text, sym (take-append-drop size text));
+      some = λ none. omega (arith, some, is, ap length none);
+      nothing = subst (NoMatchBefore ts text) (sym is) nothing;
+      ends = elim ends [ inl whole ↦ inl (take_all size text (omega (arith, whole))) | inr match ↦ inr (subst (MatchesAt ts text) (sym is) match) ];
+    }
+
 pub fault_to_match : (ts : List Tree) (text : List ℕ) (start end : ℕ) → start < end → end ≤ length text → NoMatchBefore ts (drop start text) (end - start)
-    → MatchesAt ts text end → IsByteFault ts (drop start text) (end - start)
-fault_to_match ts text start end some within nothing m = record {
-  some = omega arith;
-  within = omega (arith, length-drop start text);
-  nothing = nothing;
-  ends = inr (matches_in_rest ts text start end (omega arith) m);
-}
+    → MatchesAt ts text end → IsFault ts (drop start text) (take (end - start) (drop start text))
+fault_to_match ts text start end some within nothing m =
+    fault_of ts (drop start text) (end - start) (omega arith) (omega (arith, length-drop start text)) nothing (inr (matches_in_rest ts text start end (omega arith) m))
 
 pub fault_to_end : (ts : List Tree) (text : List ℕ) (start end : ℕ) → start < end → end ≤ length text → length text ≤ end
-    → NoMatchBefore ts (drop start text) (end - start) → IsByteFault ts (drop start text) (end - start)
-fault_to_end ts text start end some within ends nothing = record {
-  some = omega arith;
-  within = omega (arith, length-drop start text);
-  nothing = nothing;
-  ends = inl (omega (arith, length-drop start text));
-}
+    → NoMatchBefore ts (drop start text) (end - start) → IsFault ts (drop start text) (take (end - start) (drop start text))
+fault_to_end ts text start end some within ends nothing =
+    fault_of ts (drop start text) (end - start) (omega arith) (omega (arith, length-drop start text)) nothing (inl (omega (arith, length-drop start text)))

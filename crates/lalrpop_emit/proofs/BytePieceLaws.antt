@@ -1,7 +1,7 @@
 -- The pieces of a text of bytes are unique, and on a UTF-8 text they are the pieces of the rules, in numbers.
-use Rattle.std.proofs.Common.{◌≡◌, ◌≢◌, ℕ, suc, ◌+◌, ◌<◌, ◌⊎◌, ◌∙◌, Bool, true, false, inl, inr, List, [], ◌∷◌, ◌++◌, length, take, drop, map, refl, sym, ap, subst, arith, length-append}
+use Rattle.std.proofs.Common.{◌≡◌, ◌≢◌, ℕ, suc, ◌+◌, ◌<◌, ◌≤◌, ◌∙◌, Bool, true, false, List, [], ◌∷◌, ◌++◌, length, take, drop, map, refl, sym, ap, subst, arith}
 use Rattle.std.specs.Prelude.{Option, Some, None, slice_get}
-use Rattle.std.proofs.lemmas.Bool.{cases_order, false≢true}
+use Rattle.std.proofs.lemmas.Bool.{false≢true}
 use Rattle.std.proofs.lemmas.List.{length-take-le}
 use Rattle.std.proofs.lemmas.Option.{some_pair_parts}
 use Rattle.lalrpop_hir.specs.Chain.{AtEnd}
@@ -11,32 +11,24 @@ use Rattle.lalrpop_hir.proofs.Longests.{longest-unique}
 use Rattle.lalrpop_rules.specs.Pieces.{IsFault, IsPiece, slice_of}
 use Rattle.lalrpop_rules.specs.declared.item.Item.{Item}
 use Rattle.lalrpop_rules.specs.declared.item.Item.TheVariants.{Token, Skipped, Fault}
+use Rattle.lalrpop_rules.proofs.FirstMatches.{some_length}
+use Rattle.lalrpop_rules.proofs.UniquePieces.{same_fault}
 use Rattle.bajofeki_rules.specs.declared.action.Action.{Action}
 use Rattle.bajofeki_rules.specs.Stack.{Stack, act_all, actions_of}
 use Rattle.lalrpop_rules.specs.Modes.{ModeRules, ArePiecesFrom, after, trees_in}
-use Rattle.lalrpop_emit.specs.BytePieces.{IsByteToken, IsByteFault, IsByteTokenOrFault, IsBytePiece, IsModePiece, rule_actions, piece_actions, after_piece, Fits, StopsAt, AreBytePiecesFrom, AreBytePiecesTo, numbered}
+use Rattle.lalrpop_emit.specs.BytePieces.{IsByteToken, IsByteTokenOrFault, IsBytePiece, IsModePiece, rule_actions, piece_actions, after_piece, Fits, StopsAt, AreBytePiecesFrom, AreBytePiecesTo, numbered}
 use Rattle.lalrpop_emit.specs.declared.numbered_piece.NumberedPiece.{NumberedPiece}
 
 -- ---- one piece is unique
 
--- a fault doesn't reach beyond the end of another
-no_longer : (ts : List Tree) (text : List ℕ) (a b : ℕ) → IsByteFault ts text a → IsByteFault ts text b → ¬ (a < b)
-no_longer ts text a b first second longer = elim first.ends [
-  | inl whole ↦ omega (arith, second.within)
-  | inr match ↦ second.nothing a longer match
-]
-
-same_fault : (ts : List Tree) (text : List ℕ) (a b : ℕ) → IsByteFault ts text a → IsByteFault ts text b → a ≡ b
-same_fault ts text a b first second = by_order (cases_order a b)
-  where
-    by_order : (a ≡ b) ⊎ ((a < b) ⊎ (b < a)) → a ≡ b
-    by_order (inl same) = same
-    by_order (inr (inl less)) = absurd (no_longer ts text a b first second less)
-    by_order (inr (inr more)) = absurd (no_longer ts text b a second first more)
+-- two faults of these lengths are one
+same_size : (ts : List Tree) (text : List ℕ) (a b : ℕ) → (a ≤ length text) × IsFault ts text (take a text) → (b ≤ length text) × IsFault ts text (take b text) → a ≡ b
+same_size ts text a b is too =
+    sym (length-take-le a text is.0) ∙ ap length (same_fault ts text (take a text) (take b text) is.1 too.1) ∙ length-take-le b text too.0
 
 -- where something matches, no fault is
-no_fault : (ts : List Tree) (ps text : List ℕ) (m : ℕ × List ℕ) (size : ℕ) → IsLongest ts ps text (Some m) → ¬ IsByteFault ts text size
-no_fault ts ps text m size is fault = fault.nothing 0 fault.some (m.1, is.0)
+no_fault : (ts : List Tree) (ps text : List ℕ) (m : ℕ × List ℕ) (slice : List ℕ) → IsLongest ts ps text (Some m) → ¬ IsFault ts text slice
+no_fault ts ps text m slice is fault = fault.nothing 0 (some_length slice fault.some) (m.1, is.0)
 
 -- the longest match in two forms
 same_match : (ts : List Tree) (ps kinds text : List ℕ) (kind rule size rule2 : ℕ) (slice : List ℕ) → IsByteToken ts ps kinds text kind rule size
@@ -47,9 +39,9 @@ same_match ts ps kinds text kind rule size rule2 slice token is =
 
 same_parts : (ts : List Tree) (ps kinds text : List ℕ) (kind kind2 : Option ℕ) (rule rule2 size size2 : ℕ) → IsByteTokenOrFault ts ps kinds text kind rule size
     → IsByteTokenOrFault ts ps kinds text kind2 rule2 size2 → (kind ≡ kind2) × (rule ≡ rule2) × (size ≡ size2)
-same_parts ts ps kinds text None None rule rule2 size size2 is too = (refl, is.0 ∙ sym too.0, same_fault ts text size size2 is.1 too.1)
-same_parts ts ps kinds text None (Some kind2) rule rule2 size size2 is too = absurd (no_fault ts ps text (rule2, take size2 text) size too.longest is.1)
-same_parts ts ps kinds text (Some kind) None rule rule2 size size2 is too = absurd (no_fault ts ps text (rule, take size text) size2 is.longest too.1)
+same_parts ts ps kinds text None None rule rule2 size size2 is too = (refl, is.0 ∙ sym too.0, same_size ts text size size2 is.1 too.1)
+same_parts ts ps kinds text None (Some kind2) rule rule2 size size2 is too = absurd (no_fault ts ps text (rule2, take size2 text) (take size text) too.longest is.1.1)
+same_parts ts ps kinds text (Some kind) None rule rule2 size size2 is too = absurd (no_fault ts ps text (rule, take size text) (take size2 text) is.longest too.1.1)
 same_parts ts ps kinds text (Some kind) (Some kind2) rule rule2 size size2 is too =
     let same = same_match ts ps kinds text kind rule size rule2 (take size2 text) is too.longest in
     (sym is.kind_is ∙ ap (slice_get kinds) same.0 ∙ too.kind_is, same.0, same.1 ∙ length-take-le size2 text too.within)
@@ -70,7 +62,7 @@ some_before text [] left e some = absurd (some refl)
 some_before text (x ∷ xs) left e some = omega (arith, ap length e)
 
 within_rest : (ts : List Tree) (ps kinds text : List ℕ) (kind : Option ℕ) (rule size : ℕ) → IsByteTokenOrFault ts ps kinds text kind rule size → 0 < length text
-within_rest ts ps kinds text None rule size is = omega (arith, is.1.some, is.1.within)
+within_rest ts ps kinds text None rule size is = some_before text (take size text) is.1.1.front.0 is.1.1.front.1 is.1.1.some
 within_rest ts ps kinds text (Some kind) rule size is = some_before text (take size text) is.longest.0.0.0 is.longest.0.0.1.0 is.longest.0.1
 
 pub none_left : (ts : List Tree) (ps kinds text : List ℕ) (at : ℕ) (a : NumberedPiece) → IsBytePiece ts ps kinds text at a → ¬ AtEnd text at
@@ -104,30 +96,18 @@ byte_pieces-unique r kinds room text w v at s (x ∷ xs) (y ∷ ys) are too =
 
 -- ---- the pieces of the rules
 
-byte_fault : (ts : List Tree) (text slice : List ℕ) → IsFault ts text slice → IsByteFault ts text (length slice)
-byte_fault ts text slice fault = record {
-  some = some_bytes slice fault.some;
-  within = omega (arith, ap length fault.front.1.0, length-append slice fault.front.0);
-  nothing = fault.nothing;
-  ends = elim fault.ends [ inl whole ↦ inl (ap length whole) | inr match ↦ inr match ];
-}
-  where
-    some_bytes : (xs : List ℕ) → xs ≢ [] → 0 < length xs
-    some_bytes [] some = absurd (some refl)
-    some_bytes (x ∷ xs) some = omega arith
-
 -- a token of the rules, in numbers
 token_parts : (ts : List Tree) (ps kinds text : List ℕ) (kind : Option ℕ) (rule size rule2 : ℕ) (slice : List ℕ) → IsByteTokenOrFault ts ps kinds text kind rule size
     → IsLongest ts ps text (Some (rule2, slice)) → (kind ≡ slice_get kinds rule2) × (rule ≡ rule2) × (size ≡ length slice)
-token_parts ts ps kinds text None rule size rule2 slice is found = absurd (no_fault ts ps text (rule2, slice) size found is.1)
+token_parts ts ps kinds text None rule size rule2 slice is found = absurd (no_fault ts ps text (rule2, slice) (take size text) found is.1.1)
 token_parts ts ps kinds text (Some kind) rule size rule2 slice is found =
     let same = same_match ts ps kinds text kind rule size rule2 slice is found in
     (sym is.kind_is ∙ ap (slice_get kinds) same.0, same.0, same.1)
 
 fault_parts : (ts : List Tree) (ps kinds text : List ℕ) (kind : Option ℕ) (rule size : ℕ) (slice : List ℕ) → IsByteTokenOrFault ts ps kinds text kind rule size
     → IsFault ts text slice → (kind ≡ None) × (rule ≡ 0) × (size ≡ length slice)
-fault_parts ts ps kinds text None rule size slice is fault = (refl, is.0, same_fault ts text size (length slice) is.1 (byte_fault ts text slice fault))
-fault_parts ts ps kinds text (Some kind) rule size slice is fault = absurd (no_fault ts ps text (rule, take size text) (length slice) is.longest (byte_fault ts text slice fault))
+fault_parts ts ps kinds text None rule size slice is fault = (refl, is.0, sym (length-take-le size text is.1.0) ∙ ap length (same_fault ts text (take size text) slice is.1.1 fault))
+fault_parts ts ps kinds text (Some kind) rule size slice is fault = absurd (no_fault ts ps text (rule, take size text) slice is.longest fault)
 
 -- the piece of the rules at the place is the piece in numbers
 piece_numbered : (ts : List Tree) (ps kinds : List ℕ) (skips : List Bool) (text : List ℕ) (at : ℕ) (a : NumberedPiece) (item : Item) → IsBytePiece ts ps kinds text at a
@@ -154,18 +134,18 @@ some_item ts ps skips text at (Token token) is end =
 some_item ts ps skips text at (Skipped token) is end =
     omega (arith, some_before (drop at text) token.slice.now is.0.1.0.0.0 is.0.1.0.0.1.0 is.0.1.0.1, ap length end)
 some_item ts ps skips text at (Fault start slice) is end =
-    let fault = byte_fault ts (drop at text) slice.now is.1 in omega (arith, fault.some, fault.within, ap length end)
+    omega (arith, some_before (drop at text) slice.now is.1.front.0 is.1.front.1 is.1.some, ap length end)
 
 -- and makes the same stack
 token_acts : (ts : List Tree) (ps kinds text : List ℕ) (kind : Option ℕ) (rule size rule2 : ℕ) (slice : List ℕ) (actions : List (List Action)) → IsByteTokenOrFault ts ps kinds text kind rule size
     → IsLongest ts ps text (Some (rule2, slice)) → rule_actions actions kind rule ≡ actions_of actions rule2
-token_acts ts ps kinds text None rule size rule2 slice actions is found = absurd (no_fault ts ps text (rule2, slice) size found is.1)
+token_acts ts ps kinds text None rule size rule2 slice actions is found = absurd (no_fault ts ps text (rule2, slice) (take size text) found is.1.1)
 token_acts ts ps kinds text (Some kind) rule size rule2 slice actions is found = ap (actions_of actions) (same_match ts ps kinds text kind rule size rule2 slice is found).0
 
 fault_acts : (ts : List Tree) (ps kinds text : List ℕ) (kind : Option ℕ) (rule size : ℕ) (slice : List ℕ) (actions : List (List Action)) → IsByteTokenOrFault ts ps kinds text kind rule size
     → IsFault ts text slice → rule_actions actions kind rule ≡ []
 fault_acts ts ps kinds text None rule size slice actions is fault = refl
-fault_acts ts ps kinds text (Some kind) rule size slice actions is fault = absurd (no_fault ts ps text (rule, take size text) (length slice) is.longest (byte_fault ts text slice fault))
+fault_acts ts ps kinds text (Some kind) rule size slice actions is fault = absurd (no_fault ts ps text (rule, take size text) slice is.longest fault)
 
 stack_numbered : (ts : List Tree) (ps kinds : List ℕ) (skips : List Bool) (text : List ℕ) (at : ℕ) (a : NumberedPiece) (item : Item) (actions : List (List Action)) (s : Stack)
     → IsBytePiece ts ps kinds text at a → IsPiece ts ps skips text at item → after_piece actions a s ≡ after actions item s

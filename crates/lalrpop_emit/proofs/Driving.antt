@@ -1,5 +1,5 @@
 -- What comes next where a text is cut by a lexer in numbers.
-use Rattle.std.proofs.Common.{◌≡◌, ℕ, ◌-◌, ◌<◌, ◌≤◌, List, [], ◌++◌, length, map, take, drop, reverse, get_or, sym, ap, subst, ◌∙◌, refl, arith, length-drop}
+use Rattle.std.proofs.Common.{◌≡◌, ℕ, ◌+◌, ◌-◌, ◌<◌, ◌≤◌, List, [], ◌++◌, length, map, take, drop, reverse, get_or, sym, ap, subst, ◌∙◌, refl, arith, length-drop}
 use Rattle.std.specs.Prelude.{slice_get, MatchOption, Option, Some, None}
 use Rattle.std.proofs.lemmas.List.{length-map, append-nil, drop_all, take_all}
 use Rattle.std.proofs.lemmas.Option.{slice_get-map, slice_get-get_or, slice_get_read}
@@ -8,9 +8,10 @@ use Rattle.lalrpop_dense.specs.DenseTable.{TableNumbers}
 use Rattle.bajofeki_rules.specs.declared.action.Action.{Action}
 use Rattle.bajofeki_rules.specs.Stack.{Stack, act_all, actions_of}
 use Rattle.lalrpop_rules.specs.Modes.{ModeRules, EachMode, trees_in}
+use Rattle.lalrpop_rules.specs.Pieces.{IsFault}
 use Rattle.lalrpop_rules.proofs.ModeLaws.{act-keeps}
 use Rattle.lalrpop_hir.specs.Longest.{IsLongest}
-use Rattle.lalrpop_emit.specs.BytePieces.{IsByteFault, Fits}
+use Rattle.lalrpop_emit.specs.BytePieces.{Fits}
 use Rattle.lalrpop_emit.specs.Names.{distinct_names, place_of_name}
 use Rattle.lalrpop_emit.specs.NumberedRules.{NumberedRules, AreNumbersOf, action_numbers, actions_of_rules}
 use Rattle.lalrpop_emit.specs.Internal.Driving.{ComesNext, GoesOn, stack_of}
@@ -120,12 +121,12 @@ module _ (r : ModeRules) (kinds : List ℕ) (room : ℕ) (text : List ℕ) (at :
       subst (λ (q : NumberedPiece). ComesNext r kinds room text at s (Piece q) t) piece (token_at p.kind rule end is place longest fits then)
 
   -- a fault, after which the stack is the same
-  pub fault_comes : (p : NumberedPiece) → (p.kind ≡ None) × (p.rule ≡ 0) × (p.start ≡ at) → IsByteFault (trees_in r s.mode) (drop at text) p.length → t ≡ s
-      → ComesNext r kinds room text at s (Piece p) t
-  fault_comes p same fault then =
+  pub fault_comes : (p : NumberedPiece) → (p.kind ≡ None) × (p.rule ≡ 0) × (p.start ≡ at) → at + p.length ≤ length text
+      → IsFault (trees_in r s.mode) (drop at text) (take p.length (drop at text)) → t ≡ s → ComesNext r kinds room text at s (Piece p) t
+  fault_comes p same within fault then =
       let piece : record { kind = None; rule = 0; start = at; length = p.length } ≡ p =
       λ i. record { kind = sym same.0 i; rule = sym same.1 i; start = sym same.2 i; length = p.length } in
-      subst (λ (q : NumberedPiece). ComesNext r kinds room text at s (Piece q) t) piece ((refl, (refl, fault)), tt, then)
+      subst (λ (q : NumberedPiece). ComesNext r kinds room text at s (Piece q) t) piece ((refl, (refl, (omega (arith, within, length-drop at text), fault))), tt, then)
 
 -- the text is cut on after it
 pub goes_on : (text : List ℕ) (at end at2 : ℕ) (p : NumberedPiece) (rule : ℕ) → (p.rule ≡ rule) × (p.start ≡ at) × (p.length ≡ end - at) → (at < end) × (end ≤ length text) → at2 ≡ end

@@ -19,7 +19,6 @@ pub mod Driving
 pub mod AheadTables
 pub mod BytePieceLaws
 pub mod ByteCutLaws
-pub mod BytePositionLaws
 pub mod AheadColumns
 pub mod AheadPlaces
 pub mod AheadTokens

@@ -1,10 +1,10 @@
 -- cases: proofs/Cases/BytePieces.antt
 -- The pieces of a text of bytes, which may be no UTF-8: what isn't UTF-8 matches nothing.
-use Rattle.std.specs.Prelude.{◌≡◌, ℕ, ◌+◌, ◌<◌, ◌≤◌, ◌⊎◌, Bool, true, false, List, [], ◌∷◌, length, take, drop, slice_get, Option, Some, None}
+use Rattle.std.specs.Prelude.{◌≡◌, ℕ, ◌+◌, ◌≤◌, Bool, true, false, List, [], ◌∷◌, length, take, drop, slice_get, Option, Some, None}
 use Rattle.lalrpop_hir.specs.Tree.{Tree}
 use Rattle.lalrpop_hir.specs.Longest.{IsLongest}
 use Rattle.lalrpop_hir.specs.Chain.{AtEnd}
-use Rattle.lalrpop_rules.specs.Found.{MatchesAt, NoMatchBefore}
+use Rattle.lalrpop_rules.specs.Pieces.{IsFault}
 use Rattle.lalrpop_rules.specs.declared.item.Item.{Item}
 use Rattle.lalrpop_rules.specs.declared.item.Item.TheVariants.{Token, Skipped, Fault}
 use Rattle.bajofeki_rules.specs.declared.action.Action.{Action}
@@ -18,17 +18,9 @@ pub record IsByteToken (ts : List Tree) (ps kinds text : List ℕ) (kind rule si
   pub within : size ≤ length text
   pub longest : IsLongest ts ps text (Some (rule, take size text))
 
--- a fault of this length at the front of a text: one or more bytes at none of which a tree matches; after them the text ends, or
--- some tree matches
-pub record IsByteFault (ts : List Tree) (text : List ℕ) (size : ℕ) : Type 0 where
-  pub some : 0 < size
-  pub within : size ≤ length text
-  pub nothing : NoMatchBefore ts text size
-  pub ends : (size ≡ length text) ⊎ MatchesAt ts text size
-
 -- a token if it has a kind, else a fault
 abbrev pub IsByteTokenOrFault : List Tree → List ℕ → List ℕ → List ℕ → Option ℕ → ℕ → ℕ → Type 0
-IsByteTokenOrFault ts ps kinds text None rule size = (rule ≡ 0) × IsByteFault ts text size
+IsByteTokenOrFault ts ps kinds text None rule size = (rule ≡ 0) × ((size ≤ length text) × IsFault ts text (take size text))
 IsByteTokenOrFault ts ps kinds text (Some kind) rule size = IsByteToken ts ps kinds text kind rule size
 
 -- the piece of the text at this place

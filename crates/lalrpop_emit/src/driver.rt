@@ -23,11 +23,12 @@ ghost use Rattle.lalrpop_hir.specs.Longest.{IsLongest};
 ghost use Rattle.lalrpop_dfa.specs.Dfa.{Row, Recognizes};
 ghost use Rattle.lalrpop_dense.specs.DenseTable.{AreClasses, IsTableFor, TableNumbers, block_of_page, character_class};
 ghost use Rattle.lalrpop_rules.specs.Found.{MatchesAt};
+ghost use Rattle.lalrpop_rules.specs.Pieces.{IsFault};
 ghost use Rattle.bajofeki_rules.specs.Stack.{Stack, act_all, actions_of};
 ghost use Rattle.lalrpop_rules.specs.Modes.{ModeRules};
 ghost use Rattle.bajofeki_rules.specs.declared.action.Action.{Action};
 ghost use Rattle.lalrpop_emit.specs.ByteCut.{most_open_rows};
-ghost use Rattle.lalrpop_emit.specs.BytePieces.{IsByteFault, Fits};
+ghost use Rattle.lalrpop_emit.specs.BytePieces.{Fits};
 ghost use Rattle.lalrpop_emit.specs.BytePositions.{byte_position_of};
 ghost use Rattle.lalrpop_emit.specs.NumberedRules.{AreNumbersOf};
 ghost use Rattle.lalrpop_emit.specs.Internal.Characters.{IsCharacterAt, IsFollowing};
@@ -317,7 +318,7 @@ fn fault(numbers: &Numbers, text: &[u8], state: &mut State, memo: &mut [u64]) ->
     ensures fault { (t : TableNumbers) → slice_get numbers.now.tables state.old.mode ≡ Some t
         → (d : List Row) → IsTableFor t d
         → (ts : List Tree) (ps : List ℕ) → Recognizes d ts ps → ¬ MatchesAt ts text.now state.old.at
-        → IsByteFault ts (drop state.old.at text.now) result.length }
+        → IsFault ts (drop state.old.at text.now) (take result.length (drop state.old.at text.now)) }
     ensures piece { (result.kind ≡ None) × (result.rule ≡ 0) × (result.start ≡ state.old.at) }
     ensures place { GoesOn text.now state.old.at result.start result.length state.new.at }
     ensures stack { (state.new.mode ≡ state.old.mode) × (state.new.depth ≡ state.old.depth) }

@@ -13,7 +13,7 @@ ghost use Rattle.lalrpop_hir.specs.Longest.{IsLongest};
 ghost use Rattle.lalrpop_dfa.specs.Dfa.{Row, Recognizes};
 ghost use Rattle.lalrpop_dense.specs.DenseTable.{AreClasses, IsTableFor, TableNumbers, character_class};
 ghost use Rattle.lalrpop_rules.specs.Found.{MatchesAt};
-ghost use Rattle.lalrpop_emit.specs.BytePieces.{IsByteFault};
+ghost use Rattle.lalrpop_rules.specs.Pieces.{IsFault};
 ghost use Rattle.lalrpop_emit.specs.Ahead.{IsAheadOf, character_column, no_rule};
 ghost use Rattle.lalrpop_emit.specs.Internal.AheadRows.{IsRowOf};
 ghost use Rattle.lalrpop_emit.specs.Internal.Characters.{IsCharacterAt};
@@ -363,7 +363,7 @@ pub(crate) fn fault_end(
     requires memo { IsMemoFor (ahead_numbers ahead.now) (list_numbers table.now) text.now memo.old }
     ensures fault { (d : List Row) → IsTableFor (list_numbers table.now) d
         → (ts : List Tree) (ps : List ℕ) → Recognizes d ts ps → ¬ MatchesAt ts text.now start
-        → IsByteFault ts (drop start text.now) (result - start) }
+        → IsFault ts (drop start text.now) (take (result - start) (drop start text.now)) }
     ensures place { (start < result) × (result ≤ length text.now) }
     ensures memo { IsMemoFor (ahead_numbers ahead.now) (list_numbers table.now) text.now memo.new }
 {

@@ -11,6 +11,7 @@ use Rattle.lalrpop_rules.specs.Internal.CutToEnd.{CutToEnd, IsPaid, GivesPiece, 
 use Rattle.lalrpop_rules.specs.Pieces.{IsPiece, slice_of}
 use Rattle.lalrpop_rules.specs.declared.item.Item.{Item}
 use Rattle.lalrpop_rules.specs.declared.item.Item.TheVariants.{Token, Skipped, Fault}
+use Rattle.std.proofs.lemmas.Str.{IsUtf8-drop}
 use Rattle.lalrpop_rules.proofs.PieceLaws.{is_front}
 use Rattle.lalrpop_rules.specs.Modes.{ModeRules, trees_in}
 use Rattle.lalrpop_rules.specs.Internal.Cutting.{spare_of, unsought_in, memo_in, steps_in, IsCutIn, HasSoughtUpTo, AreCuts, IsSoughtAfter}
@@ -102,7 +103,7 @@ pub cuts_on : (r : ModeRules) (text : List ℕ) (at mode : ℕ) (cs : List CutTo
     → AreCuts r text (at + length (slice_of x)) mode (slice_set cs mode d)
 cuts_on r text at mode cs c d x u b are is within g =
     let piece : IsPiece (trees_in r mode) r.precedences r.skips text at x = own_piece r text at mode c x (are.each mode c is) (are.here c is) g.0 in
-    let front : IsPrefix (slice_of x) (drop at text) = is_front (trees_in r mode) r.precedences r.skips text at x piece in
+    let front : IsPrefix (slice_of x) (drop at text) = is_front (trees_in r mode) r.precedences r.skips text at x (IsUtf8-drop text at u b) piece in
     let on = cut_on r text at mode c d x (are.each mode c is) (are.here c is) g in
     let here : slice_get (slice_set cs mode d) mode ≡ Some d = get_set cs mode d within in
     record {

@@ -14,7 +14,7 @@ use Rattle.lalrpop_lexer.specs.Dfa.{Row, Recognizes}
 use Rattle.lalrpop_lexer.specs.Matching.{Matching, rest_of}
 use Rattle.lalrpop_rules.specs.Internal.CutToEnd.{Memo, IsPaid}
 use Rattle.lalrpop_rules.specs.Internal.Finding.{Match, IsMatchOf, Passes, memo_of}
-use Rattle.lalrpop_rules.proofs.PieceLaws.{split_at}
+use Rattle.lalrpop_rules.proofs.PieceLaws.{after_prefix, split_at}
 
 -- what an automaton finds is the longest match for any rules that it is built from
 pub found_for : (d : List Row) (rest : List ℕ) (found : Option Match)
@@ -42,7 +42,7 @@ pub match_pays : (m n : Matching) (p : List ℕ) (before after : ℕ) → IsPref
 match_pays m n p before after b some e grows paid =
     let later : rest_of n ≡ drop (m.at + length p) m.text = ap (λ (x : Matching). rest_of x) e in
     let parts : length (chars (rest_of m)) ≡ length (chars p) + length (chars (rest_of n)) =
-    ap (λ (t : List ℕ). length (chars t)) (split_at m.text m.at p b ∙ ap (λ (t : List ℕ). p ++ t) (sym later))
+    ap (λ (t : List ℕ). length (chars t)) (split_at m.text m.at p (after_prefix p (rest_of m) b) ∙ ap (λ (t : List ℕ). p ++ t) (sym later))
     ∙ ap (λ (w : List ℕ). length w) (chars-append p (rest_of n) b.1.1) ∙ length-append (chars p) (chars (rest_of n)) in
     (grows, omega (arith, parts, some_char p b.1.1 some, paid))
 

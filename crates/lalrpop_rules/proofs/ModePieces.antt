@@ -3,7 +3,7 @@ use Rattle.std.proofs.Common.{◌≡◌, ℕ, ◌+◌, List, [], ◌∷◌, ◌+
 use Rattle.lalrpop_rules.specs.Pieces.{ArePieces, IsSame, AreSame, slice_of, joined}
 use Rattle.lalrpop_rules.specs.declared.item.Item.{Item}
 use Rattle.lalrpop_rules.specs.declared.item.Item.TheVariants.{Token, Skipped, Fault}
-use Rattle.lalrpop_rules.proofs.PieceLaws.{is_front, split_at}
+use Rattle.lalrpop_rules.proofs.PieceLaws.{is_split, split_at}
 use Rattle.bajofeki_rules.specs.declared.action.Action.{Action}
 use Rattle.bajofeki_rules.specs.Stack.{Stack, act_all, actions_of}
 use Rattle.lalrpop_rules.specs.Modes.{ModeRules, trees_in, after, after_all, ArePiecesFrom}
@@ -78,4 +78,4 @@ pub joined-from : (r : ModeRules) (text : List ℕ) (at : ℕ) (s : Stack) (xs :
 joined-from r text at s [] t are = sym are.0
 joined-from r text at s (x ∷ xs) t are =
     ap (λ (p : List ℕ). slice_of x ++ p) (joined-from r text (at + length (slice_of x)) (after r.actions x s) xs t are.1)
-    ∙ sym (split_at text at (slice_of x) (is_front (trees_in r s.mode) r.precedences r.skips text at x are.0))
+    ∙ sym (split_at text at (slice_of x) (is_split (trees_in r s.mode) r.precedences r.skips text at x are.0))

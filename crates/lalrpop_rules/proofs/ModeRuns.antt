@@ -5,7 +5,7 @@ use Rattle.std.proofs.lemmas.Str.{IsUtf8-drop}
 use Rattle.lalrpop_hir.specs.Tree.{Tree}
 use Rattle.lalrpop_rules.specs.Pieces.{IsPiece, joined, slice_of}
 use Rattle.lalrpop_rules.proofs.Fronts.{boundary_behind}
-use Rattle.lalrpop_rules.proofs.PieceLaws.{is_front, is_some, rest_some, split_at}
+use Rattle.lalrpop_rules.proofs.PieceLaws.{is_front, is_split, is_some, rest_some, split_at}
 use Rattle.lalrpop_rules.proofs.Finding.{paid_on}
 use Rattle.std.specs.Prelude.{Option, Some, None}
 use Rattle.lalrpop_rules.specs.Internal.CutToEnd.{steps_for}
@@ -35,7 +35,7 @@ pieces-from-first s r text most e xs t y end =
 pub none_for_good : (s t u : ModeCut) (x : Option Item) → GivesModePiece s None t → GivesModePiece t x u → x ≡ None
 none_for_good s t u None end g = refl
 none_for_good s t u (Some x) (same, end) g =
-    let front = is_front (trees_in t.rules t.stack.mode) t.rules.precedences t.rules.skips t.text t.at x g.0 in
+    let front = is_split (trees_in t.rules t.stack.mode) t.rules.precedences t.rules.skips t.text t.at x g.0 in
     let some = is_some (trees_in t.rules t.stack.mode) t.rules.precedences t.rules.skips t.text t.at x g.0 in
     absurd (rest_some (slice_of x) (left_text t) front some (ap (λ (w : ModeCut). left_text w) same ∙ end))
 
@@ -57,7 +57,7 @@ piece-given old between new s t x mode over on_top cuts follows acted =
 
 step_splits : (s j : ModeCut) (x : Item) → GivesModePiece s (Some x) j → left_text s ≡ slice_of x ++ left_text j
 step_splits s j x g =
-    split_at s.text s.at (slice_of x) (is_front (trees_in s.rules s.stack.mode) s.rules.precedences s.rules.skips s.text s.at x g.0)
+    split_at s.text s.at (slice_of x) (is_split (trees_in s.rules s.stack.mode) s.rules.precedences s.rules.skips s.text s.at x g.0)
     ∙ ap (λ (w : ModeCut). slice_of x ++ left_text w) (sym g.1)
 
 parts-of-run : (s t : ModeCut) (xs : List Item) → Yields GivesModePiece s xs t → left_text s ≡ joined xs ++ left_text t
@@ -79,7 +79,7 @@ act-within n acts s t is lead there = subst (λ (u : Stack). EachMode (λ m. m <
 -- the text may be cut after a piece
 pub cut-behind : (ts : List Tree) (ps : List ℕ) (skips : List Bool) (text : List ℕ) (at : ℕ) (x : Item) → IsUtf8 text → IsCharBoundary text at
     → IsPiece ts ps skips text at x → IsCharBoundary text (at + length (slice_of x))
-cut-behind ts ps skips text at x u here is = boundary_behind text at (slice_of x) here (IsUtf8-drop text at u here) (is_front ts ps skips text at x is)
+cut-behind ts ps skips text at x u here is = boundary_behind text at (slice_of x) here (IsUtf8-drop text at u here) (is_front ts ps skips text at x (IsUtf8-drop text at u here) is)
 
 -- a rule that isn't there has no actions
 pub no_actions : {K : Type 0} (f : K → List Action) (ks : List K) (i : ℕ) → length ks ≤ i → [] ≡ actions_of (map f ks) i

@@ -25,7 +25,7 @@ left_over s over = rw over
 fewer_chars : (s t : ModeCut) (x : Item) → IsUtf8 (left_text s) → GivesModePiece s (Some x) t
     → length (chars (left_text t)) < length (chars (left_text s))
 fewer_chars s t x u g =
-    let front = is_front (trees_in s.rules s.stack.mode) s.rules.precedences s.rules.skips s.text s.at x g.0 in
+    let front = is_front (trees_in s.rules s.stack.mode) s.rules.precedences s.rules.skips s.text s.at x u g.0 in
     let some = is_some (trees_in s.rules s.stack.mode) s.rules.precedences s.rules.skips s.text s.at x g.0 in
     subst (λ (w : ModeCut). length (chars (left_text w)) < length (chars (left_text s))) (sym g.1) (fewer_left s.text s.at (slice_of x) u front some)
 
@@ -42,7 +42,7 @@ fewer_behind_error s u on some = omega (arith, left_on s on, some_char (left_tex
 count_left : (s t : ModeCut) (xs : List Item) → IsUtf8 (left_text s) → Yields GivesModePiece s xs t → length xs ≤ length (chars (left_text s))
 count_left s t [] u y = omega arith
 count_left s t (x ∷ xs) u (j, g, y) =
-    let front = is_front (trees_in s.rules s.stack.mode) s.rules.precedences s.rules.skips s.text s.at x g.0 in
+    let front = is_front (trees_in s.rules s.stack.mode) s.rules.precedences s.rules.skips s.text s.at x u g.0 in
     let later : IsUtf8 (left_text j) = subst (λ (w : ModeCut). IsUtf8 (left_text w)) (sym g.1) (utf8_behind s.text s.at (slice_of x) u front) in
     omega (arith, fewer_chars s j x u g, count_left j t xs later y)
 

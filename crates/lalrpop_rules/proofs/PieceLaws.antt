@@ -1,7 +1,8 @@
 -- What holds of the pieces of a text.
-use Rattle.std.proofs.Common.{◌≡◌, ◌≢◌, ℕ, ◌+◌, ◌<◌, Bool, inl, inr, List, [], ◌∷◌, ◌++◌, length, drop, arith, refl, sym, ap, subst, ◌∙◌, length-append}
+use Rattle.std.proofs.Common.{◌≡◌, ◌≢◌, ℕ, suc, ◌+◌, ◌<◌, ◌≤◌, Bool, inl, inr, List, [], ◌∷◌, ◌++◌, length, take, drop, arith, refl, sym, ap, subst, ◌∙◌, length-append}
 use Rattle.std.specs.Str.{chars, IsUtf8}
-use Rattle.std.proofs.lemmas.Str.{IsUtf8-drop, chars-append}
+use Rattle.std.proofs.Math.Seq.{take-append_seam}
+use Rattle.std.proofs.lemmas.Str.{IsUtf8-drop, IsUtf8-take, chars-append}
 use Rattle.std.proofs.lemmas.List.{append-nil, drop_at, drop-drop}
 use Rattle.lalrpop_hir.specs.Tree.{Tree}
 use Rattle.lalrpop_hir.specs.Prefix.{IsPrefix}
@@ -12,14 +13,35 @@ use Rattle.lalrpop_rules.specs.Pieces.{IsFault, IsPiece, ArePieces, AreApart, sl
 use Rattle.lalrpop_rules.specs.declared.item.Item.{Item}
 use Rattle.lalrpop_rules.specs.declared.item.Item.TheVariants.{Token, Skipped, Fault}
 use Rattle.lalrpop_lexer.proofs.Cuttings.{cut_behind, some_char}
-use Rattle.lalrpop_rules.proofs.FirstMatches.{some_length}
+use Rattle.lalrpop_rules.proofs.FirstMatches.{match_begins, some_length}
 
--- a piece is a prefix of the rest
-pub is_front : (ts : List Tree) (ps : List ℕ) (skips : List Bool) (text : List ℕ) (at : ℕ) (x : Item) → IsPiece ts ps skips text at x
-    → IsPrefix (slice_of x) (drop at text)
-is_front ts ps skips text at (Token token) is = is.0.1.0.0
-is_front ts ps skips text at (Skipped token) is = is.0.1.0.0
-is_front ts ps skips text at (Fault start slice) is = is.1.front
+-- what is left after a prefix
+pub after_prefix : (p text : List ℕ) → IsPrefix p text → (rest : List ℕ) × (text ≡ p ++ rest)
+after_prefix p text b = (b.0, b.1.0)
+
+-- the rest begins with a piece
+pub is_split : (ts : List Tree) (ps : List ℕ) (skips : List Bool) (text : List ℕ) (at : ℕ) (x : Item) → IsPiece ts ps skips text at x
+    → (rest : List ℕ) × (drop at text ≡ slice_of x ++ rest)
+is_split ts ps skips text at (Token token) is = after_prefix token.slice.now (drop at text) is.0.1.0.0
+is_split ts ps skips text at (Skipped token) is = after_prefix token.slice.now (drop at text) is.0.1.0.0
+is_split ts ps skips text at (Fault start slice) is = is.1.front
+
+-- a fault of a text in UTF-8 is UTF-8
+pub fault_utf8 : (ts : List Tree) (text slice : List ℕ) → IsUtf8 text → IsFault ts text slice → IsUtf8 slice
+fault_utf8 ts text slice u fault = elim fault.ends [
+  | inl whole ↦ subst IsUtf8 (sym whole) u
+  | inr m ↦ subst IsUtf8 same (IsUtf8-take text (length slice) u (match_begins ts text (length slice) m))
+]
+  where
+    same : take (length slice) text ≡ slice
+    same = ap (take (length slice)) fault.front.1 ∙ take-append_seam slice fault.front.0
+
+-- where the rest is UTF-8, a piece is a prefix of it
+pub is_front : (ts : List Tree) (ps : List ℕ) (skips : List Bool) (text : List ℕ) (at : ℕ) (x : Item) → IsUtf8 (drop at text)
+    → IsPiece ts ps skips text at x → IsPrefix (slice_of x) (drop at text)
+is_front ts ps skips text at (Token token) u is = is.0.1.0.0
+is_front ts ps skips text at (Skipped token) u is = is.0.1.0.0
+is_front ts ps skips text at (Fault start slice) u is = (is.1.front.0, (is.1.front.1, fault_utf8 ts (drop at text) slice.now u is.1))
 
 -- and not empty
 pub is_some : (ts : List Tree) (ps : List ℕ) (skips : List Bool) (text : List ℕ) (at : ℕ) (x : Item) → IsPiece ts ps skips text at x → slice_of x ≢ []
@@ -28,14 +50,20 @@ is_some ts ps skips text at (Skipped token) is = is.0.1.0.1
 is_some ts ps skips text at (Fault start slice) is = is.1.some
 
 -- so there is a rest
-pub rest_some : (p rest : List ℕ) → IsPrefix p rest → p ≢ [] → rest ≢ []
-rest_some p rest b some none = omega (arith, some_length p some, ap length b.1.0, length-append p b.0, ap length none)
+pub rest_some : (p text : List ℕ) → (rest : List ℕ) × (text ≡ p ++ rest) → p ≢ [] → text ≢ []
+rest_some p text b some none = omega (arith, some_length p some, ap length b.1, length-append p b.0, ap length none)
 
--- what is left after a prefix of the rest
-pub split_at : (text : List ℕ) (at : ℕ) (p : List ℕ) → IsPrefix p (drop at text) → drop at text ≡ p ++ drop (at + length p) text
+-- what is left after a piece
+pub split_at : (text : List ℕ) (at : ℕ) (p : List ℕ) → (rest : List ℕ) × (drop at text ≡ p ++ rest) → drop at text ≡ p ++ drop (at + length p) text
 split_at text at p b =
-    let behind : b.0 ≡ drop (length p) (drop at text) = sym (ap (drop (length p)) b.1.0 ∙ drop_at p b.0 (length p) refl) in
-    b.1.0 ∙ ap (λ (r : List ℕ). p ++ r) (behind ∙ drop-drop (length p) at text)
+    let behind : b.0 ≡ drop (length p) (drop at text) = sym (ap (drop (length p)) b.1 ∙ drop_at p b.0 (length p) refl) in
+    b.1 ∙ ap (λ (r : List ℕ). p ++ r) (behind ∙ drop-drop (length p) at text)
+
+-- and less is left
+pub shorter_left : (text : List ℕ) (at n : ℕ) (p : List ℕ) → (rest : List ℕ) × (drop at text ≡ p ++ rest) → p ≢ [] → length (drop at text) ≤ suc n
+    → length (drop (at + length p) text) ≤ n
+shorter_left text at n p b some most =
+    omega (arith, ap length (split_at text at p b), length-append p (drop (at + length p) text), some_length p some, most)
 
 pub utf8_behind : (text : List ℕ) (at : ℕ) (p : List ℕ) → IsUtf8 (drop at text) → IsPrefix p (drop at text) → IsUtf8 (drop (at + length p) text)
 utf8_behind text at p u b =
@@ -46,7 +74,7 @@ pub fewer_left : (text : List ℕ) (at : ℕ) (p : List ℕ) → IsUtf8 (drop at
     → length (chars (drop (at + length p) text)) < length (chars (drop at text))
 fewer_left text at p u b some =
     let count : length (chars (drop at text)) ≡ length (chars p) + length (chars (drop (at + length p) text)) =
-    ap (λ (t : List ℕ). length (chars t)) (split_at text at p b) ∙ ap length (chars-append p (drop (at + length p) text) b.1.1)
+    ap (λ (t : List ℕ). length (chars t)) (split_at text at p (after_prefix p (drop at text) b)) ∙ ap length (chars-append p (drop (at + length p) text) b.1.1)
     ∙ length-append (chars p) (chars (drop (at + length p) text)) in
     omega (arith, count, some_char p b.1.1 some)
 

@@ -2,7 +2,7 @@
 use Rattle.std.proofs.Common.{◌≡◌, ◌≢◌, ℕ, zero, suc, ◌+◌, ◌≤◌, ◌⊎◌, Bool, true, false, inl, inr, List, [], ◌∷◌, length, take, drop, arith, refl, sym, subst}
 use Rattle.std.specs.Prelude.{Option, Some, None, slice_get}
 use Rattle.std.specs.Borrow.{Bor}
-use Rattle.std.specs.Str.{chars, IsUtf8}
+use Rattle.std.specs.Str.{chars}
 use Rattle.std.proofs.lemmas.Bool.{cases_lt}
 use Rattle.std.proofs.lemmas.List.{nil_from_length}
 use Rattle.lalrpop_hir.specs.Tree.{Tree}
@@ -11,7 +11,6 @@ use Rattle.lalrpop_hir.specs.Longest.{IsLongest}
 use Rattle.lalrpop_hir.specs.Tokens.{IsToken}
 use Rattle.lalrpop_hir.specs.declared.token.Token.{Token as Cut}
 use Rattle.lalrpop_lexer.proofs.Decided.{longest-exists}
-use Rattle.lalrpop_lexer.proofs.UniqueTokens.{less_left}
 use Rattle.lalrpop_hir.proofs.Strongest.{IsOnlyStrongest-from_greatest}
 use Rattle.lalrpop_rules.specs.Found.{MatchesAt, NoMatchBefore, NothingFound}
 use Rattle.lalrpop_rules.specs.Pieces.{IsPiece, ArePieces, slice_of}
@@ -19,7 +18,7 @@ use Rattle.lalrpop_rules.specs.declared.item.Item.{Item}
 use Rattle.lalrpop_rules.specs.declared.item.Item.TheVariants.{Token, Skipped, Fault}
 use Rattle.lalrpop_rules.proofs.FirstMatches.{before_start, nothing_found}
 use Rattle.lalrpop_rules.proofs.Fronts.{fault_to_end, fault_to_match}
-use Rattle.lalrpop_rules.proofs.PieceLaws.{is_front, is_some, utf8_behind}
+use Rattle.lalrpop_rules.proofs.PieceLaws.{is_some, is_split, shorter_left}
 
 abbrev FirstMatch : List Tree → List ℕ → Type 0
 FirstMatch ts rest = NothingFound ts rest ⊎ ((n : ℕ) × (MatchesAt ts rest n × NoMatchBefore ts rest n))
@@ -57,31 +56,31 @@ module _ (ts : List Tree) (ps : List ℕ) (skips : List Bool) (text : List ℕ) 
       let token : Cut = record { index = found.0; slice = lent found.1; start = at } in
       of_token at token (refl, longest, IsOnlyStrongest-from_greatest ts ps (chars found.1) found.0 clear longest.2)
 
-  at_front : (at : ℕ) → IsUtf8 (drop at text) → drop at text ≢ [] → FirstMatch ts (drop at text) → (x : Item) × IsPiece ts ps skips text at x
-  at_front at u some (inl nothing) = (Fault at (lent (drop at text)), (refl, fault_to_end ts (drop at text) u some nothing))
-  at_front at u some (inr (zero, (m, before))) =
+  at_front : (at : ℕ) → drop at text ≢ [] → FirstMatch ts (drop at text) → (x : Item) × IsPiece ts ps skips text at x
+  at_front at some (inl nothing) = (Fault at (lent (drop at text)), (refl, fault_to_end ts (drop at text) some nothing))
+  at_front at some (inr (zero, (m, before))) =
       let found = longest-exists ts ps (drop at text) in
       of_match at found.0 found.1 m
-  at_front at u some (inr (suc n, (m, before))) =
+  at_front at some (inr (suc n, (m, before))) =
       let slice = take (suc n) (drop at text) in
-      (Fault at (lent slice), (refl, fault_to_match ts (drop at text) slice (suc n) u m before (omega arith) refl))
+      (Fault at (lent slice), (refl, fault_to_match ts (drop at text) slice (suc n) m before (omega arith) refl))
 
-  front_or_end : (at n : ℕ) (rest : List ℕ) → rest ≡ drop at text → IsUtf8 (drop at text) → length (drop at text) ≤ suc n
-      → ((to : ℕ) → IsUtf8 (drop to text) → length (drop to text) ≤ n → (xs : List Item) × ArePieces ts ps skips text to xs)
+  front_or_end : (at n : ℕ) (rest : List ℕ) → rest ≡ drop at text → length (drop at text) ≤ suc n
+      → ((to : ℕ) → length (drop to text) ≤ n → (xs : List Item) × ArePieces ts ps skips text to xs)
       → (xs : List Item) × ArePieces ts ps skips text at xs
-  front_or_end at n [] e u most others = ([], sym e)
-  front_or_end at n (b ∷ rest) e u most others =
-      let first = at_front at u (λ none. cc) (search_from ts ps (drop at text) (length (drop at text)) 0 (omega arith) (before_start ts (drop at text))) in
+  front_or_end at n [] e most others = ([], sym e)
+  front_or_end at n (b ∷ rest) e most others =
+      let first = at_front at (λ none. cc) (search_from ts ps (drop at text) (length (drop at text)) 0 (omega arith) (before_start ts (drop at text))) in
       let slice = slice_of first.0 in
-      let front = is_front ts ps skips text at first.0 first.1 in
-      let later = others (at + length slice) (utf8_behind text at slice u front) (less_left text at n slice front (is_some ts ps skips text at first.0 first.1) most) in
+      let less = shorter_left text at n slice (is_split ts ps skips text at first.0 first.1) (is_some ts ps skips text at first.0 first.1) most in
+      let later = others (at + length slice) less in
       (first.0 ∷ later.0, (first.1, later.1))
 
-  from : (n at : ℕ) → IsUtf8 (drop at text) → length (drop at text) ≤ n → (xs : List Item) × ArePieces ts ps skips text at xs
-  from zero at u most = ([], nil_from_length (drop at text) (omega arith))
-  from (suc n) at u most = front_or_end at n (drop at text) refl u most (λ to fine less. from n to fine less)
+  from : (n at : ℕ) → length (drop at text) ≤ n → (xs : List Item) × ArePieces ts ps skips text at xs
+  from zero at most = ([], nil_from_length (drop at text) (omega arith))
+  from (suc n) at most = front_or_end at n (drop at text) refl most (λ to less. from n to less)
 
--- the pieces of a text, where no word is ambiguous
-pub pieces-exist : (ts : List Tree) (ps : List ℕ) (skips : List Bool) (text : List ℕ) → NoClash ts ps → IsUtf8 text
+-- the pieces of a text, which may be no UTF-8, where no word is ambiguous
+pub pieces-exist : (ts : List Tree) (ps : List ℕ) (skips : List Bool) (text : List ℕ) → NoClash ts ps
     → (xs : List Item) × ArePieces ts ps skips text 0 xs
-pieces-exist ts ps skips text clear u = from ts ps skips text clear (length text) 0 u (omega arith)
+pieces-exist ts ps skips text clear = from ts ps skips text clear (length text) 0 (omega arith)

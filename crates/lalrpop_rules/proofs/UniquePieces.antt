@@ -1,9 +1,8 @@
 -- The pieces of a text are unique.
-use Rattle.std.proofs.Common.{◌≡◌, ◌≢◌, ℕ, ◌+◌, ◌<◌, ◌⊎◌, Bool, inl, inr, List, [], ◌∷◌, length, take, drop, arith, sym, ap, subst, ◌∙◌, length-append}
+use Rattle.std.proofs.Common.{◌≡◌, ◌≢◌, ℕ, ◌+◌, ◌<◌, ◌⊎◌, Bool, inl, inr, List, [], ◌∷◌, ◌++◌, length, take, drop, arith, sym, ap, subst, ◌∙◌, length-append}
 use Rattle.std.proofs.Math.Seq.{take-append_seam}
 use Rattle.std.proofs.lemmas.Bool.{cases_order}
 use Rattle.lalrpop_hir.specs.Tree.{Tree}
-use Rattle.lalrpop_hir.specs.Prefix.{IsPrefix}
 use Rattle.lalrpop_hir.specs.Tokens.{IsToken}
 use Rattle.lalrpop_hir.specs.declared.token.Token.{Token as Cut}
 use Rattle.lalrpop_lexer.proofs.UniqueTokens.{token-unique}
@@ -11,22 +10,22 @@ use Rattle.lalrpop_rules.specs.Pieces.{IsFault, IsPiece, ArePieces, IsSkipped, I
 use Rattle.lalrpop_rules.specs.declared.item.Item.{Item}
 use Rattle.lalrpop_rules.specs.declared.item.Item.TheVariants.{Token, Skipped, Fault}
 use Rattle.lalrpop_rules.proofs.FirstMatches.{some_length}
-use Rattle.lalrpop_rules.proofs.PieceLaws.{is_front, is_some, rest_some}
+use Rattle.lalrpop_rules.proofs.PieceLaws.{is_split, is_some, rest_some}
 
--- two prefixes of one length are equal
-same_prefix : (p q text : List ℕ) → IsPrefix p text → IsPrefix q text → length p ≡ length q → p ≡ q
-same_prefix p q text h g e =
-    sym (take-append_seam p h.0) ∙ ap (take (length p)) (sym h.1.0) ∙ ap (λ n. take n text) e ∙ ap (take (length q)) g.1.0 ∙ take-append_seam q g.0
+-- two beginnings of one length are equal
+same_front : (p q text : List ℕ) → (rest : List ℕ) × (text ≡ p ++ rest) → (rest : List ℕ) × (text ≡ q ++ rest) → length p ≡ length q → p ≡ q
+same_front p q text h g e =
+    sym (take-append_seam p h.0) ∙ ap (take (length p)) (sym h.1) ∙ ap (λ n. take n text) e ∙ ap (take (length q)) g.1 ∙ take-append_seam q g.0
 
 -- a fault doesn't reach beyond the end of another
 no_longer : (ts : List Tree) (text p q : List ℕ) → IsFault ts text p → IsFault ts text q → ¬ (length p < length q)
 no_longer ts text p q first second longer = elim first.ends [
-  | inl whole ↦ omega (arith, longer, ap length whole, ap length second.front.1.0, length-append q second.front.0)
+  | inl whole ↦ omega (arith, longer, ap length whole, ap length second.front.1, length-append q second.front.0)
   | inr match ↦ second.nothing (length p) longer match
 ]
 
 pub same_fault : (ts : List Tree) (text p q : List ℕ) → IsFault ts text p → IsFault ts text q → p ≡ q
-same_fault ts text p q first second = same_prefix p q text first.front second.front (by_order (cases_order (length p) (length q)))
+same_fault ts text p q first second = same_front p q text first.front second.front (by_order (cases_order (length p) (length q)))
   where
     by_order : (length p ≡ length q) ⊎ ((length p < length q) ⊎ (length q < length p)) → length p ≡ length q
     by_order (inl same) = same
@@ -67,7 +66,7 @@ same_slice (Fault start slice) (Fault start2 slice2) same = same.1
 pub no_piece_left : (ts : List Tree) (ps : List ℕ) (skips : List Bool) (text : List ℕ) (at : ℕ) (x : Item) → IsPiece ts ps skips text at x
     → drop at text ≢ []
 no_piece_left ts ps skips text at x is =
-    rest_some (slice_of x) (drop at text) (is_front ts ps skips text at x is) (is_some ts ps skips text at x is)
+    rest_some (slice_of x) (drop at text) (is_split ts ps skips text at x is) (is_some ts ps skips text at x is)
 
 -- the pieces of a text are unique
 pub pieces-unique : (ts : List Tree) (ps : List ℕ) (skips : List Bool) (text : List ℕ) (at : ℕ) (xs ys : List Item)

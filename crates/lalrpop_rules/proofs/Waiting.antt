@@ -147,7 +147,7 @@ fault_before text at f slice m n p some is passes cut =
     let ends : at + p.passed ≡ at + length slice = omega (arith, size) in (
       λ ts ps built.
           let there = subst (λ (t : List ℕ). IsMatch ts t f.1.now) (sym rest) (is ts ps built).0 in
-          fault_to_match ts (drop at text) slice p.passed u (f.1.now, there) (p.nothing ts ps built) (omega (arith, some, p.sought.here)) front,
+          fault_to_match ts (drop at text) slice p.passed (f.1.now, there) (p.nothing ts ps built) (omega (arith, some, p.sought.here)) front,
       record {
         utf8 = p.utf8;
         boundary = subst (λ (k : ℕ). IsCharBoundary text k) ends p.sought.boundary;
@@ -167,7 +167,7 @@ fault_at_end text at slice m p some end all =
     let ends : at + p.passed ≡ at + length slice = omega (arith, size, end, p.sought.here) in
     let left : drop at text ≢ [] = λ none. omega (arith, some, end, length-drop at text, ap length none) in (
       λ ts ps built.
-          subst (λ (t : List ℕ). IsFault ts (drop at text) t) (sym all) (fault_to_end ts (drop at text) u left (nothing_found ts (drop at text) p.passed place (p.nothing ts ps built))),
+          subst (λ (t : List ℕ). IsFault ts (drop at text) t) (sym all) (fault_to_end ts (drop at text) left (nothing_found ts (drop at text) p.passed place (p.nothing ts ps built))),
       record {
         utf8 = p.utf8;
         boundary = subst (λ (k : ℕ). IsCharBoundary text k) ends p.sought.boundary;

@@ -1,7 +1,6 @@
 -- cases: proofs/Cases/Pieces.antt
 -- The pieces of a text that is cut to its end.
 use Rattle.std.specs.Prelude.{◌≡◌, ◌≢◌, ℕ, ◌⊎◌, Bool, true, List, [], ◌∷◌, ◌++◌, length, drop, slice_get, Option, Some, None, Result, Ok, Err}
-use Rattle.lalrpop_hir.specs.Prefix.{IsPrefix}
 use Rattle.lalrpop_hir.specs.Tree.{Tree}
 use Rattle.lalrpop_hir.specs.Chain.{Chain, AtEnd}
 use Rattle.lalrpop_hir.specs.Tokens.{IsToken}
@@ -28,10 +27,10 @@ start_of (Fault start slice) = start
 abbrev pub IsSkipped : List Bool → ℕ → Type 0
 IsSkipped skips i = slice_get skips i ≡ Some true
 
--- a fault at the front of a text: one or more characters at none of which a tree matches; after them the text ends, or some tree
--- matches
+-- a fault at the front of a text, which may be no UTF-8: one or more bytes at none of which a tree matches; after them the text ends,
+-- or some tree matches
 pub record IsFault (ts : List Tree) (text slice : List ℕ) : Type 0 where
-  pub front : IsPrefix slice text
+  pub front : (rest : List ℕ) × (text ≡ slice ++ rest)
   pub some : slice ≢ []
   pub nothing : NoMatchBefore ts text (length slice)
   pub ends : (slice ≡ text) ⊎ MatchesAt ts text (length slice)

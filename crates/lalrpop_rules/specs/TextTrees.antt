@@ -29,11 +29,13 @@ pub record IsAnyCaseTree (inner : List ℕ) (t : Tree) : Type 0 where
   pub words : (w : List ℕ) → Matches t w ↔ SameButForCase (chars inner) w
   pub no_fault : fault t ≡ None
 
--- the tree matches the words from the beginning to the first end after it, and can be compiled; the end has 1 to 64 characters
+-- the tree matches the words from the beginning to the first end after it, no other list of values, and can be compiled; the end has
+-- 1 to 64 characters
 pub record IsFromToTree (start end : List ℕ) (t : Tree) : Type 0 where
   pub some : end ≢ []
   pub short : length (chars end) ≤ 64
   pub words : (w : List ℕ) → All IsScalar w → Matches t w ↔ IsFromTo (chars start) (chars end) w
+  pub only : (w : List ℕ) → Matches t w → IsFromTo (chars start) (chars end) w
   pub no_fault : fault t ≡ None
 
 -- the tree is one of the text: a literal or a pattern spells it

@@ -70,7 +70,10 @@ fn add_pieces(chunks: &mut Stream<'_>, text: &str, line: &mut String) -> Result<
     // A piece has one byte at least.
     for _ in 0..=text.len() {
         match chunks.next_piece() {
-            Ok(Some(_)) => add(line, " ", chunks.slice())?,
+            Ok(Some(_)) => {
+                let text = String::from_utf8_lossy(*line.allocator(), chunks.slice())?;
+                add(line, " ", &text)?;
+            }
             Ok(None) => return add(line, " ", "|"),
             Err(_) if is_refused => return Err(AllocError),
             Err(_) => is_refused = true,
@@ -90,8 +93,8 @@ pub(crate) fn in_chunks(alloc: Global, argument: &str) -> Result<String, AllocEr
         if chunks.is_ended() {
             break;
         }
-        if chunks.feed(chunk).is_err() {
-            chunks.feed(chunk)?;
+        if chunks.feed(chunk.as_bytes()).is_err() {
+            chunks.feed(chunk.as_bytes())?;
         }
         add_pieces(&mut chunks, text, &mut line)?;
     }

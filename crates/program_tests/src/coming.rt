@@ -1,16 +1,17 @@
-//! Texts that named rules cut as they come: in chunks, up to a failed read, a byte that is of no character or a fault; and that
+//! Texts that named rules cut as they come: in chunks, up to a failed read or a fault, with bytes that are no UTF-8; and that
 //! what nothing that comes can change is written before more is read.
 
 use crate::cutting::{
-    ALL, Answer, CLEAN, Ended, FAULTY, Fed, Full, JOBS, JSON, Job, Lines, PLAIN, RECOVERING, Shape,
-    cut, is_end, lexer_of_comments, lexer_of_rules, lexer_of_words, write_lines,
+    ALL, Answer, CLEAN, Ended, FAULTY, Fed, Full, JOBS, JSON, Job, Lines, PLAIN, RECOVERING,
+    RECOVERING_JSON, Shape, cut, is_end, lexer_of_comments, lexer_of_rules, lexer_of_words,
+    write_lines,
 };
 use lalrpop_lexer::Position;
 use lexdfa_lib::RunError;
 use std::alloc::{AllocError, Global};
 use std::io;
 use std::process::Abort;
-use tokens_lib::{Console, Markup, Reader, RuleLexer, System};
+use tokens_lib::{Console, Found, Markup, Reader, RuleLexer, System};
 
 // How many bytes a read gives.
 const SIZES: [usize; 5] = [1, 2, 3, 5, ALL];
@@ -218,50 +219,104 @@ fn a_failed_read_leaves_the_lines_in_front(rt: HostRuntime) {
     }
 }
 
-// Where the last character begins of which the first bytes have only a part; after them, if they have none.
-fn whole_front(text: &str, size: usize) -> usize {
-    let mut front = 0;
-    for at in 0..=size {
-        if text.is_char_boundary(at) {
-            front = at;
-        }
-    }
-    front
+// ---- bytes that are no UTF-8
+
+// Bytes by the rules of `lexer_of_rules`, and what is written for them: what isn't UTF-8 lies in a fault.
+struct Bytes {
+    shape: Shape,
+    bytes: &'static [u8],
+    written: &'static [u8],
+    end: Ended,
 }
 
-// The first bytes come, then one that is of no character. What comes after it isn't asked for.
-fn meets_no_character(
-    rt: &impl Abort,
-    alloc: Global,
-    lexer: &RuleLexer,
-    job: &Coming,
-    size: usize,
-) -> bool {
-    let text = job.text.as_bytes();
-    let front = text.get(..size).unwrap_or(b"");
-    let bytes = joined(alloc, &[front, b"\xff", text, text]).expect(rt, "memory");
-    let at = whole_front(job.text, size);
-    for at_once in SIZES {
-        let shape = Shape::Lines(job.lines);
-        let cut = cut(alloc, lexer, &shape, Fed::ending(&bytes, at_once));
-        let calls = reads(size.saturating_add(1), at_once);
-        if !is_cut(&cut, job, size, Ended::NotText { at }, calls) {
-            return false;
-        }
-    }
-    true
-}
+// A column counts the bytes with which a character begins: all but 0x80 to 0xBF.
+const BYTES: [Bytes; 9] = [
+    Bytes {
+        shape: Shape::Lines(RECOVERING),
+        bytes: b"ab?\xff if",
+        written: b"f:1:1 NAME \"ab\"\nf:1:3 ! \"?\\xff\"\nf:1:6 IF \"if\"\n",
+        end: FAULTY,
+    },
+    // A byte of no character ends the token before it.
+    Bytes {
+        shape: Shape::Lines(RECOVERING),
+        bytes: b"a\x80\x80\nb\xe2\x82c",
+        written: b"f:1:1 NAME \"a\"\nf:1:2 ! \"\\x80\\x80\"\nf:2:1 NAME \"b\"\nf:2:2 ! \"\\xe2\\x82\"\nf:2:3 NAME \"c\"\n",
+        end: FAULTY,
+    },
+    // A fault that isn't UTF-8 is written byte by byte.
+    Bytes {
+        shape: Shape::Lines(RECOVERING),
+        bytes: b"\xc3\xa9\xff\"",
+        written: b"f:1:1 ! \"\\xc3\\xa9\\xff\\\"\"\n",
+        end: FAULTY,
+    },
+    Bytes {
+        shape: Shape::Lines(RECOVERING_JSON),
+        bytes: b"\n?\xff\xe2\x82",
+        written: b"{\"file\":\"\\\"f\\\"\",\"line\":2,\"column\":1,\"start\":1,\"end\":5,\"rule\":null,\"text\":\"?\xef\xbf\xbd\xef\xbf\xbd\"}\n",
+        end: FAULTY,
+    },
+    Bytes {
+        shape: Shape::Page(Markup::Html),
+        bytes: b"if\xffa",
+        written: b"<span class=\"IF\">if</span><mark>\xef\xbf\xbd</mark><span class=\"NAME\">a</span>",
+        end: FAULTY,
+    },
+    // Without recovering, cutting stops there.
+    Bytes {
+        shape: Shape::Lines(PLAIN),
+        bytes: b"a \xffb",
+        written: b"1:1 NAME \"a\"\n",
+        end: Ended::Stopped {
+            place: Position { line: 1, column: 3 },
+            found: Found::Byte(0xff),
+        },
+    },
+    // A byte order mark is left out; the text ends within a character.
+    Bytes {
+        shape: Shape::Lines(PLAIN),
+        bytes: b"\xef\xbb\xbfa\xc3",
+        written: b"1:1 NAME \"a\"\n",
+        end: Ended::Stopped {
+            place: Position { line: 1, column: 2 },
+            found: Found::Byte(0xc3),
+        },
+    },
+    // A part of a byte order mark is none.
+    Bytes {
+        shape: Shape::Lines(PLAIN),
+        bytes: b"\xef\xbb",
+        written: b"",
+        end: Ended::Stopped {
+            place: Position { line: 1, column: 1 },
+            found: Found::Byte(0xef),
+        },
+    },
+    Bytes {
+        shape: Shape::Lines(RECOVERING),
+        bytes: b"\xef\xbba",
+        written: b"f:1:1 ! \"\\xef\\xbb\"\nf:1:2 NAME \"a\"\n",
+        end: FAULTY,
+    },
+];
 
 #[test]
-fn a_byte_of_no_character_leaves_the_lines_in_front(rt: HostRuntime) {
-    for job in &COMING {
-        let lexer = lexer_by(&rt, rt.alloc(), job.rules);
-        for size in 0..=job.text.len() {
+fn what_is_no_text_lies_in_faults(rt: HostRuntime) {
+    let lexer = lexer_of_rules(&rt, rt.alloc());
+    for job in &BYTES {
+        for at_once in SIZES {
+            let cut = cut(
+                rt.alloc(),
+                &lexer,
+                &job.shape,
+                Fed::ending(job.bytes, at_once),
+            );
             assert!(rt;
-                meets_no_character(&rt, rt.alloc(), &lexer, job, size),
-                "{} {}",
-                job.text,
-                size
+                is_end(&cut.end, job.end) && cut.written.as_slice() == job.written,
+                "{:?} {}",
+                job.bytes,
+                at_once
             );
         }
     }
@@ -359,7 +414,7 @@ fn stops(alloc: Global, lexer: &RuleLexer, job: &Fault, reader: Fed<'_>) -> bool
     };
     let end = Ended::Stopped {
         place,
-        found: job.found,
+        found: Found::Character(job.found),
     };
     is_end(&cut.end, end) && cut.written.as_slice() == job.written && cut.calls == calls
 }

@@ -8,8 +8,8 @@ use std::io;
 use std::io::{Read, Write};
 use std::process::Abort;
 use tokens_lib::{
-    Console, CutEnd, Layout, LineForm, Markup, ModeAction, ModeRule, OpenMode, Reader, Rule,
-    RuleLexer, Sink, Source, System, TextError, write_items, write_page,
+    Console, CutEnd, Found, Layout, LineForm, Markup, ModeAction, ModeRule, OpenMode, Reader, Rule,
+    RuleLexer, Sink, Source, System, write_items, write_page,
 };
 
 /// More bytes than any text here has.
@@ -146,10 +146,7 @@ pub(crate) enum Ended {
     },
     Stopped {
         place: Position,
-        found: char,
-    },
-    NotText {
-        at: usize,
+        found: Found,
     },
     Unread,
 }
@@ -176,8 +173,7 @@ fn ended_so(end: &CutEnd) -> Ended {
             place: *place,
             found: *found,
         },
-        CutEnd::Broken(TextError::NotText { at }) => Ended::NotText { at: *at },
-        CutEnd::Broken(TextError::Read) => Ended::Unread,
+        CutEnd::Unread => Ended::Unread,
     }
 }
 
@@ -308,7 +304,7 @@ pub(crate) const JOBS: [Job; 12] = [
         written: b"1:1 NAME \"a\"\n",
         end: Ended::Stopped {
             place: Position { line: 1, column: 3 },
-            found: '1',
+            found: Found::Character('1'),
         },
     },
     Job {
@@ -329,7 +325,7 @@ pub(crate) const JOBS: [Job; 12] = [
         written: b"",
         end: Ended::Stopped {
             place: Position { line: 1, column: 1 },
-            found: '!',
+            found: Found::Character('!'),
         },
     },
     Job {

@@ -177,14 +177,14 @@ fn files_may_break_off(rt: HostRuntime) {
         (
             &["r", "raw", "g"],
             b"raw:1:1 WORD \"if\"\ng:1:1 WORD \"x\"\n",
-            b"tokens: raw: not UTF-8 from byte 3 on\n",
-            6,
+            b"tokens: raw:1:4: no rule matches \"\\xff\"\n",
+            1,
         ),
         (
             &["--recover", "r", "cut"],
-            b"1:1 WORD \"if\"\n",
-            b"tokens: cut: not UTF-8 from byte 3 on\n",
-            6,
+            b"1:1 WORD \"if\"\n1:4 ! \"\\xe2\\x82\"\n",
+            b"",
+            1,
         ),
         (
             &["torn.rules", "g"],
@@ -216,9 +216,9 @@ fn a_fault_is_told_before_what_is_wrong_behind_it(rt: HostRuntime) {
         ),
         (
             &["r", "--recover", "fault"],
-            b"1:1 WORD \"if\"\n",
-            b"tokens: fault: not UTF-8 from byte 4 on\n",
-            6,
+            b"1:1 WORD \"if\"\n1:4 ! \"!\\xff\"\n",
+            b"",
+            1,
         ),
         (
             &["r", "--recover", "torn.fault"],

@@ -1,6 +1,7 @@
 mod Cases
 -- the parts of a plain line
 pub mod Pushes
+pub mod SliceLaws
 -- members of objects
 pub mod Steps
 pub mod ReviewMembers

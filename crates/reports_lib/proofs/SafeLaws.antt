@@ -17,6 +17,7 @@ use Rattle.bajofeki_rules.proofs.ByteRuns.{EachPlain, quoted_as_is}
 use Rattle.bajofeki_rules.proofs.Quotes.{quoted_is_seen}
 use Rattle.lalrpop_rule_file.specs.RuleFile.{without_return}
 use Rattle.lalrpop_rule_file.proofs.Returns.{return_parts}
+use Rattle.reports_lib.specs.ItemLines.{byte_told, slice_told}
 use Rattle.reports_lib.specs.Safe.{IsSafe, can_steer}
 use Rattle.reports_lib.specs.ShownLine.{sign, signs_of, signs_at, dots, shown, first_shown, pointed_from, pointed, numbered}
 
@@ -153,9 +154,27 @@ told_are_safe (c ∷ cs) scalars = let parts = and_parts _ (all_scalars cs) scal
 in_quotes : {text : List ℕ} → IsSafe text → IsSafe (codes "\"" ++ (text ++ codes "\""))
 in_quotes safe = said (codes "\"") refl (safe_append safe (plain_is_safe (codes "\"") refl))
 
--- a slice of a text
-pub quoted_is_safe : (slice : List ℕ) → IsUtf8 slice → IsSafe (quoted slice)
+quoted_is_safe : (slice : List ℕ) → IsUtf8 slice → IsSafe (quoted slice)
 quoted_is_safe slice utf8 = in_quotes (told_are_safe (chars slice) (scalars-chars slice utf8))
+
+byte_is_safe : (b : ℕ) → IsSafe (byte_told b)
+byte_is_safe b = by (nat_lt b 128) refl
+  where
+    by : (t : Bool) → nat_lt b 128 ≡ t → IsSafe (if t then told b else (codes "\\x" ++ digits 16 false b))
+    by true is = let scalar : IsScalar b = grind (arith, nat_tests) in told_is_safe b scalar
+    by false is = said (codes "\\x") refl (hexadecimal_is_safe b)
+
+bytes_are_safe : (bs : List ℕ) → IsSafe (flat_map byte_told bs)
+bytes_are_safe [] = safe_nil
+bytes_are_safe (b ∷ bs) = safe_append (byte_is_safe b) (bytes_are_safe bs)
+
+-- a slice of a text, whatever its bytes are
+pub slice_is_safe : (slice : List ℕ) → IsSafe (slice_told slice)
+slice_is_safe slice = by (is_utf8 slice) refl
+  where
+    by : (t : Bool) → is_utf8 slice ≡ t → IsSafe (if t then quoted slice else (codes "\"" ++ (flat_map byte_told slice ++ codes "\"")))
+    by true is = quoted_is_safe slice (IsUtf8-from_is_utf8 slice is)
+    by false is = in_quotes (bytes_are_safe slice)
 
 value_is_safe : (n : ℕ) → IsSafe (value_told n)
 value_is_safe n = by (is_character n) refl

@@ -1,5 +1,5 @@
 -- What is said of a file of rules is safe to show, if the names of its rules and modes are.
-use Rattle.std.proofs.Common.{◌≡◌, ℕ, zero, suc, ◌+◌, ◌-◌, arith, IsUtf8, List, [], ◌∷◌, ◌++◌, length, flat_map, refl, sym, subst, codes}
+use Rattle.std.proofs.Common.{◌≡◌, ℕ, zero, suc, ◌+◌, ◌-◌, arith, List, [], ◌∷◌, ◌++◌, length, flat_map, refl, sym, subst, codes}
 use Rattle.std.specs.Prelude.{All, Option, Some, None, Bool, true, false, nat_lt, unwrap_or, slice_get, chars, take}
 use Rattle.std.specs.Bool.{then_some}
 use Rattle.lalrpop_hir.specs.Clashes.{Entry}
@@ -24,7 +24,7 @@ use Rattle.reports_lib.specs.ItemLines.{file_text, plain_line, mode_named, name_
 use Rattle.reports_lib.specs.Reasons.{SaysBadLine, SaysRules, bad_end_text, clash_advice, clash_text, mode_said, place_at, placed, refusal_text, syntax_text, text_at}
 use Rattle.reports_lib.specs.RuleClashes.{clash_lines, mode_text, named_line}
 use Rattle.reports_lib.specs.Safe.{IsSafe}
-use Rattle.reports_lib.proofs.SafeLaws.{decimal_is_safe, numbered_is_safe, plain_is_safe, pointed_is_safe, quoted_is_safe, quoted_word_is_safe, safe_append, safe_nil, said}
+use Rattle.reports_lib.proofs.SafeLaws.{decimal_is_safe, numbered_is_safe, plain_is_safe, pointed_is_safe, quoted_word_is_safe, safe_append, safe_nil, said, slice_is_safe}
 
 -- ---- names
 
@@ -155,11 +155,11 @@ pub file_is_safe : (file : Option (List ℕ)) → IsSafeIfSome file → IsSafe (
 file_is_safe None safe = safe_nil
 file_is_safe (Some file) safe = safe_append safe (plain_is_safe (codes ":") refl)
 
--- the line of a piece of a text
-pub line_is_safe : (file name : Option (List ℕ)) (p : Position) (slice : List ℕ) → IsSafeIfSome file → IsSafeIfSome name → IsUtf8 slice → IsSafe (plain_line file p name slice)
-line_is_safe file name p slice file_safe name_safe utf8 =
+-- the line of a piece of a text, whatever its bytes are
+pub line_is_safe : (file name : Option (List ℕ)) (p : Position) (slice : List ℕ) → IsSafeIfSome file → IsSafeIfSome name → IsSafe (plain_line file p name slice)
+line_is_safe file name p slice file_safe name_safe =
     safe_append (file_is_safe file file_safe) (safe_append (decimal_is_safe p.line) (said (codes ":") refl (safe_append (decimal_is_safe p.column)
-    (said (codes " ") refl (safe_append (by name name_safe) (said (codes " ") refl (safe_append (quoted_is_safe slice utf8) (plain_is_safe (codes "\n") refl))))))))
+    (said (codes " ") refl (safe_append (by name name_safe) (said (codes " ") refl (safe_append (slice_is_safe slice) (plain_is_safe (codes "\n") refl))))))))
   where
     by : (name : Option (List ℕ)) → IsSafeIfSome name → IsSafe (unwrap_or name (codes "!"))
     by None safe = plain_is_safe (codes "!") refl

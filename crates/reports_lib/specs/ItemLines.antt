@@ -1,16 +1,19 @@
 -- cases: proofs/Cases/ItemLines.antt
 -- The lines of the pieces of a text that rules cut.
-use Rattle.std.specs.Prelude.{ℕ, ◌+◌, nat_lt, Bool, true, false, List, [], ◌∷◌, ◌++◌, length, map, Option, Some, None, option_map, unwrap_or, slice_get, codes, decimal, string_bytes}
+use Rattle.std.specs.Prelude.{ℕ, ◌+◌, nat_lt, Bool, true, false, if◌then◌else◌, List, [], ◌∷◌, ◌++◌, length, map, Option, Some, None, option_map, unwrap_or, slice_get, codes, decimal, flat_map, string_bytes}
+use Rattle.std.specs.Fmt.{digits}
+use Rattle.std.specs.Str.{is_utf8}
+use Rattle.std.specs.Str.Lossy.{utf8_lossy}
 use Rattle.std.specs.Bool.{then_some}
 use Rattle.json.specs.Token as json
 use Rattle.json.specs.Print.{print}
-use Rattle.bajofeki_rules.specs.Position.{position_of}
+use Rattle.bajofeki_rules.specs.Position.{byte_place_of}
 use Rattle.bajofeki_rules.specs.declared.position.Position.{Position}
 use Rattle.lalrpop_rules.specs.Modes.{ModeRules, after}
 use Rattle.bajofeki_rules.specs.Stack.{Stack, start as first_stack}
 use Rattle.lalrpop_rules.specs.declared.item.Item.{Item}
 use Rattle.lalrpop_rules.specs.declared.item.Item.TheVariants.{Token, Skipped, Fault}
-use Rattle.bajofeki_rules.specs.Quoted.{quoted}
+use Rattle.bajofeki_rules.specs.Quoted.{quoted, told}
 use Rattle.reports_lib.specs.declared.layout.Layout.{Layout}
 use Rattle.reports_lib.specs.declared.layout.LineForm.{LineForm}
 use Rattle.reports_lib.specs.declared.layout.LineForm.TheVariants.{Plain, Json}
@@ -22,10 +25,18 @@ abbrev pub file_text : Option (List ℕ) → List ℕ
 file_text None = []
 file_text (Some file) = file ++ codes ":"
 
+-- a byte of a slice that isn't UTF-8: the character, if it is ASCII, else the number in hexadecimal
+abbrev pub byte_told : ℕ → List ℕ
+byte_told b = if nat_lt b 128 then told b else (codes "\\x" ++ digits 16 false b)
+
+-- the slice in quotes; byte by byte, if it isn't UTF-8
+abbrev pub slice_told : List ℕ → List ℕ
+slice_told slice = if is_utf8 slice then quoted slice else (codes "\"" ++ (flat_map byte_told slice ++ codes "\""))
+
 -- `LINE:COLUMN NAME "SLICE"`; without a name it is a fault, which has `!` in its place
 abbrev pub plain_line : Option (List ℕ) → Position → Option (List ℕ) → List ℕ → List ℕ
 plain_line file p name slice =
-    file_text file ++ (decimal p.line ++ (codes ":" ++ (decimal p.column ++ (codes " " ++ (unwrap_or name (codes "!") ++ (codes " " ++ (quoted slice ++ codes "\n")))))))
+    file_text file ++ (decimal p.line ++ (codes ":" ++ (decimal p.column ++ (codes " " ++ (unwrap_or name (codes "!") ++ (codes " " ++ (slice_told slice ++ codes "\n")))))))
 
 -- ---- a JSON line
 
@@ -51,13 +62,14 @@ abbrev pub mode_member : Option (List ℕ) → List json.Token
 mode_member None = []
 mode_member (Some mode) = string_member (codes "mode") mode
 
--- the object: where the piece begins, as a line, a column and an offset in bytes, where it ends, its rule, its mode and its slice
+-- the object: where the piece begins, as a line, a column and an offset in bytes, where it ends, its rule, its mode and its slice, with U+FFFD
+-- for what isn't UTF-8
 abbrev pub object_of : Option (List ℕ) → Position → ℕ → Option (List ℕ) → Option (List ℕ) → List ℕ → List json.Token
 object_of file p start name mode slice =
     json.begin_object ∷ (file_member file
     ++ (number_member (codes "line") p.line ++ (number_member (codes "column") p.column
     ++ (number_member (codes "start") start ++ (number_member (codes "end") (start + length slice)
-    ++ (rule_member name ++ (mode_member mode ++ (string_member (codes "text") slice ++ json.end_object ∷ []))))))))
+    ++ (rule_member name ++ (mode_member mode ++ (string_member (codes "text") (utf8_lossy slice) ++ json.end_object ∷ []))))))))
 
 abbrev pub json_line : Option (List ℕ) → Position → ℕ → Option (List ℕ) → Option (List ℕ) → List ℕ → List ℕ
 json_line file p start name mode slice = print (object_of file p start name mode slice) ++ codes "\n"
@@ -71,7 +83,7 @@ line_in Json file p start name mode slice = json_line file p start name mode sli
 
 -- the line of a piece that begins here in the text
 abbrev pub line_at : LineForm → Option (List ℕ) → List ℕ → ℕ → Option (List ℕ) → Option (List ℕ) → List ℕ → List ℕ
-line_at form file text start name mode slice = line_in form file (position_of text start) start name mode slice
+line_at form file text start name mode slice = line_in form file (byte_place_of text start) start name mode slice
 
 -- a fault has a line only if cutting goes on after it
 abbrev pub fault_line : Bool → LineForm → Option (List ℕ) → List ℕ → ℕ → Option (List ℕ) → List ℕ → List ℕ

@@ -1,5 +1,6 @@
 //! The line of a piece as a JSON object.
 ghost use Rattle.std.specs.Prelude.{◌≡◌, ◌+◌, ◌≤◌, ◌∷◌, [], ◌++◌, codes, length, option_map, OnOk};
+ghost use Rattle.std.specs.Str.Lossy.{utf8_lossy};
 ghost use Rattle.json.specs.Token.{key, string};
 ghost use Rattle.reports_lib.specs.ItemLines.{number_member, string_member, file_member, rule_member, mode_member, object_of, json_line};
 
@@ -7,7 +8,7 @@ use crate::shown::Shown;
 use json::Writer;
 use lalrpop_lexer::Position;
 use std::alloc::{AllocError, Global};
-use std::mem;
+use std::{mem, str};
 
 /// Writes a member whose value is a number.
 ///
@@ -96,7 +97,23 @@ fn write_places(
     write_number(writer, "end", end)
 }
 
+// Writes the slice. U+FFFD stands for what isn't UTF-8 in it.
+fn write_slice(alloc: Global, writer: &mut Writer, slice: &[u8]) -> Result<(), AllocError>
+    ensures tokens { OnOk result (writer.new.tokens
+        ≡ writer.old.tokens ++ string_member (codes "text") (utf8_lossy slice.now)) }
+    ensures before { writer.new.before ≡ writer.old.before }
+{
+    match str::from_utf8(slice) {
+        Ok(text) => write_string(writer, "text", text),
+        Err(_) => {
+            let text = String::from_utf8_lossy(alloc, slice)?;
+            write_string(writer, "text", &text)
+        }
+    }
+}
+
 fn write_object(
+    alloc: Global,
     writer: &mut Writer,
     file: Option<&str>,
     position: Position,
@@ -119,11 +136,11 @@ fn write_object(
     )?;
     write_rule(writer, shown.name)?;
     write_mode(writer, shown.mode)?;
-    write_string(writer, "text", shown.slice)?;
+    write_slice(alloc, writer, shown.slice)?;
     writer.end_object()
 }
 
-/// Appends the line of a piece.
+/// Appends the line of a piece. U+FFFD stands for what isn't UTF-8 in it.
 ///
 /// # Errors
 ///
@@ -142,7 +159,7 @@ pub fn push_json(
         shown.now.slice.now) }
 {
     let mut writer = Writer::new(mem::replace(lines, Vec::new(alloc)));
-    write_object(&mut writer, file, position, shown)?;
+    write_object(alloc, &mut writer, file, position, shown)?;
     let mut all = writer.into_inner();
     all.push(b'\n')?;
     *lines = all;

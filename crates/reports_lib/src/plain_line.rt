@@ -1,11 +1,13 @@
 //! The line of a piece in plain text.
-ghost use Rattle.std.specs.Prelude.{◌≡◌, ◌++◌, codes, option_map, unwrap_or, OnOk};
-ghost use Rattle.reports_lib.specs.ItemLines.{file_text, plain_line};
+ghost use Rattle.std.specs.Prelude.{◌≡◌, ◌++◌, codes, flat_map, option_map, string_bytes, unwrap_or, OnOk};
+ghost use Rattle.reports_lib.specs.ItemLines.{byte_told, file_text, plain_line, slice_told};
 
 use crate::numbers::push_numbers;
 use crate::shown::Shown;
-use lalrpop_lexer::{Position, push_quoted};
+use lalrpop_lexer::{Position, push_escaped_char, push_quoted};
 use std::alloc::{AllocError, Global};
+use std::fmt::Write;
+use std::str;
 
 fn push_file(lines: &mut Vec<u8>, file: Option<&str>) -> Result<(), AllocError>
     ensures { OnOk result (lines.new.items
@@ -28,7 +30,40 @@ fn name_or_mark<'name>(name: Option<&'name str>) -> &'name str
     }
 }
 
-/// Appends the line of a piece.
+// Appends a byte of a slice that isn't UTF-8.
+fn push_byte(text: &mut String, byte: u8) -> Result<(), AllocError>
+    ensures { OnOk result (string_bytes text.new ≡ string_bytes text.old ++ byte_told byte) }
+{
+    if byte.is_ascii() {
+        return push_escaped_char(text, char::from(byte));
+    }
+    write!(text, "\\x{byte:x}")
+}
+
+// Appends a slice that isn't UTF-8 in double quotes, byte by byte.
+fn push_bytes(alloc: Global, lines: &mut Vec<u8>, slice: &[u8]) -> Result<(), AllocError>
+    ensures { OnOk result (lines.new.items
+        ≡ lines.old.items ++ (codes "\"" ++ (flat_map byte_told slice.now ++ codes "\""))) }
+{
+    let mut text = String::from_str(alloc, "\"")?;
+    for byte in slice {
+        push_byte(&mut text, *byte)?;
+    }
+    text.push_str("\"")?;
+    lines.extend_from_slice(text.as_bytes())
+}
+
+// Appends the slice in double quotes.
+fn push_slice(alloc: Global, lines: &mut Vec<u8>, slice: &[u8]) -> Result<(), AllocError>
+    ensures { OnOk result (lines.new.items ≡ lines.old.items ++ slice_told slice.now) }
+{
+    match str::from_utf8(slice) {
+        Ok(text) => push_quoted(alloc, lines, text),
+        Err(_) => push_bytes(alloc, lines, slice),
+    }
+}
+
+/// Appends the line of a piece. What isn't UTF-8 in it is written in hexadecimal, such as `\xff`.
 ///
 /// # Errors
 ///
@@ -48,7 +83,7 @@ pub fn push_plain(
     push_numbers(lines, position.line, b':', position.column, b' ')?;
     lines.extend_from_slice(name_or_mark(shown.name).as_bytes())?;
     lines.push(b' ')?;
-    push_quoted(alloc, lines, shown.slice)?;
+    push_slice(alloc, lines, shown.slice)?;
     lines.push(b'\n')?;
     Ok(())
 }

@@ -5,7 +5,7 @@
 /// ```
 /// use reports_lib::{Shown, push_plain};
 ///
-/// let shown = Shown { start: 0, name: Some("IF"), mode: None, slice: "if" };
+/// let shown = Shown { start: 0, name: Some("IF"), mode: None, slice: b"if" };
 /// push_plain(alloc, &mut lines, None, Position { line: 1, column: 1 }, &shown)?; // 1:1 IF "if"
 /// ```
 #[derive(Clone, Copy, Debug)]
@@ -16,6 +16,6 @@ pub struct Shown<'name, 'mode, 'text> {
     pub name: Option<&'name str>,
     /// The mode in which it was read, if the line names it.
     pub mode: Option<&'mode str>,
-    /// The piece of the text.
-    pub slice: &'text str,
+    /// The piece of the text; it may be no UTF-8.
+    pub slice: &'text [u8],
 }

@@ -1,7 +1,7 @@
 //! What an edit changes of the pieces of a text, and a text that comes as bytes, in chunks.
 
 use crate::rules::{expect, given, plain, shown};
-use bajofeki::{Document, TextDecoder};
+use bajofeki::Document;
 use lalrpop_rules::{Action, ModeRule, Rule, RuleLexer};
 use std::alloc::{AllocError, Global};
 
@@ -100,34 +100,5 @@ const BETWEEN: [(usize, usize, &str); 5] = [
 fn pieces_of_a_range_are_given_whole(rt: HostRuntime) {
     for (start, end, wanted) in BETWEEN {
         expect(&rt, between(rt.alloc(), "ab cä>", start, end), wanted);
-    }
-}
-
-// For each chunk the text that it gives, and what is begun.
-fn decoded(alloc: Global, chunks: &[&[u8]]) -> Result<String, AllocError> {
-    let mut decoder = TextDecoder::new(alloc);
-    let mut line = String::new(alloc);
-    for chunk in chunks {
-        let text = decoder.decode(alloc, *chunk)?;
-        let begun = decoder.begun();
-        write!(line, "{text} {begun:?} ")?;
-    }
-    if decoder.is_broken() {
-        line.push_str("broken")?;
-    }
-    Ok(line)
-}
-
-// By tables 3-6 and 3-7 of the Unicode Standard: U+00E4 is C3 A4, U+20AC is E2 82 AC, and FF is in no character.
-#[test]
-fn characters_may_come_in_chunks(rt: HostRuntime) {
-    let rows: [(&[&[u8]], &str); 4] = [
-        (&[b"a\xc3", b"\xa4b"], "a [195] äb [] "),
-        (&[b"\xe2", b"\x82", b"\xac"], " [226]  [226, 130] € [] "),
-        (&[b"ab\xffc", b"d"], "ab []  [] broken"),
-        (&[b"a\xc3", b"b"], "a [195]  [] broken"),
-    ];
-    for (chunks, wanted) in rows {
-        expect(&rt, decoded(rt.alloc(), chunks), wanted);
     }
 }

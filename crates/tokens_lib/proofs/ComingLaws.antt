@@ -1,30 +1,27 @@
 -- A text that comes, from one read to the next.
-use Rattle.std.proofs.Common.{◌≡◌, ℕ, ◌+◌, inl, inr, Bool, true, false, List, [], ◌∷◌, ◌++◌, length, refl, sym, ap, subst, ◌∙◌, arith, append_assoc, length-append}
+use Rattle.std.proofs.Common.{◌≡◌, ℕ, inl, inr, Bool, true, false, List, [], ◌∷◌, ◌++◌, refl, sym, ap, subst, ◌∙◌, append-nil, append_assoc}
 use Rattle.std.specs.Prelude.{Option, Some, None, is_some, map, reverse}
-use Rattle.bajofeki.specs.Chunked.{Chunked}
-use Rattle.bajofeki.specs.Decoded.{Decoding}
+use Rattle.bajofeki.specs.Chunked.{Chunked, BeginsFault, Came}
 use Rattle.bajofeki.proofs.ChunkLaws.{came_pieces, came_rest}
-use Rattle.bajofeki_rules.specs.Position.{position_of}
+use Rattle.bajofeki_rules.specs.Position.{byte_place_of}
 use Rattle.lalrpop_rules.specs.Modes.{ModeRules}
 use Rattle.lalrpop_rule_file.specs.RuleFile.{without_mark}
 use Rattle.lalrpop_rules.specs.Pieces.{joined}
 use Rattle.lalrpop_rules.specs.declared.item.Item.{Item}
 use Rattle.lexdfa_lib.specs.declared.error.RunError.{RunError}
 use Rattle.lexdfa_lib.specs.declared.error.RunError.TheVariants.{OutOfMemory}
-use Rattle.lexdfa_lib.specs.Streams.{Reading, ReadEnd, AtEnd, LeftOff, Reads, Stream}
-use Rattle.tokens_lib.specs.Console.{Console}
-use Rattle.tokens_lib.specs.CutEnds.{BreaksOff, IsCutTo}
+use Rattle.lexdfa_lib.specs.Streams.{Reading, ReadEnd, AtEnd, Failed, LeftOff, Reads, Stream}
+use Rattle.tokens_lib.specs.Console.{Console, Writes}
+use Rattle.tokens_lib.specs.CutEnds.{AreGiven, IsCutTo}
 use Rattle.tokens_lib.specs.OpenModes.{open_behind, open_mode}
-use Rattle.tokens_lib.specs.Internal.CutTexts.{Comes, GivesAll, IsAsBefore, IsComing, IsCutInto, IsGiven, IsGivenInPart, end_by, goes_on, open_place, shown}
+use Rattle.tokens_lib.specs.Internal.CutTexts.{Comes, GivesAll, HasCome, IsAsBefore, IsCutInto, IsGiven, IsGivenInPart, end_by, goes_on, open_place, shown}
 use Rattle.tokens_lib.specs.Written.{WritesCut, WritesCutPart}
-use Rattle.tokens_lib.specs.Internal.Incoming.{IsFed, IsIncoming, ReadsOn}
+use Rattle.tokens_lib.specs.Internal.Incoming.{BeginsMark, EndsBy, IsFed, IsIncoming, ReadsOn}
 use Rattle.tokens_lib.specs.declared.cut_end.CutEnd.{CutEnd}
-use Rattle.tokens_lib.specs.declared.cut_end.CutEnd.TheVariants.{Whole, Stopped, Broken}
-use Rattle.tokens_lib.specs.declared.cut_end.TextError.{TextError}
-use Rattle.tokens_lib.specs.declared.cut_end.TextError.TheVariants.{NotText, Read}
-use Rattle.tokens_lib.specs.declared.cutter.Coming.{Coming}
-use Rattle.tokens_lib.specs.declared.cutter.Coming.TheVariants.{More, Nothing, NoCharacter, Failure}
+use Rattle.tokens_lib.specs.declared.cut_end.CutEnd.TheVariants.{Whole, Stopped, Unread}
 use Rattle.tokens_lib.specs.declared.cutter.Cutter.{Cutter}
+use Rattle.tokens_lib.specs.declared.incoming.Brought.{Brought}
+use Rattle.tokens_lib.specs.declared.incoming.Brought.TheVariants.{More, Nothing, Failure}
 use Rattle.tokens_lib.specs.declared.incoming.Incoming.{Incoming}
 use Rattle.tokens_lib.specs.declared.sheet.Form.{Form}
 use Rattle.tokens_lib.proofs.CutLaws.{IsSameCut, into_fed, into_whole, place_within}
@@ -35,35 +32,40 @@ use Rattle.lexdfa_lib.proofs.StreamLaws.{reads_again}
 -- ---- what has come
 
 -- the text that has come begins more bytes too
-front_stays : (bytes text left more : List ℕ) (i : Incoming) → IsIncoming bytes text left i → (behind : List ℕ) × (without_mark (bytes ++ more) ≡ text ++ behind)
-front_stays bytes text left more i is = by i.has_begun refl
+front_stays : (bytes text more : List ℕ) (i : Incoming) → IsIncoming bytes text i → (left : List ℕ) × (without_mark (bytes ++ more) ≡ text ++ left)
+front_stays bytes text more i is = by i.has_begun refl
   where
-    by : (b : Bool) → i.has_begun ≡ b → (behind : List ℕ) × (without_mark (bytes ++ more) ≡ text ++ behind)
-    by true begun = (left ++ more, is.settled begun more ∙ ap (λ (l : List ℕ). l ++ more) is.split.0 ∙ append_assoc text left more)
-    by false begun = (without_mark (bytes ++ more), ap (λ (l : List ℕ). l ++ without_mark (bytes ++ more)) (sym (is.first begun).0))
+    by : (b : Bool) → i.has_begun ≡ b → (left : List ℕ) × (without_mark (bytes ++ more) ≡ text ++ left)
+    by true begun = (more, is.begun begun more)
+    by false not_yet = (without_mark (bytes ++ more), ap (λ (l : List ℕ). l ++ without_mark (bytes ++ more)) (sym (is.back not_yet).0))
+
+-- where a fault begins, all of the text has come
+all_at_fault : (rules : ModeRules) (bytes text : List ℕ) (xs : List Item) (i : Incoming) (c : Chunked) → IsIncoming bytes text i → Came rules text xs c → BeginsFault c → without_mark bytes ≡ text
+all_at_fault rules bytes text xs i c is came fault = by i.has_begun refl
+  where
+    none_behind : (front rest : List ℕ) → [] ≡ front ++ rest → rest ≡ []
+    none_behind [] rest e = sym e
+    none_behind (x ∷ front) rest e = absurd (cc (e))
+
+    by : (b : Bool) → i.has_begun ≡ b → without_mark bytes ≡ text
+    by true begun = ap without_mark (sym (append-nil bytes)) ∙ is.begun begun [] ∙ append-nil text
+    by false not_yet = absurd (fault.0 (none_behind (joined xs) c.rest (sym (is.back not_yet).0 ∙ (came_rest rules text xs c came).0)))
 
 -- what has come is the same, whatever the chunks are
-incoming_so : (bytes text left : List ℕ) (i j : Incoming) → j.decoder ≡ i.decoder → j.has_begun ≡ i.has_begun → IsIncoming bytes text left i → IsIncoming bytes text left j
-incoming_so bytes text left i j decoder begun is = record {
-  split = is.split;
-  begun = λ whole. (
-    (is.begun (ap (λ (d : Decoding). d.is_broken) (sym decoder) ∙ whole)).0,
-    (is.begun (ap (λ (d : Decoding). d.is_broken) (sym decoder) ∙ whole)).1 ∙ ap (λ (d : Decoding). d.begun) (sym decoder),
-  );
-  broken = λ bad. is.broken (ap (λ (d : Decoding). d.is_broken) (sym decoder) ∙ bad);
-  first = λ none. is.first (sym begun ∙ none);
-  settled = λ some. is.settled (sym begun ∙ some);
+incoming_again : (bytes text : List ℕ) (c d : Cutter) → IsAsBefore c d → IsIncoming bytes text c.incoming → IsIncoming bytes text d.incoming
+incoming_again bytes text c d same is = record {
+  back = λ not_yet.
+      let back = is.back (sym same.begun ∙ not_yet) in
+      (back.0, subst (λ f. (bytes ≡ f.items) × BeginsMark f.items) (sym same.front) back.1);
+  begun = λ begun. is.begun (sym same.begun ∙ begun);
 }
-
-incoming_again : (bytes text left : List ℕ) (c d : Cutter) → IsAsBefore c d → IsIncoming bytes text left c.incoming → IsIncoming bytes text left d.incoming
-incoming_again bytes text left c d same is = incoming_so bytes text left c.incoming d.incoming same.decoder same.begun is
 
 same_some : {T : Type 0} {a b : T} → ◌≡◌ {A = Option T} (Some a) (Some b) → a ≡ b
 same_some e = cc
 
 -- ---- the modes that are open
 
-open_is : (text : List ℕ) (mode : ℕ) (begins : List ℕ) → open_place mode (map (position_of text) begins) ≡ open_mode text mode begins
+open_is : (text : List ℕ) (mode : ℕ) (begins : List ℕ) → open_place mode (map (byte_place_of text) begins) ≡ open_mode text mode begins
 open_is text mode [] = refl
 open_is text mode (at ∷ begins) = refl
 
@@ -73,25 +75,21 @@ open_is text mode (at ∷ begins) = refl
 pub record IsBetween (form : Form) (rules : ModeRules) (s t : Stream) (begun now : Console) (c : Cutter) : Type 0 where
   pub bytes : List ℕ
   pub text : List ℕ
-  pub left : List ℕ
   pub xs : List Item
   pub reads : Reads s t (record { bytes = bytes; end = LeftOff })
-  pub incoming : IsIncoming bytes text left c.incoming
+  pub incoming : IsIncoming bytes text c.incoming
   pub given : IsGiven form rules text xs c [] begun now
-  pub whole : c.incoming.decoder.is_broken ≡ false
   pub goes : c.incoming.chunks.is_ended ≡ false
 
--- more was read, and what may still come is known
-pub record HasRead (form : Form) (rules : ModeRules) (s t : Stream) (begun now : Console) (c : Cutter) (coming : Coming) : Type 0 where
+-- more was read, and what that brought is known
+pub record HasRead (form : Form) (rules : ModeRules) (s t : Stream) (begun now : Console) (c : Cutter) (brought : Brought) : Type 0 where
   pub bytes : List ℕ
   pub end : ReadEnd
   pub text : List ℕ
-  pub left : List ℕ
   pub xs : List Item
   pub reads : Reads s t (record { bytes = bytes; end = end })
-  pub incoming : IsIncoming bytes text left c.incoming
   pub given : IsGiven form rules text xs c [] begun now
-  pub comes : IsComing end text left c coming
+  pub come : HasCome end bytes text c brought
 
 -- what was read, and what was written for it
 abbrev pub WritesAll : Form → ModeRules → Stream → Stream → Console → Console → CutEnd → Type 0
@@ -105,36 +103,33 @@ WritesSome form rules s t begun error now =
 
 module _ (form : Form) (rules : ModeRules) (s t u : Stream) (begun now : Console) (c : Cutter) (is : IsBetween form rules s t begun now c) where
   -- a read
-  pub has_read : (d : Cutter) (coming : Coming) → Comes rules t u c d coming → HasRead form rules s u begun now d coming
-  has_read d coming (more, (end, (reads, brings))) =
-      let brought = brings is.bytes is.text is.left is.xs is.incoming is.given.cut in
-      let chunk = brought.0 in record {
+  pub has_read : (d : Cutter) (brought : Brought) → Comes rules t u c d brought → HasRead form rules s u begun now d brought
+  has_read d brought (more, (end, (reads, brings))) =
+      let come = brings is.bytes is.text is.xs is.incoming is.given.cut in
+      let chunk = come.0 in record {
         bytes = is.bytes ++ more;
         end = end;
         text = is.text ++ chunk;
-        left = brought.1.0;
         xs = is.xs;
         reads = reads_again s t u is.bytes more end is.reads reads;
-        incoming = brought.1.1.0;
         given = record {
-          cut = brought.1.1.1.0;
+          cut = come.1.0;
           no_fault = is.given.no_fault;
           written =
               sent_same (shown form rules is.text is.xs) (shown form rules (is.text ++ chunk) is.xs) [] begun now
               (sym (shown_stays form rules is.text chunk c.incoming.chunks.at is.xs (place_within rules is.text is.xs c.incoming.chunks is.given.cut.came) is.given.cut.begin))
               is.given.written;
         };
-        comes = brought.1.1.1.1;
+        come = come.1.1;
       }
 
   -- a read that is lost, or none
-  pub lost : (more : List ℕ) (error : RunError) → error ≡ OutOfMemory → Reads t u (record { bytes = more; end = LeftOff })
-      → WritesSome form rules s u begun error now
-  lost more error refused reads =
-      let front = front_stays is.bytes is.text is.left more c.incoming is.incoming in (
-        record { bytes = is.bytes ++ more; end = LeftOff },
+  pub lost : (reading : Reading) (error : RunError) → error ≡ OutOfMemory → Reads t u reading → WritesSome form rules s u begun error now
+  lost reading error refused reads =
+      let front = front_stays is.bytes is.text reading.bytes c.incoming is.incoming in (
+        record { bytes = is.bytes ++ reading.bytes; end = reading.end },
         (
-          reads_again s t u is.bytes more LeftOff is.reads reads,
+          reads_again s t u is.bytes reading.bytes reading.end is.reads reads,
           (
             is.text,
             (
@@ -144,7 +139,7 @@ module _ (form : Form) (rules : ModeRules) (s t u : Stream) (begun now : Console
                 (
                   c.incoming.chunks,
                   (
-                    (front.1, is.incoming.split.1.0),
+                    front.1,
                     (
                       record { came = is.given.cut.came; ended = λ over. absurd (cc (is.goes, over)); no_fault = is.given.no_fault },
                       part_so_far (shown form rules is.text is.xs) [] begun now error refused is.given.written,
@@ -158,42 +153,73 @@ module _ (form : Form) (rules : ModeRules) (s t u : Stream) (begun now : Console
       )
 
 -- the text has ended only where reading has
-ends_so : (end : ReadEnd) (text left : List ℕ) (c : Cutter) (coming : Coming) → IsComing end text left c coming → c.incoming.chunks.is_ended ≡ true
-    → (end ≡ AtEnd) × (left ≡ [])
-ends_so end text left c More comes over = absurd (cc (comes.1.1, over))
-ends_so end text left c Nothing comes over = (comes.0, comes.1.0)
-ends_so end text left c (NoCharacter at) comes over = absurd (cc (comes.1, over))
-ends_so end text left c Failure comes over = absurd (cc (comes.1.1, over))
+ends_so : (end : ReadEnd) (bytes text : List ℕ) (c : Cutter) (brought : Brought) → HasCome end bytes text c brought → c.incoming.chunks.is_ended ≡ true → end ≡ AtEnd
+ends_so end bytes text c More come over = absurd (cc (come.1.1, over))
+ends_so end bytes text c Nothing come over = come.0
+ends_so end bytes text c Failure come over = absurd (cc (come.1.1, over))
 
-module _ (form : Form) (rules : ModeRules) (s t : Stream) (begun now : Console) (c : Cutter) (coming : Coming)
-    (is : HasRead form rules s t begun now c coming) where
+-- the text that has come begins what was read
+come_front : (end : ReadEnd) (bytes text : List ℕ) (c : Cutter) (brought : Brought) → HasCome end bytes text c brought → (left : List ℕ) × (without_mark bytes ≡ text ++ left)
+come_front end bytes text c More come =
+    let front = front_stays bytes text [] c.incoming come.1.0 in
+    (front.0, ap without_mark (sym (append-nil bytes)) ∙ front.1)
+come_front end bytes text c Nothing come = ([], come.1.0 ∙ sym (append-nil text))
+come_front end bytes text c Failure come = ([], come.1.0 ∙ sym (append-nil text))
+
+-- and is all of it at a fault
+come_all : (rules : ModeRules) (end : ReadEnd) (bytes text : List ℕ) (xs : List Item) (c : Cutter) (d : Chunked) (brought : Brought) → HasCome end bytes text c brought
+    → Came rules text xs d → BeginsFault d → without_mark bytes ≡ text
+come_all rules end bytes text xs c d More come came fault = all_at_fault rules bytes text xs c.incoming d come.1.0 came fault
+come_all rules end bytes text xs c d Nothing come came fault = come.1.0
+come_all rules end bytes text xs c d Failure come came fault = come.1.0
+
+module _ (form : Form) (rules : ModeRules) (s t : Stream) (begun now : Console) (c : Cutter) (brought : Brought)
+    (is : HasRead form rules s t begun now c brought) where
   abbrev reading : Reading
   reading = record { bytes = is.bytes; end = is.end }
 
   -- an error while pieces are given
   pub in_part : (error : RunError) (later : Console) (ys : List Item) (d : Chunked) → IsGivenInPart form rules is.text ys d begun error later
       → d.is_ended ≡ c.incoming.chunks.is_ended → WritesSome form rules s t begun error later
-  in_part error later ys d part same = (
-    reading,
-    (
-      is.reads,
-      (
-        is.text,
+  in_part error later ys d part same =
+      let front = come_front is.end is.bytes is.text c brought is.come in (
+        reading,
         (
-          is.left,
+          is.reads,
           (
-            ys,
+            is.text,
             (
-              d,
+              front.0,
               (
-                (is.incoming.split.0, is.incoming.split.1.0),
+                ys,
                 (
-                  record { came = part.came; ended = λ over. ends_so is.end is.text is.left c coming is.comes (sym same ∙ over); no_fault = part.no_fault },
-                  part.part,
+                  d,
+                  (
+                    front.1,
+                    (
+                      record { came = part.came; ended = λ over. ends_so is.end is.bytes is.text c brought is.come (sym same ∙ over); no_fault = part.no_fault },
+                      part.part,
+                    ),
+                  ),
                 ),
               ),
             ),
           ),
+        ),
+      )
+
+  -- pieces were cut of all the text
+  writes_so : (later : Console) (ys : List Item) (ended : CutEnd) → without_mark is.bytes ≡ is.text → IsCutTo rules (goes_on form) reading is.text ys ended
+      → Writes begun (shown form rules is.text ys) later → WritesAll form rules s t begun later ended
+  writes_so later ys ended all cut written = (
+    reading,
+    (
+      is.reads,
+      (
+        ys,
+        (
+          subst (λ (l : List ℕ). IsCutTo rules (goes_on form) reading l ys ended) (sym all) cut,
+          subst (λ (l : List ℕ). Writes begun (shown form rules l ys) later) (sym all) written,
         ),
       ),
     ),
@@ -203,107 +229,75 @@ module _ (form : Form) (rules : ModeRules) (s t : Stream) (begun now : Console) 
   pub at_a_fault : (later : Console) (d : Cutter) (ended : CutEnd) → GivesAll form rules is.text c d [] begun later (Some ended)
       → WritesAll form rules s t begun later ended
   at_a_fault later d ended (ys, (e, (stops, (sent, same)))) =
-      let cut : IsCutTo rules (goes_on form) reading is.text is.left ys (Stopped (position_of is.text e.at) stops.found) = (
+      let cut : IsCutTo rules (goes_on form) reading is.text ys (Stopped (byte_place_of is.text e.at) stops.found) = (
         stops.ends,
         (
           e,
           (
             record {
               came = stops.came;
-              ended = λ over. ends_so is.end is.text is.left c coming is.comes (sym same ∙ over);
+              ended = λ over. ends_so is.end is.bytes is.text c brought is.come (sym same ∙ over);
               no_fault = λ _. stops.no_fault;
             },
-            (stops.fault, (refl, stops.character)),
+            (stops.fault, (refl, stops.shows)),
           ),
         ),
-      ) in (
-        reading,
-        (
-          is.reads,
-          (
-            is.text,
-            (
-              is.left,
-              (
-                ys,
-                (
-                  is.incoming.split,
-                  (
-                    subst (IsCutTo rules (goes_on form) reading is.text is.left ys) (sym stops.ended_is) cut,
-                    all_sent (shown form rules is.text ys) begun later sent,
-                  ),
-                ),
-              ),
-            ),
-          ),
-        ),
-      )
+      ) in
+      writes_so later ys ended (come_all rules is.end is.bytes is.text ys c e brought is.come stops.came stops.fault)
+      (subst (IsCutTo rules (goes_on form) reading is.text ys) (sym stops.ended_is) cut) (all_sent (shown form rules is.text ys) begun later sent)
 
   -- all pieces were given that can be
   module _ (later : Console) (d : Cutter) (gives : GivesAll form rules is.text c d [] begun later None) where
     -- and more may come
-    pub goes_further : (result : Option CutEnd) → result ≡ end_by d coming → result ≡ None → IsBetween form rules s t begun later d
-    goes_further result told none_told = by coming is.comes (sym told ∙ none_told)
+    pub goes_further : (result : Option CutEnd) → result ≡ end_by d brought → result ≡ None → IsBetween form rules s t begun later d
+    goes_further result told none_told = by brought is.come (sym told ∙ none_told)
       where
-        by : (k : Coming) → IsComing is.end is.text is.left c k → end_by d k ≡ None → IsBetween form rules s t begun later d
-        by More comes none =
+        by : (k : Brought) → HasCome is.end is.bytes is.text c k → end_by d k ≡ None → IsBetween form rules s t begun later d
+        by More come none =
             let before = gives.1.1.1 in record {
               bytes = is.bytes;
               text = is.text;
-              left = is.left;
               xs = gives.0;
-              reads = subst (λ (e : ReadEnd). Reads s t (record { bytes = is.bytes; end = e })) comes.0 is.reads;
-              incoming = incoming_again is.bytes is.text is.left c d before is.incoming;
+              reads = subst (λ (e : ReadEnd). Reads s t (record { bytes = is.bytes; end = e })) come.0 is.reads;
+              incoming = incoming_again is.bytes is.text c d before come.1.0;
               given = gives.1.0;
-              whole = ap (λ (e : Decoding). e.is_broken) before.decoder ∙ comes.1.0;
-              goes = before.ended ∙ comes.1.1;
+              goes = before.ended ∙ come.1.1;
             }
-        by Nothing comes none = absurd (cc (none))
-        by (NoCharacter at) comes none = absurd (cc (none))
-        by Failure comes none = absurd (cc (none))
+        by Nothing come none = absurd (cc (none))
+        by Failure come none = absurd (cc (none))
 
-    writes_so : (ended : CutEnd) → IsCutTo rules (goes_on form) reading is.text is.left gives.0 ended → WritesAll form rules s t begun later ended
-    writes_so ended cut = (
-      reading,
-      (is.reads, (is.text, (is.left, (gives.0, (is.incoming.split, (cut, all_sent (shown form rules is.text gives.0) begun later gives.1.0.written)))))),
-    )
+    written : Writes begun (shown form rules is.text gives.0) later
+    written = all_sent (shown form rules is.text gives.0) begun later gives.1.0.written
 
-    -- the text breaks off
-    breaks_so : (error : TextError) → BreaksOff is.end is.text is.left error → c.incoming.chunks.is_ended ≡ false
-        → WritesAll form rules s t begun later (Broken error)
-    breaks_so error breaks going =
+    -- it ends
+    at_its_end : is.end ≡ AtEnd → without_mark is.bytes ≡ is.text → c.incoming.chunks.is_ended ≡ true
+        → WritesAll form rules s t begun later (Whole d.has_fault (open_place d.incoming.chunks.stack.mode (reverse d.places.items)))
+    at_its_end end all ends =
+        let cut = gives.1.0.cut in
+        let mode = d.incoming.chunks.stack.mode in
+        let over : d.incoming.chunks.is_ended ≡ true = gives.1.1.1.ended ∙ ends in
+        let pieces = came_pieces rules is.text gives.0 d.incoming.chunks cut.came over (gives.1.1.0.held.0 over) in
+        let inside : open_place mode (reverse d.places.items) ≡ open_mode is.text mode (open_behind rules.actions gives.0 []) =
+        ap (open_place mode) cut.places ∙ open_is is.text mode (open_behind rules.actions gives.0 []) in
+        writes_so later gives.0 (Whole d.has_fault (open_place mode (reverse d.places.items))) all
+        (end, (d.incoming.chunks.stack, (pieces, (cut.fault, ((λ stops. cut.fault ∙ ap is_some (gives.1.0.no_fault stops)), inside))))) written
+
+    -- a read failed
+    at_a_failure : is.end ≡ Failed → without_mark is.bytes ≡ is.text → c.incoming.chunks.is_ended ≡ false → WritesAll form rules s t begun later Unread
+    at_a_failure end all going =
         let goes : d.incoming.chunks.is_ended ≡ false = gives.1.1.1.ended ∙ going in
-        writes_so (Broken error) (
-          breaks,
-          (
-            d.incoming.chunks,
-            (
-              record { came = gives.1.0.cut.came; ended = λ over. absurd (cc (goes, over)); no_fault = gives.1.0.no_fault },
-              (goes, (gives.1.1.0.held, gives.1.1.0.may)),
-            ),
-          ),
-        )
+        let given : AreGiven rules (goes_on form) reading is.text gives.0 d.incoming.chunks =
+        record { came = gives.1.0.cut.came; ended = λ over. absurd (cc (goes, over)); no_fault = gives.1.0.no_fault } in
+        writes_so later gives.0 Unread all (end, (d.incoming.chunks, (given, (goes, (gives.1.1.0.held, gives.1.1.0.may))))) written
 
-    -- or no more does
-    pub ends_at_last : (result : Option CutEnd) (ended : CutEnd) → result ≡ end_by d coming → result ≡ Some ended → WritesAll form rules s t begun later ended
-    ends_at_last result ended told some_told = by coming is.comes ended (sym told ∙ some_told)
+    -- or no more comes
+    pub ends_at_last : (result : Option CutEnd) (ended : CutEnd) → result ≡ end_by d brought → result ≡ Some ended → WritesAll form rules s t begun later ended
+    ends_at_last result ended told some_told = by brought is.come (sym told ∙ some_told)
       where
-        by : (k : Coming) → IsComing is.end is.text is.left c k → (ended : CutEnd) → end_by d k ≡ Some ended → WritesAll form rules s t begun later ended
-        by More comes ended e = absurd (cc (e))
-        by Nothing comes ended e =
-            let cut = gives.1.0.cut in
-            let over : d.incoming.chunks.is_ended ≡ true = gives.1.1.1.ended ∙ comes.1.1 in
-            let pieces = came_pieces rules is.text gives.0 d.incoming.chunks cut.came over (gives.1.1.0.held.0 over) in
-            let inside : open_place d.incoming.chunks.stack.mode (reverse d.places.items) ≡ open_mode is.text d.incoming.chunks.stack.mode (open_behind rules.actions gives.0 []) =
-            ap (open_place d.incoming.chunks.stack.mode) cut.places ∙ open_is is.text d.incoming.chunks.stack.mode (open_behind rules.actions gives.0 []) in
-            let whole : IsCutTo rules (goes_on form) reading is.text is.left gives.0
-            (Whole d.has_fault (open_place d.incoming.chunks.stack.mode (reverse d.places.items))) =
-            (comes.0, (comes.1.0, (d.incoming.chunks.stack, (pieces, (cut.fault, ((λ ends. cut.fault ∙ ap is_some (gives.1.0.no_fault ends)), inside)))))) in
-            subst (WritesAll form rules s t begun later) (same_some e) (writes_so (Whole d.has_fault (open_place d.incoming.chunks.stack.mode (reverse d.places.items))) whole)
-        by (NoCharacter at) comes ended e = subst (WritesAll form rules s t begun later) (same_some e) (breaks_so (NotText at) comes.0 comes.1)
-        by Failure comes ended e =
-            subst (WritesAll form rules s t begun later) (same_some e)
-            (breaks_so Read (subst (λ (k : ReadEnd). BreaksOff k is.text is.left Read) (sym comes.0) comes.1.0) comes.1.1)
+        by : (k : Brought) → HasCome is.end is.bytes is.text c k → end_by d k ≡ Some ended → WritesAll form rules s t begun later ended
+        by More come e = absurd (cc (e))
+        by Nothing come e = subst (WritesAll form rules s t begun later) (same_some e) (at_its_end come.0 come.1.0 come.1.1)
+        by Failure come e = subst (WritesAll form rules s t begun later) (same_some e) (at_a_failure come.0 come.1.0 come.1.1)
 
 -- ---- what a read brought
 
@@ -315,57 +309,101 @@ fed_goes : (c d : Chunked) (chunk : List ℕ) → IsFed c chunk d → c.is_ended
 fed_goes c d chunk (inl more) goes = ap (λ (e : Chunked). e.is_ended) more ∙ goes
 fed_goes c d chunk (inr (none, same)) goes = ap (λ (e : Chunked). e.is_ended) same ∙ goes
 
--- how many bytes of the text have come
-pub size_is : (rules : ModeRules) (text : List ℕ) (xs : List Item) (c : Cutter) (n : ℕ) → IsCutInto rules text xs c → n ≡ c.at + length c.incoming.chunks.rest → n ≡ length text
-size_is rules text xs c n is e =
-    let so_far = came_rest rules text xs c.incoming.chunks is.came in
-    omega (arith, e, is.at, so_far.1, ap length so_far.0, length-append (joined xs) c.incoming.chunks.rest)
+same_cut : (c d : Cutter) (i : Incoming) → d ≡ with_incoming c i → IsSameCut c d
+same_cut c d i same = record {
+  lexer = ap (λ (e : Cutter). e.lexer) same;
+  at = ap (λ (e : Cutter). e.at) same;
+  here = ap (λ (e : Cutter). e.here) same;
+  fault = ap (λ (e : Cutter). e.has_fault) same;
+  places = ap (λ (e : Cutter). e.places) same;
+}
 
-module _ (c : Cutter) (mid : Incoming) (s t : Stream) (end : ReadEnd) (goes : c.incoming.chunks.is_ended ≡ false) (brought : ReadsOn s t end c.incoming mid) where
-  same_cut : IsSameCut c (with_incoming c mid)
-  same_cut = record { lexer = refl; at = refl; here = refl; fault = refl; places = refl }
+module _ (c : Cutter) (mid : Incoming) (s t : Stream) (end : ReadEnd) (goes : c.incoming.chunks.is_ended ≡ false) (read : ReadsOn s t end c.incoming mid) where
+  still_goes : mid.chunks.is_ended ≡ false
+  still_goes = fed_goes c.incoming.chunks mid.chunks read.1.1.0 read.1.1.1.0 goes
 
-  pub still_goes : mid.chunks.is_ended ≡ false
-  still_goes = fed_goes c.incoming.chunks mid.chunks brought.1.1.0 brought.1.1.1.0 goes
+  module _ (bytes text : List ℕ) (xs : List Item) (incoming : IsIncoming bytes text c.incoming) (cut : IsCutInto c.lexer.now text xs c) where
+    abbrev now_text : List ℕ
+    now_text = text ++ read.1.1.0
 
-  pub comes_so : (coming : Coming)
-      → ((bytes text left : List ℕ) (xs : List Item) → IsIncoming bytes text left mid → IsCutInto c.lexer.now text xs (with_incoming c mid)
-      → IsComing end text left (with_incoming c mid) coming)
-      → Comes c.lexer.now s t c (with_incoming c mid) coming
-  comes_so coming by = (
-    brought.0,
+    now_incoming : IsIncoming (bytes ++ read.0) now_text mid
+    now_incoming = read.1.1.1.1 bytes text incoming
+
+    now_cut : IsCutInto c.lexer.now now_text xs (with_incoming c mid)
+    now_cut = into_fed c.lexer.now text read.1.1.0 xs c (with_incoming c mid) cut (same_cut c (with_incoming c mid) mid refl) goes read.1.1.1.0
+
+  -- more may come
+  pub comes_more : end ≡ LeftOff → Comes c.lexer.now s t c (with_incoming c mid) More
+  comes_more left = (
+    read.0,
     (
       end,
       (
-        brought.1.0,
-        λ bytes text left xs incoming cut.
-            let behind = brought.1.1.1.1 bytes text left incoming in
-            let later = into_fed c.lexer.now text brought.1.1.0 xs c (with_incoming c mid) cut same_cut goes brought.1.1.1.0 in
-            (brought.1.1.0, (behind.0, (behind.1, (later, by _ _ _ xs behind.1 later)))),
+        read.1.0,
+        λ bytes text xs incoming cut. (read.1.1.0, (now_cut bytes text xs incoming cut, (left, (now_incoming bytes text xs incoming cut, still_goes)))),
       ),
     ),
   )
 
-  -- nothing more comes
-  pub comes_whole : (d : Incoming) → end ≡ AtEnd → mid.decoder.is_broken ≡ false → mid.decoder.begun ≡ []
-      → d.chunks ≡ record mid.chunks { is_ended = true } → d.decoder ≡ mid.decoder → d.has_begun ≡ mid.has_begun
-      → Comes c.lexer.now s t c (with_incoming c d) Nothing
-  comes_whole d ends whole none over decoder begun = (
-    brought.0,
-    (
-      end,
+  -- what was held back comes last
+  module _ (last : Incoming) (ends : EndsBy mid last) where
+    last_goes : last.chunks.is_ended ≡ false
+    last_goes = fed_goes mid.chunks last.chunks ends.0 ends.1.0 still_goes
+
+    module _ (bytes text : List ℕ) (xs : List Item) (incoming : IsIncoming bytes text c.incoming) (cut : IsCutInto c.lexer.now text xs c) where
+      abbrev later : List ℕ
+      later = (text ++ read.1.1.0) ++ ends.0
+
+      abbrev whole : List ℕ
+      whole = text ++ (read.1.1.0 ++ ends.0)
+
+      joins : later ≡ whole
+      joins = append_assoc text read.1.1.0 ends.0
+
+      all_come : without_mark (bytes ++ read.0) ≡ whole
+      all_come = ends.1.1 (bytes ++ read.0) (text ++ read.1.1.0) (now_incoming bytes text xs incoming cut) ∙ joins
+
+      last_cut : IsCutInto c.lexer.now whole xs (with_incoming c last)
+      last_cut =
+          subst (λ (l : List ℕ). IsCutInto c.lexer.now l xs (with_incoming c last)) joins
+          (into_fed c.lexer.now (text ++ read.1.1.0) ends.0 xs (with_incoming c mid) (with_incoming c last) (now_cut bytes text xs incoming cut)
+          (same_cut (with_incoming c mid) (with_incoming c last) last refl) still_goes ends.1.0)
+
+    -- a read failed
+    pub comes_to_failure : end ≡ Failed → Comes c.lexer.now s t c (with_incoming c last) Failure
+    comes_to_failure failed = (
+      read.0,
       (
-        brought.1.0,
-        λ bytes text left xs incoming cut.
-            let behind = brought.1.1.1.1 bytes text left incoming in
-            let later = into_fed c.lexer.now text brought.1.1.0 xs c (with_incoming c mid) cut same_cut goes brought.1.1.1.0 in
-            let all = into_whole c.lexer.now (text ++ brought.1.1.0) xs (with_incoming c mid) (with_incoming c d) later
-            (record { lexer = refl; at = refl; here = refl; fault = refl; places = refl }) over in
-            let ended : d.chunks.is_ended ≡ true = ap (λ (e : Chunked). e.is_ended) over in
-            (brought.1.1.0, (behind.0, (incoming_so _ _ behind.0 mid d decoder begun behind.1, (all, (ends, ((behind.1.begun whole).1 ∙ none, ended)))))),
+        end,
+        (
+          read.1.0,
+          λ bytes text xs incoming cut. (
+            read.1.1.0 ++ ends.0,
+            (last_cut bytes text xs incoming cut, (failed, (all_come bytes text xs incoming cut, last_goes))),
+          ),
+        ),
       ),
-    ),
-  )
+    )
+
+    -- nothing more comes
+    pub comes_whole : (done : Incoming) → end ≡ AtEnd → done.chunks ≡ record last.chunks { is_ended = true } → Comes c.lexer.now s t c (with_incoming c done) Nothing
+    comes_whole done at_end over = (
+      read.0,
+      (
+        end,
+        (
+          read.1.0,
+          λ bytes text xs incoming cut. (
+            read.1.1.0 ++ ends.0,
+            (
+              into_whole c.lexer.now (text ++ (read.1.1.0 ++ ends.0)) xs (with_incoming c last) (with_incoming c done) (last_cut bytes text xs incoming cut)
+                  (same_cut (with_incoming c last) (with_incoming c done) done refl) over,
+              (at_end, (all_come bytes text xs incoming cut, ap (λ (e : Chunked). e.is_ended) over)),
+            ),
+          ),
+        ),
+      ),
+    )
 
 -- ---- the same of the same form and rules
 

@@ -2,24 +2,18 @@
 use Rattle.std.proofs.Common.{◌≡◌, ℕ, ◌+◌, ◌≤◌, Bool, true, false, inl, inr, List, [], ◌∷◌, ◌++◌, length, take, refl, sym, ap, subst, ◌∙◌, arith, append_assoc, length-append}
 use Rattle.std.proofs.Math.Seq.{take-append_seam}
 use Rattle.std.proofs.lemmas.List.{append-nil, take-append-le}
-use Rattle.std.proofs.lemmas.Str.{IsUtf8-append, IsUtf8-nil, chars-append}
 use Rattle.std.specs.Prelude.{◌||◌, Option, Some, None, is_none, is_some, map, reverse}
 use Rattle.std.specs.Borrow.{Bor}
-use Rattle.std.specs.Str.{chars, IsUtf8}
-use Rattle.bajofeki_rules.specs.Position.{place_after, position_of, place_behind}
+use Rattle.bajofeki_rules.specs.Position.{byte_place, byte_place_of, moved}
 use Rattle.bajofeki_rules.specs.declared.position.Position.{Position}
-use Rattle.bajofeki.specs.Chunked.{Chunked, GivesFinal, IsFinal, nothing_come, Came, nothing, fed, given, ended}
-use Rattle.bajofeki.specs.Decoded.{Decoding}
+use Rattle.bajofeki.specs.Chunked.{Chunked, GivesFinal, nothing_come, Came, nothing, fed, given, ended}
 use Rattle.bajofeki.specs.Given.{item_by, item_of}
-use Rattle.bajofeki.specs.Lexed.{placed}
 use Rattle.bajofeki.specs.declared.given_piece.GivenPiece.{GivenPiece}
-use Rattle.bajofeki.proofs.Chunking.{slice_placed}
 use Rattle.bajofeki.proofs.ChunkLaws.{came_nothing, came_more, came_given, came_whole, came_rest}
-use Rattle.lalrpop_rules.specs.Modes.{ModeRules, after, after_all, trees_in, AllOf}
+use Rattle.lalrpop_rules.specs.Modes.{ModeRules, after, after_all, AllOf}
 use Rattle.bajofeki_rules.specs.Stack.{Stack, start, actions_of}
 use Rattle.bajofeki_rules.specs.declared.action.Action.{Action}
 use Rattle.bajofeki_rules.specs.declared.action.Action.TheVariants.{Mode, Push, Pop}
-use Rattle.lalrpop_rules.proofs.PieceLaws.{is_front}
 use Rattle.lalrpop_rules.specs.Pieces.{joined, slice_of, start_of}
 use Rattle.lalrpop_rules.specs.declared.item.Item.{Item}
 use Rattle.lalrpop_rules.specs.declared.item.Item.TheVariants.{Token, Skipped, Fault}
@@ -29,7 +23,7 @@ use Rattle.tokens_lib.specs.Internal.CutTexts.{BeginWithin, GivesCut, IsCutInto,
 use Rattle.tokens_lib.specs.Internal.Incoming.{IsFed}
 use Rattle.tokens_lib.specs.declared.cutter.Cutter.{Cutter}
 use Rattle.tokens_lib.specs.declared.incoming.Incoming.{Incoming}
-use Rattle.bajofeki_rules.proofs.PlaceLaws.{place_behind_slice}
+use Rattle.bajofeki_rules.proofs.BytePlaces.{bytes_more}
 
 -- ---- lists of pieces
 
@@ -102,15 +96,15 @@ map_after f actions (Skipped token) begins = map_pushed_all f token.start (actio
 map_after f actions (Fault begin slice) begins = refl
 
 -- a place stays where it is when more comes
-pub place_stays : (text more : List ℕ) (n : ℕ) → n ≤ length text → position_of (text ++ more) n ≡ position_of text n
-place_stays text more n within = ap (λ (t : List ℕ). place_behind (chars t)) (take-append-le n text more within)
+pub place_stays : (text more : List ℕ) (n : ℕ) → n ≤ length text → byte_place_of (text ++ more) n ≡ byte_place_of text n
+place_stays text more n within = ap byte_place (take-append-le n text more within)
 
 places_stay : (text more : List ℕ) (n : ℕ) (begins : List ℕ) → n ≤ length text → AllOf (λ k. k ≤ n) begins
-    → map (position_of (text ++ more)) begins ≡ map (position_of text) begins
+    → map (byte_place_of (text ++ more)) begins ≡ map (byte_place_of text) begins
 places_stay text more n [] within all = refl
 places_stay text more n (k ∷ begins) within all =
-    ap (λ (p : Position). p ∷ map (position_of (text ++ more)) begins) (place_stays text more k (omega (arith, within, all.0)))
-    ∙ ap (λ (ps : List Position). position_of text k ∷ ps) (places_stay text more n begins within all.1)
+    ap (λ (p : Position). p ∷ map (byte_place_of (text ++ more)) begins) (place_stays text more k (omega (arith, within, all.0)))
+    ∙ ap (λ (ps : List Position). byte_place_of text k ∷ ps) (places_stay text more n begins within all.1)
 
 -- ---- the stack
 
@@ -137,16 +131,14 @@ place_within r text xs c came =
 
 pub into_none : (rules : ModeRules) (c : Cutter) → c.lexer.now ≡ rules → c.incoming.chunks ≡ nothing_come rules → c.at ≡ 0 → c.has_fault ≡ false → c.places.items ≡ []
     → c.here ≡ record { line = 1; column = 1 } → IsCutInto rules [] [] c
-unfolding chars
 into_none rules c lexer none at fault places here =
     let zero_at : c.incoming.chunks.at ≡ 0 = ap (λ (d : Chunked). d.at) none in
     record {
       came = came_nothing rules c.incoming.chunks none;
       lexer = lexer;
       at = at ∙ sym zero_at;
-      utf8 = IsUtf8-nil;
       begin = tt;
-      here = here ∙ ap (position_of []) (sym zero_at);
+      here = here ∙ ap (byte_place_of []) (sym zero_at);
       fault = fault;
       places = ap reverse places;
       opened = tt;
@@ -160,8 +152,8 @@ module _ (rules : ModeRules) (text : List ℕ) (xs : List Item) (c d : Cutter) (
   starts_here = gives.gives.1
 
   -- where it begins, and in which mode it was read
-  pub place_here : place ≡ position_of text (start_of x)
-  place_here = gives.place_is ∙ is.here ∙ ap (position_of text) (sym starts_here)
+  pub place_here : place ≡ byte_place_of text (start_of x)
+  place_here = gives.place_is ∙ is.here ∙ ap (byte_place_of text) (sym starts_here)
 
   pub mode_here : mode ≡ (after_all rules.actions xs start).mode
   mode_here = gives.mode_is ∙ ap (λ (s : Stack). s.mode) (came_stack rules text xs c.incoming.chunks is.came)
@@ -172,19 +164,19 @@ module _ (rules : ModeRules) (text : List ℕ) (xs : List Item) (c d : Cutter) (
   at_behind : d.incoming.chunks.at ≡ c.incoming.chunks.at + length (slice_of x)
   at_behind = ap (λ (e : Chunked). e.at) gives.gives.2
 
-  here_behind : IsUtf8 (joined xs) → d.here ≡ position_of text d.incoming.chunks.at
-  here_behind u =
-      gives.here ∙ ap (λ (p : Position). place_after p (slice_of x)) (is.here ∙ ap (λ (t : List ℕ). place_behind (chars t)) (given_front rules text xs c.incoming.chunks is.came))
-      ∙ sym (place_behind_slice (joined xs) (slice_of x) u)
-      ∙ ap (λ (t : List ℕ). place_behind (chars t)) (sym (joined_more xs x) ∙ sym (given_front rules text (xs ++ x ∷ []) d.incoming.chunks came_on))
+  here_behind : d.here ≡ byte_place_of text d.incoming.chunks.at
+  here_behind =
+      gives.here ∙ ap (λ (p : Position). moved p (byte_place (slice_of x))) (is.here ∙ ap byte_place (given_front rules text xs c.incoming.chunks is.came))
+      ∙ sym (bytes_more (joined xs) (slice_of x))
+      ∙ ap byte_place (sym (joined_more xs x) ∙ sym (given_front rules text (xs ++ x ∷ []) d.incoming.chunks came_on))
 
-  places_behind : reverse d.places.items ≡ map (position_of text) (open_behind rules.actions (xs ++ x ∷ []) [])
+  places_behind : reverse d.places.items ≡ map (byte_place_of text) (open_behind rules.actions (xs ++ x ∷ []) [])
   places_behind =
       gives.places ∙ ap (λ (r : ModeRules). opened_after r.actions place x (reverse c.places.items)) is.lexer
       ∙ ap (λ (p : Position). opened_after rules.actions p x (reverse c.places.items)) place_here
-      ∙ ap (opened_after rules.actions (position_of text (start_of x)) x) is.places
-      ∙ map_after (position_of text) rules.actions x (open_behind rules.actions xs [])
-      ∙ ap (map (position_of text)) (sym (open_more rules xs x []))
+      ∙ ap (opened_after rules.actions (byte_place_of text (start_of x)) x) is.places
+      ∙ map_after (byte_place_of text) rules.actions x (open_behind rules.actions xs [])
+      ∙ ap (map (byte_place_of text)) (sym (open_more rules xs x []))
 
   pub into_more : IsCutInto rules text (xs ++ x ∷ []) d
   into_more =
@@ -195,9 +187,8 @@ module _ (rules : ModeRules) (text : List ℕ) (xs : List Item) (c d : Cutter) (
         came = came_on;
         lexer = ap (λ l. l.now) gives.lexer ∙ is.lexer;
         at = gives.at ∙ ap (λ (n : ℕ). n + length (slice_of x)) is.at ∙ sym at_behind;
-        utf8 = subst IsUtf8 (sym (joined_more xs x)) (IsUtf8-append (joined xs) (slice_of x) is.utf8 gives.utf8);
         begin = begin_more d.incoming.chunks.at xs x (begin_later c.incoming.chunks.at d.incoming.chunks.at xs later is.begin) here;
-        here = here_behind is.utf8;
+        here = here_behind;
         fault = gives.fault ∙ ap (λ (b : Bool). b || is_fault x) is.fault ∙ sym (fault_more xs x);
         places = places_behind;
         opened =
@@ -224,44 +215,25 @@ after_by actions place (Some i) true at slice places = refl
 after_by actions place (Some i) false at slice places = refl
 
 -- a piece was given to the chunks, and noted
-pub gives_cut : (c d : Cutter) (chunks : Chunked) (decoder : Decoding) (begun : Bool) (piece : GivenPiece) (slice : Bor (List ℕ)) (mode : ℕ)
+pub gives_cut : (c d : Cutter) (chunks : Chunked) (piece : GivenPiece) (slice : Bor (List ℕ)) (mode : ℕ)
     → GivesFinal c.incoming.chunks (Some (item_of piece slice)) chunks → slice.now ≡ chunks.last → mode ≡ c.incoming.chunks.stack.mode
-    → IsUtf8 chunks.last → d.incoming ≡ record { chunks = chunks; decoder = decoder; has_begun = begun } → decoder ≡ c.incoming.decoder → begun ≡ c.incoming.has_begun → d.lexer ≡ c.lexer
-    → d.here ≡ place_after c.here chunks.last → d.at ≡ c.at + length chunks.last → d.has_fault ≡ (c.has_fault || is_none piece.rule)
+    → d.incoming ≡ record c.incoming { chunks = chunks } → d.lexer ≡ c.lexer → d.here ≡ moved c.here (byte_place chunks.last) → d.at ≡ c.at + length chunks.last → d.has_fault ≡ (c.has_fault || is_none piece.rule)
     → reverse d.places.items ≡ opened_by c.lexer.now.actions c.here piece.rule (reverse c.places.items)
     → GivesCut c (item_of piece slice) c.here mode d
-gives_cut c d chunks decoder begun piece slice mode gives same in_mode u incoming decoded so_far lexer here at fault places =
+gives_cut c d chunks piece slice mode gives same in_mode incoming lexer here at fault places =
     let bytes : chunks.last ≡ slice_of (item_of piece slice) = sym same ∙ sym (slice_by piece.rule piece.is_skipped piece.start slice) in
     record {
       gives = subst (GivesFinal c.incoming.chunks (Some (item_of piece slice))) (sym (ap (λ (i : Incoming). i.chunks) incoming)) gives;
-      utf8 = subst IsUtf8 bytes u;
-      decoder = ap (λ (i : Incoming). i.decoder) incoming ∙ decoded;
-      begun = ap (λ (i : Incoming). i.has_begun) incoming ∙ so_far;
+      front = ap (λ (i : Incoming). i.front) incoming;
+      begun = ap (λ (i : Incoming). i.has_begun) incoming;
       lexer = lexer;
       at = at ∙ ap (λ (t : List ℕ). c.at + length t) bytes;
       place_is = refl;
       mode_is = in_mode;
-      here = here ∙ ap (place_after c.here) bytes;
+      here = here ∙ ap (λ (t : List ℕ). moved c.here (byte_place t)) bytes;
       fault = fault ∙ ap (λ (b : Bool). c.has_fault || b) (sym (fault_by piece.rule piece.is_skipped piece.start slice));
       places = places ∙ sym (after_by c.lexer.now.actions c.here piece.rule piece.is_skipped piece.start slice (reverse c.places.items));
     }
-
--- ---- a fault
-
-front_of_rest : (c : Chunked) (x : Item) → IsFinal c x → (behind : List ℕ) × (c.rest ≡ slice_of x ++ behind)
-front_of_rest c x final =
-    let front = is_front (trees_in c.rules c.stack.mode) c.rules.precedences c.rules.skips (c.rest ++ []) 0 (placed 0 x) (final [] (λ _. refl)) in
-    (front.0, sym (append-nil c.rest) ∙ front.1.0 ∙ ap (λ (p : List ℕ). p ++ front.0) (slice_placed 0 x))
-
-first_of : (cs ds : List ℕ) (found : ℕ) → take 1 cs ≡ found ∷ [] → take 1 (cs ++ ds) ≡ found ∷ []
-first_of [] ds found e = absurd (cc (e))
-first_of (d ∷ cs) ds found e = e
-
--- its first character is the first one of the rest
-pub first_of_rest : (c : Chunked) (x : Item) (found : ℕ) → IsFinal c x → IsUtf8 (slice_of x) → take 1 (chars (slice_of x)) ≡ found ∷ [] → take 1 (chars c.rest) ≡ found ∷ []
-first_of_rest c x found final u e =
-    let front = front_of_rest c x final in
-    ap (λ (t : List ℕ). take 1 (chars t)) front.1 ∙ ap (take 1) (chars-append (slice_of x) front.0 u) ∙ first_of (chars (slice_of x)) (chars front.0) found e
 
 -- ---- more comes
 
@@ -281,9 +253,8 @@ into_later rules text more xs c d is same at came =
       came = came;
       lexer = ap (λ l. l.now) same.lexer ∙ is.lexer;
       at = same.at ∙ is.at ∙ sym at;
-      utf8 = is.utf8;
       begin = subst (λ (n : ℕ). BeginWithin n xs) (sym at) is.begin;
-      here = same.here ∙ is.here ∙ sym (place_stays text more c.incoming.chunks.at within) ∙ ap (position_of (text ++ more)) (sym at);
+      here = same.here ∙ is.here ∙ sym (place_stays text more c.incoming.chunks.at within) ∙ ap (byte_place_of (text ++ more)) (sym at);
       fault = same.fault ∙ is.fault;
       places = ap (λ ps. reverse ps.items) same.places ∙ is.places ∙ sym (places_stay text more c.incoming.chunks.at (open_behind rules.actions xs []) within is.opened);
       opened = subst (λ (n : ℕ). AllOf (λ k. k ≤ n) (open_behind rules.actions xs [])) (sym at) is.opened;

@@ -1,8 +1,8 @@
 -- Pieces that are given one after another, and written.
-use Rattle.std.proofs.Common.{◌≡◌, ◌≢◌, ℕ, ◌<◌, ◌⊎◌, true, false, List, [], ◌∷◌, ◌++◌, length, take, drop, refl, sym, ap, subst, ◌∙◌, arith}
-use Rattle.std.specs.Prelude.{Option, Some, None, IfSome, IfNone}
+use Rattle.std.proofs.Common.{◌≡◌, ◌≢◌, ℕ, ◌<◌, ◌⊎◌, true, false, List, [], ◌∷◌, ◌++◌, length, drop, refl, sym, ap, subst, ◌∙◌, arith}
+use Rattle.std.specs.Prelude.{Option, Some, None, Result, Ok, Err, IfErr, IfSome, IfNone, OnOk}
 use Rattle.std.specs.Borrow.{Bor}
-use Rattle.std.specs.Str.{chars}
+use Rattle.bajofeki.specs.Begun.{IsBegun}
 use Rattle.bajofeki.specs.Chunked.{Chunked, BeginsFault, GivesFinal, MayMatch}
 use Rattle.bajofeki.proofs.ChunkLaws.{fault_begins, given_less, held_after}
 use Rattle.bajofeki_rules.specs.declared.position.Position.{Position}
@@ -13,13 +13,15 @@ use Rattle.lalrpop_rules.specs.declared.item.Item.TheVariants.{Token, Skipped, F
 use Rattle.lexdfa_lib.specs.declared.error.RunError.{RunError}
 use Rattle.lexdfa_lib.specs.declared.error.RunError.TheVariants.{OutOfMemory}
 use Rattle.tokens_lib.specs.Console.{Console, Writes, WritesPart}
-use Rattle.tokens_lib.specs.CutEnds.{first_fault}
+use Rattle.tokens_lib.specs.CutEnds.{IsFound, IsFoundNext, first_fault}
 use Rattle.tokens_lib.specs.Internal.CutTexts.{EndsAtFault, GivesAll, GivesCut, IsAsBefore, IsGiven, IsGivenInPart, goes_on, is_fault, piece_shown, shown}
 use Rattle.tokens_lib.specs.declared.cut_end.CutEnd.{CutEnd}
 use Rattle.tokens_lib.specs.declared.cut_end.CutEnd.TheVariants.{Stopped}
+use Rattle.tokens_lib.specs.declared.cut_end.Found.{Found}
 use Rattle.tokens_lib.specs.declared.cutter.Cutter.{Cutter}
 use Rattle.tokens_lib.specs.declared.sheet.Form.{Form}
-use Rattle.tokens_lib.proofs.CutLaws.{came_on, first_of_rest, into_more, mode_here, place_here}
+use Rattle.tokens_lib.proofs.CutLaws.{came_on, into_more, mode_here, place_here}
+use Rattle.tokens_lib.proofs.FoundLaws.{found_at_fault}
 use Rattle.tokens_lib.proofs.PieceLines.{shown_more}
 use Rattle.tokens_lib.proofs.ItemSending.{part_more, part_so_far, part_waiting, sent_more, sent_whole}
 
@@ -41,7 +43,7 @@ GivesSome form rules c waiting old new error =
 pub as_more : (c d e : Cutter) (x : Item) (place : Position) (mode : ℕ) → IsAsBefore c d → GivesCut d x place mode e → IsAsBefore c e
 as_more c d e x place mode same gives = record {
   lexer = gives.lexer ∙ same.lexer;
-  decoder = gives.decoder ∙ same.decoder;
+  front = gives.front ∙ same.front;
   begun = gives.begun ∙ same.begun;
   ended = ap (λ (f : Chunked). f.is_ended) gives.gives.2 ∙ same.ended;
 }
@@ -85,34 +87,34 @@ module _ (form : Form) (rules : ModeRules) (text : List ℕ) (ys : List Item) (c
     fault_here (Fault begin slice) fault final = fault_begins c.incoming.chunks d.incoming.chunks begin slice final
 
     -- or it is a fault, where cutting ends
-    pub stops_at : goes_on form ≡ false → is_fault x ≡ true → (found : ℕ) (ended : CutEnd) → ended ≡ Stopped place found → take 1 (chars (slice_of x)) ≡ found ∷ []
+    pub stops_at : goes_on form ≡ false → is_fault x ≡ true → (found : Found) (ended : CutEnd) → ended ≡ Stopped place found → IsFound (slice_of x) found
         → EndsAtFault form rules text ys c.incoming.chunks ended
-    stops_at ends fault found ended e first = record {
+    stops_at ends fault found ended e shown_is = record {
       came = is.cut.came;
       no_fault = is.no_fault ends;
       ends = ends;
       fault = fault_here x fault gives.gives;
       found = found;
       ended_is = e ∙ ap (λ (p : Position). Stopped p found) (gives.place_is ∙ is.cut.here);
-      character = first_of_rest c.incoming.chunks x found gives.gives.0 gives.utf8 first;
+      shows = found_at_fault c.incoming.chunks x found gives.gives.0 fault shown_is;
     }
 
   -- a fault begins where the next piece begins
-  pub stops_next : goes_on form ≡ false → (found : ℕ) (ended : CutEnd) → ended ≡ Stopped c.here found → take 1 (chars c.incoming.chunks.rest) ≡ found ∷ []
+  pub stops_next : goes_on form ≡ false → (found : Found) (ended : CutEnd) → ended ≡ Stopped c.here found → IsFoundNext c.incoming.chunks found
       → BeginsFault c.incoming.chunks → EndsAtFault form rules text ys c.incoming.chunks ended
-  stops_next ends found ended e first fault = record {
+  stops_next ends found ended e shows fault = record {
     came = is.cut.came;
     no_fault = is.no_fault ends;
     ends = ends;
     fault = fault;
     found = found;
     ended_is = e ∙ ap (λ (p : Position). Stopped p found) is.cut.here;
-    character = first;
+    shows = shows;
   }
 
 -- no piece can be given any more
 pub waits_now : (form : Form) (rules : ModeRules) (text : List ℕ) (ys : List Item) (b c d : Cutter) (waiting : List ℕ) (begun a : Console) → IsGiven form rules text ys c waiting begun a
-    → d ≡ c → GivesFinal c.incoming.chunks None d.incoming.chunks → IsAsBefore b c → (goes_on form ≡ false → (d.incoming.chunks.rest ≡ []) ⊎ MayMatch d.incoming.chunks)
+    → d ≡ c → GivesFinal c.incoming.chunks None d.incoming.chunks → IsAsBefore b c → (goes_on form ≡ false → IsBegun d.incoming.chunks.rest ⊎ MayMatch d.incoming.chunks)
     → GivesAll form rules text b d waiting begun a None
 waits_now form rules text ys b c d waiting begun a is same none before may = (
   ys,
@@ -125,15 +127,15 @@ waits_now form rules text ys b c d waiting begun a is same none before may = (
 -- unless a fault begins there
 pub waits_or_stops : (form : Form) (rules : ModeRules) (text : List ℕ) (ys : List Item) (b c d : Cutter) (waiting : List ℕ) (begun a : Console) → IsGiven form rules text ys c waiting begun a
     → d ≡ c → GivesFinal c.incoming.chunks None d.incoming.chunks → IsAsBefore b c → goes_on form ≡ false → (ended : Option CutEnd)
-    → IfSome ended (λ end. (found : ℕ) × ((end ≡ Stopped d.here found) × ((take 1 (chars d.incoming.chunks.rest) ≡ found ∷ []) × BeginsFault d.incoming.chunks)))
-    → IfNone ended ((d.incoming.chunks.rest ≡ []) ⊎ MayMatch d.incoming.chunks)
+    → IfSome ended (λ end. (found : Found) × ((end ≡ Stopped d.here found) × (IsFoundNext d.incoming.chunks found × BeginsFault d.incoming.chunks)))
+    → IfNone ended (IsBegun d.incoming.chunks.rest ⊎ MayMatch d.incoming.chunks)
     → GivesAll form rules text b d waiting begun a ended
 waits_or_stops form rules text ys b c d waiting begun a is same none before ends None fault may =
     waits_now form rules text ys b c d waiting begun a is same none before (λ _. may)
-waits_or_stops form rules text ys b c d waiting begun a is same none before ends (Some ended) (found, (e, (first, fault))) may =
+waits_or_stops form rules text ys b c d waiting begun a is same none before ends (Some ended) (found, (e, (shows, fault))) may =
     let now = subst (λ (e : Cutter). IsGiven form rules text ys e waiting begun a) (sym same) is in
     let so_far = subst (IsAsBefore b) (sym same) before in
-    (ys, (d.incoming.chunks, (stops_next form rules text ys d waiting begun a now ends found ended e first fault, (now.written, so_far.ended))))
+    (ys, (d.incoming.chunks, (stops_next form rules text ys d waiting begun a now ends found ended e shows fault, (now.written, so_far.ended))))
 
 -- a piece that is given isn't empty
 pub some_slice : (c d : Cutter) (x : Item) (place : Position) (mode : ℕ) → GivesCut c x place mode d → slice_of x ≢ []
@@ -169,3 +171,17 @@ part_flushed form rules text c d waiting begun a b None error (ys, (is, (waits, 
 )
 part_flushed form rules text c d waiting begun a b (Some ended) error (ys, (e, (stops, (sent, same)))) h =
     (ys, (e, (record { came = stops.came; no_fault = λ _. stops.no_fault; part = part_waiting (shown form rules text ys) waiting begun a b sent error h }, same)))
+
+-- ---- one piece
+
+-- the same bytes are sent
+pub sent_so : {T E : Type 0} (result : Result T E) (a b : Console) (waiting now shown_now other : List ℕ) → shown_now ≡ other
+    → OnOk result ((sent : List ℕ) × (Writes a sent b × (waiting ++ shown_now ≡ sent ++ now)))
+    → OnOk result ((sent : List ℕ) × (Writes a sent b × (waiting ++ other ≡ sent ++ now)))
+sent_so (Ok done) a b waiting now shown_now other same (sent, (h, all)) = (sent, (h, ap (λ (l : List ℕ). waiting ++ l) (sym same) ∙ all))
+sent_so (Err error) a b waiting now shown_now other same h = tt
+
+pub part_of_same : {T : Type 0} (result : Result T RunError) (a b : Console) (waiting shown_now other : List ℕ) → shown_now ≡ other
+    → IfErr result (λ e. WritesPart a (waiting ++ shown_now) e b) → IfErr result (λ e. WritesPart a (waiting ++ other) e b)
+part_of_same (Ok done) a b waiting shown_now other same h = tt
+part_of_same (Err error) a b waiting shown_now other same h = subst (λ (l : List ℕ). WritesPart a (waiting ++ l) error b) same h

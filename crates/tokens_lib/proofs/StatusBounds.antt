@@ -26,7 +26,7 @@ use Rattle.tokens_lib.specs.declared.command.Command.{Command}
 use Rattle.tokens_lib.specs.declared.command.Language.{Language}
 use Rattle.tokens_lib.specs.declared.command.Markup.{Markup}
 use Rattle.tokens_lib.specs.declared.cut_end.CutEnd.{CutEnd}
-use Rattle.tokens_lib.specs.declared.cut_end.CutEnd.TheVariants.{Whole, Stopped, Broken}
+use Rattle.tokens_lib.specs.declared.cut_end.CutEnd.TheVariants.{Whole, Stopped, Unread}
 use Rattle.lalrpop_rules.specs.declared.item.Item.{Item}
 use Rattle.tokens_lib.specs.declared.command.Action.{Action}
 use Rattle.tokens_lib.specs.declared.command.Action.TheVariants.{Cut, Show, Clashes, Emit, Picture, Check, Difference}
@@ -45,7 +45,7 @@ cut_status_low (Whole false (Some o)) = omega arith
 cut_status_low (Whole true None) = omega arith
 cut_status_low (Whole true (Some o)) = omega arith
 cut_status_low (Stopped place found) = omega arith
-cut_status_low (Broken error) = omega arith
+cut_status_low Unread = omega arith
 
 rules_low : (error : RulesError) → rules_status error ≤ 6
 rules_low (errors.NoSuchMode i m) = omega arith
@@ -137,7 +137,7 @@ check_low form file ls modes rs answer (inr (places, (stand, inr (r, (review, (i
 
 cut_low : (set : ModeRules) (modes : List (List ℕ)) (recovers : Bool) (out : List ℕ → List Item → List ℕ) (name : List ℕ) (reading : Reading) (answer : Answer)
     → CutAnswer set modes recovers out name reading answer → IsLow answer
-cut_low set modes recovers out name reading answer (text, (left, (xs, (ended, (is_text, (cut, e)))))) = low answer _ e (cut_status_low ended)
+cut_low set modes recovers out name reading answer (xs, (ended, (cut, e))) = low answer _ e (cut_status_low ended)
 
 pieces_low : (set : ModeRules) (modes : List (List ℕ)) (form : LineForm) (recovers several : Bool) (name : List ℕ) (reading : Reading) (answer : Answer)
     → PiecesAnswer set modes form recovers several name reading answer → IsLow answer

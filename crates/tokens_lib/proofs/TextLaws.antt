@@ -4,6 +4,7 @@ use Rattle.std.specs.Prelude.{Option, Result, Ok, Err, IfOk, OnOk, option_map, S
 use Rattle.std.specs.Bool.{then_some}
 use Rattle.std.specs.Borrow.{Bor}
 use Rattle.std.proofs.lemmas.List.{append-nil}
+use Rattle.lalrpop_rule_file.specs.RuleFile.{without_mark}
 use Rattle.lalrpop_rules.specs.Modes.{ModeRules}
 use Rattle.bajofeki_rules.specs.Stack.{start}
 use Rattle.lalrpop_rules.specs.declared.item.Item.{Item}
@@ -70,34 +71,36 @@ module _ (rules : ModeRules) (modes : List (List ℕ)) (recovers : Bool) (out : 
   -- all of them were, and then how cutting ended was said
   pub cut_answered : (a m b : Console) (ended : CutEnd) (status : ℕ) → (reading : Reading) × (Gives_it reading × WritesCut rules recovers out reading a m ended)
       → status ≡ cut_status ended → Says m (cut_text modes file ended) b → Answers (ReadAnswer Gives_it (Whole file)) a status b
-  cut_answered a m b ended status (reading, (gives, (text, (left, (xs, (is_text, (cut, (takes, quiet)))))))) is (told, unwritten) = (
-    told_end modes (of_file file) file text xs ended,
-    (
-      (reading, (gives, (text, (left, (xs, (ended, (is_text, (cut, refl)))))))),
-      (
-        is,
-        record {
-          out = subst (λ (s : Stream). Takes a.out (of_file file text xs) s) (sym unwritten) (subst (λ (l : List ℕ). Takes a.out l m.out) (same text xs) takes);
-          err = subst (λ (s : Stream). IsTold s (cut_text modes file ended) b.err) quiet told;
-        },
-      ),
-    ),
-  )
+  cut_answered a m b ended status (reading, (gives, (xs, (cut, (takes, quiet))))) is (told, unwritten) =
+      let text = without_mark reading.bytes in (
+        told_end modes (of_file file) file text xs ended,
+        (
+          (reading, (gives, (xs, (ended, (cut, refl))))),
+          (
+            is,
+            record {
+              out = subst (λ (s : Stream). Takes a.out (of_file file text xs) s) (sym unwritten) (subst (λ (l : List ℕ). Takes a.out l m.out) (same text xs) takes);
+              err = subst (λ (s : Stream). IsTold s (cut_text modes file ended) b.err) quiet told;
+            },
+          ),
+        ),
+      )
 
   -- or it was said in part
   pub cut_untold : (a m b : Console) (ended : CutEnd) (e : RunError) → (reading : Reading) × (Gives_it reading × WritesCut rules recovers out reading a m ended)
       → Fails (λ x. x ≡ remark (cut_text modes file ended)) m e b → Fails (ReadAnswer Gives_it (EitherAnswer Whole Part file)) a e b
-  cut_untold a m b ended e (reading, (gives, (text, (left, (xs, (is_text, (cut, (takes, quiet)))))))) (x, (begins, (part, told))) = (
-    told_end modes (of_file file) file text xs ended,
-    (
-      inr (reading, (gives, inl (text, (left, (xs, (ended, (is_text, (cut, refl)))))))),
-      (
-        subst (λ (l : List ℕ). TakesPart a.out l e b.out) (same text xs)
-            (subst (λ (l : List ℕ). TakesPart a.out l e b.out) (append-nil (out text xs)) (takes_part a.out m.out b.out (out text xs) [] e takes (written x begins part))),
-        subst (λ (s : Stream). IsToldPart s (cut_text modes file ended) b.err) quiet (said x begins told),
-      ),
-    ),
-  )
+  cut_untold a m b ended e (reading, (gives, (xs, (cut, (takes, quiet))))) (x, (begins, (part, told))) =
+      let text = without_mark reading.bytes in (
+        told_end modes (of_file file) file text xs ended,
+        (
+          inr (reading, (gives, inl (xs, (ended, (cut, refl))))),
+          (
+            subst (λ (l : List ℕ). TakesPart a.out l e b.out) (same text xs)
+                (subst (λ (l : List ℕ). TakesPart a.out l e b.out) (append-nil (out text xs)) (takes_part a.out m.out b.out (out text xs) [] e takes (written x begins part))),
+            subst (λ (s : Stream). IsToldPart s (cut_text modes file ended) b.err) quiet (said x begins told),
+          ),
+        ),
+      )
     where
       written : (x : Answer) → Begins (λ y. y ≡ remark (cut_text modes file ended)) x → TakesPart m.out x.out e b.out → TakesPart m.out [] e b.out
       written x (inl none) p = subst (λ (y : Answer). TakesPart m.out y.out e b.out) none p

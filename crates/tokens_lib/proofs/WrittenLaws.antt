@@ -1,11 +1,10 @@
 -- What is written for a whole text: lines, or a page.
 use Rattle.std.proofs.Common.{◌≡◌, ℕ, Bool, true, List, [], refl, sym, ap, subst, ◌∙◌}
-use Rattle.std.proofs.lemmas.Str.{IsUtf8-nil}
-use Rattle.std.specs.Prelude.{Result, Ok, Err, IfOk, IfErr, flat_map}
+use Rattle.std.specs.Prelude.{Result, Ok, Err, IfOk, IfErr}
 use Rattle.bajofeki.specs.Chunked.{nothing_come, nothing}
+use Rattle.lalrpop_rule_file.specs.RuleFile.{without_mark}
 use Rattle.lalrpop_rules.specs.Modes.{ModeRules}
 use Rattle.lalrpop_rules.specs.declared.item.Item.{Item}
-use Rattle.bajofeki.specs.Terminal.{painted}
 use Rattle.lexdfa_lib.specs.declared.error.RunError.{RunError}
 use Rattle.lexdfa_lib.specs.declared.error.RunError.TheVariants.{OutOfMemory}
 use Rattle.lexdfa_lib.specs.Streams.{Reading, LeftOff, Reads, Stream}
@@ -39,28 +38,20 @@ module _ (s t : Stream) (old new : Console) (rules : ModeRules) (recovers : Bool
 
   module _ (f : Form) (goes : goes_on f ≡ recovers) (same : (text : List ℕ) (xs : List Item) → shown f rules text xs ≡ out text xs) where
     whole_so : (ended : CutEnd) → WritesAll f rules s t old new ended → IsWritten ended
-    whole_so ended (reading, (reads, (text, (left, (xs, (is, (cut, writes))))))) = (
-      reading,
-      (
-        reads,
-        (
-          text,
+    whole_so ended (reading, (reads, (xs, (cut, writes)))) =
+        let text = without_mark reading.bytes in (
+          reading,
           (
-            left,
+            reads,
             (
               xs,
               (
-                is,
-                (
-                  subst (λ (b : Bool). IsCutTo rules b reading text left xs ended) goes cut,
-                  subst (λ (l : List ℕ). Writes old l new) (same text xs) writes,
-                ),
+                subst (λ (b : Bool). IsCutTo rules b reading text xs ended) goes cut,
+                subst (λ (l : List ℕ). Writes old l new) (same text xs) writes,
               ),
             ),
           ),
-        ),
-      ),
-    )
+        )
 
     part_so : (error : RunError) → WritesSome f rules s t old error new → IsWrittenPart error
     part_so error (reading, (reads, (text, (left, (xs, (c, (begins, (are, part)))))))) = (
@@ -78,7 +69,7 @@ module _ (s t : Stream) (old new : Console) (rules : ModeRules) (recovers : Bool
                 (
                   begins,
                   (
-                    subst (λ (b : Bool). AreGiven rules b reading text left xs c) goes are,
+                    subst (λ (b : Bool). AreGiven rules b reading text xs c) goes are,
                     subst (λ (l : List ℕ). WritesPart old l error new) (same text xs) part,
                   ),
                 ),
@@ -116,7 +107,7 @@ none_written s a rules recovers out error refused = (
           (
             nothing_come rules,
             (
-              (refl, IsUtf8-nil),
+              refl,
               (
                 record { came = nothing; ended = λ over. absurd (cc (over)); no_fault = λ _. refl },
                 subst (λ (e : RunError). WritesPart a (out [] []) e a) (sym refused) (writes_front a a [] (out [] []) (writes_none a)),
@@ -151,7 +142,7 @@ page_shown (Lines layout) markup rules is text xs = absurd is
 page_shown Html MarkupHtml rules is text xs = html_shown rules text xs
 page_shown Html MarkupAnsi rules is text xs = absurd is
 page_shown (Ansi painter) MarkupHtml rules is text xs = absurd is
-page_shown (Ansi painter) MarkupAnsi rules is text xs = ansi_shown painter rules text xs ∙ ap (λ (names : List (List ℕ)). flat_map (painted names) xs) is
+page_shown (Ansi painter) MarkupAnsi rules is text xs = ansi_shown painter rules text xs ∙ ap (λ (names : List (List ℕ)). page_of MarkupAnsi names xs) is
 
 pub page_so : (form : Form) (markup : Markup) (rules : ModeRules) → IsPageForm form markup rules.names → (f : Form) → f ≡ form → (text : List ℕ) (xs : List Item)
     → shown f rules text xs ≡ page_of markup rules.names xs

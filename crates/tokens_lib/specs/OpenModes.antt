@@ -2,7 +2,7 @@
 -- The modes that tokens put on top of others, by the places at which those tokens begin.
 use Rattle.std.specs.Prelude.{ℕ, List, [], ◌∷◌, Option, Some, None}
 use Rattle.std.specs.List.{fold}
-use Rattle.bajofeki_rules.specs.Position.{position_of}
+use Rattle.bajofeki_rules.specs.Position.{byte_place_of}
 use Rattle.bajofeki_rules.specs.Stack.{actions_of}
 use Rattle.bajofeki_rules.specs.declared.action.Action.{Action}
 use Rattle.bajofeki_rules.specs.declared.action.Action.TheVariants.{Mode, Push, Pop}
@@ -36,4 +36,4 @@ open_behind actions (x ∷ xs) begins = open_behind actions xs (open_after actio
 -- the mode on top, and where in the text it was entered, if it has one below it
 abbrev pub open_mode : List ℕ → ℕ → List ℕ → Option OpenMode
 open_mode text mode [] = None
-open_mode text mode (at ∷ begins) = Some (record { mode = mode; place = position_of text at })
+open_mode text mode (at ∷ begins) = Some (record { mode = mode; place = byte_place_of text at })

@@ -2,23 +2,29 @@
 -- The answer for what is read of a text.
 use Rattle.std.specs.Prelude.{◌≡◌, ℕ, Bool, true, false, List, [], ◌++◌, Some, None, codes, decimal, flat_map}
 use Rattle.std.specs.Bool.{then_some}
+use Rattle.std.specs.Borrow.{Bor}
 use Rattle.bajofeki.specs.Chunked.{Chunked}
+use Rattle.std.specs.Str.Lossy.{utf8_lossy}
 use Rattle.bajofeki_rules.specs.Quoted.{told}
 use Rattle.bajofeki_rules.specs.declared.position.Position.{Position}
 use Rattle.bajofeki.specs.Markup.{marked}
 use Rattle.bajofeki.specs.Terminal.{painted}
 use Rattle.lalrpop_rules.specs.Modes.{ModeRules}
 use Rattle.bajofeki_rules.specs.Stack.{start}
+use Rattle.lalrpop_rule_file.specs.RuleFile.{without_mark}
 use Rattle.lalrpop_rules.specs.declared.item.Item.{Item}
+use Rattle.lalrpop_rules.specs.declared.item.Item.TheVariants.{Token, Skipped, Fault}
 use Rattle.lexdfa_lib.specs.Streams.{Reading}
 use Rattle.reports_lib.specs.Answer.{Answer, about}
-use Rattle.reports_lib.specs.ItemLines.{name_at, piece_lines}
+use Rattle.reports_lib.specs.ItemLines.{byte_told, name_at, piece_lines}
 use Rattle.reports_lib.specs.declared.layout.LineForm.{LineForm}
-use Rattle.tokens_lib.specs.CutEnds.{IsTextOf, BeginsWith, AreGiven, IsCutTo, lack_text}
+use Rattle.tokens_lib.specs.CutEnds.{AreGiven, IsCutTo}
 use Rattle.tokens_lib.specs.declared.command.Markup.{Markup}
 use Rattle.tokens_lib.specs.declared.command.Markup.TheVariants.{Html, Ansi}
 use Rattle.tokens_lib.specs.declared.cut_end.CutEnd.{CutEnd}
-use Rattle.tokens_lib.specs.declared.cut_end.CutEnd.TheVariants.{Whole, Stopped, Broken}
+use Rattle.tokens_lib.specs.declared.cut_end.CutEnd.TheVariants.{Whole, Stopped, Unread}
+use Rattle.tokens_lib.specs.declared.cut_end.Found.{Found}
+use Rattle.tokens_lib.specs.declared.cut_end.Found.TheVariants.{Character, Byte}
 
 -- a place in a file
 abbrev pub place_in : List ℕ → Position → List ℕ
@@ -36,32 +42,36 @@ open_text mode file place =
 
 -- ---- texts
 
--- 0 if the text was cut to its end, has no fault, and ends in a mode that has none below it; 6 if it breaks off
+-- 0 if the text was cut to its end, has no fault, and ends in a mode that has none below it; 6 if it couldn't be read
 abbrev pub cut_status : CutEnd → ℕ
 cut_status (Whole false None) = 0
 cut_status (Whole has_fault inside) = 1
 cut_status (Stopped place found) = 1
-cut_status (Broken error) = 6
+cut_status Unread = 6
 
--- what is said of the end: in which mode it is; where cutting stopped; or why the text breaks off
+-- what was found where no rule matches
+abbrev pub found_told : Found → List ℕ
+found_told (Character c) = told c
+found_told (Byte b) = byte_told b
+
+-- what is said of the end: in which mode it is; where cutting stopped; or that a read failed
 abbrev pub cut_text : List (List ℕ) → List ℕ → CutEnd → List ℕ
 cut_text modes file (Whole has_fault None) = []
 cut_text modes file (Whole has_fault (Some o)) = open_text (name_at modes o.mode) file o.place
-cut_text modes file (Stopped place found) = fault_text file place (told found)
-cut_text modes file (Broken error) = about file (lack_text error)
+cut_text modes file (Stopped place found) = fault_text file place (found_told found)
+cut_text modes file Unread = about file (codes "read failed")
 
 -- what is written for the pieces of a text that are cut of what is read, and how that ends
 abbrev pub CutAnswer : ModeRules → List (List ℕ) → Bool → (List ℕ → List Item → List ℕ) → List ℕ → Reading → Answer → Type 0
 CutAnswer rules modes recovers out file reading answer =
-    (text : List ℕ) × ((left : List ℕ) × ((xs : List Item) × ((ended : CutEnd) × (IsTextOf reading.bytes text left
-    × (IsCutTo rules recovers reading text left xs ended
-    × (answer ≡ record { status = cut_status ended; out = out text xs; err = cut_text modes file ended }))))))
+    (xs : List Item) × ((ended : CutEnd) × (IsCutTo rules recovers reading (without_mark reading.bytes) xs ended
+    × (answer ≡ record { status = cut_status ended; out = out (without_mark reading.bytes) xs; err = cut_text modes file ended })))
 
 -- the same for pieces that were given before a run failed; nothing was said yet
 abbrev pub CutPart : ModeRules → Bool → (List ℕ → List Item → List ℕ) → Reading → Answer → Type 0
 CutPart rules recovers out reading answer =
-    (text : List ℕ) × ((left : List ℕ) × ((xs : List Item) × ((c : Chunked) × (BeginsWith reading.bytes text left
-    × (AreGiven rules recovers reading text left xs c × (answer ≡ record { status = 0; out = out text xs; err = [] }))))))
+    (text : List ℕ) × ((left : List ℕ) × ((xs : List Item) × ((c : Chunked) × ((without_mark reading.bytes ≡ text ++ left)
+    × (AreGiven rules recovers reading text xs c × (answer ≡ record { status = 0; out = out text xs; err = [] }))))))
 
 -- a line for each piece that has one, with the file's name if there are several
 abbrev pub lines_of : ModeRules → List (List ℕ) → LineForm → Bool → Bool → List ℕ → List ℕ → List Item → List ℕ
@@ -73,10 +83,19 @@ PiecesAnswer rules modes form recovers several file = CutAnswer rules modes reco
 abbrev pub PiecesPart : ModeRules → List (List ℕ) → LineForm → Bool → Bool → List ℕ → Reading → Answer → Type 0
 PiecesPart rules modes form recovers several file = CutPart rules recovers (lines_of rules modes form recovers several file)
 
+abbrev pub lossy : Bor (List ℕ) → Bor (List ℕ)
+lossy slice = record slice { now = utf8_lossy slice.now }
+
+-- the piece with U+FFFD for what isn't UTF-8, which only a fault has
+abbrev pub legible : Item → Item
+legible (Token token) = Token (record token { slice = lossy token.slice })
+legible (Skipped token) = Skipped (record token { slice = lossy token.slice })
+legible (Fault start slice) = Fault start (lossy slice)
+
 -- a piece as HTML, or in colours for a terminal
 abbrev pub piece_in : Markup → List (List ℕ) → Item → List ℕ
-piece_in Html = marked
-piece_in Ansi = painted
+piece_in Html names x = marked names (legible x)
+piece_in Ansi names x = painted names (legible x)
 
 -- the pieces, one after another
 abbrev pub page_of : Markup → List (List ℕ) → List Item → List ℕ

@@ -1,38 +1,6 @@
 //! How cutting a text ends.
-ghost use Rattle.std.specs.Prelude.{Some};
-ghost use Rattle.tokens_lib.specs.CutEnds.{lack_text};
 
 use lalrpop_lexer::Position;
-use std::error::Error;
-use std::fmt::{self, Display, Formatter};
-
-/// Why a text breaks off.
-///
-/// ```
-/// use tokens_lib::TextError;
-///
-/// let reason = format!(in alloc; "{}", TextError::NotText { at: 3 })?; // not UTF-8 from byte 3 on
-/// ```
-#[derive(Debug, Drop)]
-pub enum TextError {
-    /// The bytes aren't UTF-8: `at` is the offset of the first byte at which no character begins.
-    NotText { at: usize },
-    /// A read failed.
-    Read,
-}
-
-impl Display for TextError {
-    ghost output = { λ error. Some (lack_text error) };
-
-    fn fmt<W: fmt::Write>(&self, f: &mut Formatter<W>) -> fmt::Result {
-        match self {
-            TextError::NotText { at } => write!(f, "not UTF-8 from byte {at} on"),
-            TextError::Read => f.write_str("read failed"),
-        }
-    }
-}
-
-impl Error for TextError {}
 
 /// A mode that was put on top of another one, and in which a text ends.
 ///
@@ -49,6 +17,21 @@ pub struct OpenMode {
     pub mode: usize,
     /// Where the token begins that put the mode there.
     pub place: Position,
+}
+
+/// What is at the front of a fault: a character, or a byte where no character is.
+///
+/// ```
+/// use tokens_lib::Found;
+///
+/// let found = Found::Byte(0xFF); // shown as `\xff`
+/// ```
+#[derive(Clone, Copy, Debug, PartialEq, Eq)]
+pub enum Found {
+    /// A character.
+    Character(char),
+    /// A byte that is of no character.
+    Byte(u8),
 }
 
 /// How cutting a text ends that is read as it comes.
@@ -71,9 +54,9 @@ pub enum CutEnd {
     Stopped {
         /// Where the fault begins.
         place: Position,
-        /// The first character of the fault.
-        found: char,
+        /// What is at the front of the fault.
+        found: Found,
     },
-    /// It was cut as far as it is a text, and breaks off for this reason.
-    Broken(TextError),
+    /// It was cut as far as it was read: a read failed.
+    Unread,
 }

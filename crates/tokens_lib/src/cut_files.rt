@@ -11,7 +11,7 @@ use crate::by_rules::{NO_TEXT, unread};
 use crate::command::{Markup, Verbosity};
 use crate::console::Console;
 use crate::cut_end::CutEnd;
-use crate::fault::{fault_message, lack_message, open_message};
+use crate::fault::{fault_message, open_message, unread_message};
 use crate::item_lines::{mode_name, write_items};
 use crate::page::write_page;
 use crate::progress::{number_message, total_said};
@@ -67,11 +67,11 @@ fn status_of(end: &CutEnd) -> u8
             inside: None,
         } => 0,
         CutEnd::Whole { .. } | CutEnd::Stopped { .. } => 1,
-        CutEnd::Broken(_) => NO_TEXT,
+        CutEnd::Unread => NO_TEXT,
     }
 }
 
-// The line that says in which mode a text ends, where cutting stopped, or why the text breaks off; nothing if it's in order.
+// The line that says in which mode a text ends, where cutting stopped, or that a read failed; nothing if all is in order.
 fn end_message(
     alloc: Global,
     modes: &[String],
@@ -87,7 +87,7 @@ fn end_message(
             None => Ok(String::new(alloc)),
         },
         CutEnd::Stopped { place, found } => { fault_message(alloc, name, *place, *found) }
-        CutEnd::Broken(error) => lack_message(alloc, name, error),
+        CutEnd::Unread => unread_message(alloc, name),
     }
 }
 

@@ -1,17 +1,19 @@
 //! A text that is cut piece by piece as it comes, and what is known of its pieces so far.
-ghost use Rattle.std.specs.Prelude.{◌≡◌, ◌≢◌, ◌+◌, ◌≤◌, ◌∷◌, ◌++◌, ◌⊎◌, ◌||◌, ℕ, List, [], is_none, length, reverse, take, false, true, None, Some, Ok, IfOk, IfNone, IfSome, OnOk, OnErr};
+ghost use Rattle.std.specs.Prelude.{◌≡◌, ◌≢◌, ◌+◌, ◌⊎◌, ◌||◌, ℕ, List, [], is_none, length, reverse, false, true, None, Some, Ok, IfOk, IfNone, IfSome, OnOk, OnErr};
 ghost use Rattle.std.specs.Borrow.{Bor};
-ghost use Rattle.std.specs.Str.{chars, IsUtf8};
+ghost use Rattle.bajofeki.specs.Begun.{IsBegun};
 ghost use Rattle.bajofeki.specs.Chunked.{nothing_come, GivesFinal, BeginsFault, MayMatch};
-ghost use Rattle.bajofeki.specs.Decoded.{nothing_decoded};
 ghost use Rattle.bajofeki.specs.Given.{item_of};
-ghost use Rattle.bajofeki_rules.specs.Position.{place_after};
-ghost use Rattle.lexdfa_lib.specs.Streams.{LeftOff, Reads};
+ghost use Rattle.bajofeki_rules.specs.Position.{byte_place, moved};
+ghost use Rattle.lexdfa_lib.specs.Streams.{Reading, Reads};
+ghost use Rattle.tokens_lib.specs.CutEnds.{IsFound, IsFoundNext};
 ghost use Rattle.tokens_lib.specs.OpenModes.{pushed, pushed_all};
 ghost use Rattle.tokens_lib.specs.Internal.CutTexts.{Comes, GivesCut, IsCutInto, end_by, open_place, opened_by};
 ghost use Rattle.tokens_lib.specs.Internal.Incoming.{IsIncoming};
+ghost use Rattle.tokens_lib.specs.declared.cut_end.Found.{Found as FoundValue};
 
-use crate::cut_end::{CutEnd, OpenMode, TextError};
+use crate::cut_end::{CutEnd, OpenMode};
+use crate::found::{found_in, is_begun};
 use crate::incoming::{Brought, Incoming};
 use bajofeki::GivenPiece;
 use lalrpop_lexer::Position;
@@ -40,19 +42,6 @@ pub(crate) struct Cut {
     pub piece: GivenPiece,
     pub place: Position,
     pub mode: usize,
-}
-
-/// What may still come of a text.
-#[derive(Clone, Copy, Debug)]
-pub(crate) enum Coming {
-    /// More of it.
-    More,
-    /// Nothing: it has ended.
-    Nothing,
-    /// Nothing: no character begins at this place, in bytes.
-    NoCharacter { at: usize },
-    /// Nothing: a read failed.
-    Failure,
 }
 
 // Notes where a token begins that pushes a mode.
@@ -106,26 +95,15 @@ fn note_rule(
     }
 }
 
-// The first character of a text that has one.
-fn first_character(text: &str) -> char
-    requires some { text.now ≢ [] }
-    ensures first { take 1 (chars text.now) ≡ result ∷ [] }
-{
-    match text.chars().next() {
-        Some(first) => first,
-        None => unreachable!(),
-    }
-}
-
 /// How cutting ends at a fault that begins here.
-pub(crate) fn stopped(place: Position, fault: &str) -> CutEnd
+pub(crate) fn stopped(place: Position, fault: &[u8]) -> CutEnd
     requires some { fault.now ≢ [] }
-    ensures stopped { (found : ℕ) × ((result ≡ CutEnd.Stopped place found)
-        × (take 1 (chars fault.now) ≡ found ∷ [])) }
+    ensures stopped { (found : FoundValue) × ((result ≡ CutEnd.Stopped place found)
+        × IsFound fault.now found) }
 {
     CutEnd::Stopped {
         place,
-        found: first_character(fault),
+        found: found_in(fault),
     }
 }
 
@@ -133,8 +111,7 @@ impl<'rules> Cutter<'rules> {
     /// Nothing has come yet.
     pub(crate) fn new(alloc: Global, lexer: &'rules RuleLexer) -> Cutter<'rules>
         ensures nothing { IsCutInto lexer.now [] [] result }
-        ensures incoming { IsIncoming [] [] [] result.incoming }
-        ensures whole { result.incoming.decoder ≡ nothing_decoded }
+        ensures incoming { IsIncoming [] [] result.incoming }
         ensures goes { result.incoming.chunks ≡ nothing_come lexer.now }
     {
         Cutter {
@@ -148,7 +125,7 @@ impl<'rules> Cutter<'rules> {
     }
 
     /// The slice of the last piece.
-    pub(crate) fn slice(&self) -> &str
+    pub(crate) fn slice(&self) -> &[u8]
         ensures slice { result.now ≡ self.now.incoming.chunks.last }
     {
         self.incoming.chunks.slice()
@@ -156,11 +133,10 @@ impl<'rules> Cutter<'rules> {
 
     // Notes the last piece.
     fn note(&mut self, piece: &GivenPiece) -> Result<(), AllocError>
-        ensures utf8 { OnOk result (IsUtf8 self.old.incoming.chunks.last) }
         ensures incoming { OnOk result (self.new.incoming ≡ self.old.incoming) }
         ensures lexer { OnOk result (self.new.lexer ≡ self.old.lexer) }
         ensures here { OnOk result (self.new.here
-            ≡ place_after self.old.here self.old.incoming.chunks.last) }
+            ≡ moved self.old.here (byte_place self.old.incoming.chunks.last)) }
         ensures at { OnOk result (self.new.at
             ≡ self.old.at + length self.old.incoming.chunks.last) }
         ensures fault { OnOk result (self.new.has_fault
@@ -170,7 +146,7 @@ impl<'rules> Cutter<'rules> {
             (reverse self.old.places.items)) }
     {
         let slice = self.incoming.chunks.slice();
-        let Some(here) = self.here.after(slice) else {
+        let Some(here) = self.here.after_bytes(slice) else {
             return Err(AllocError);
         };
         let Some(at) = self.at.checked_add(slice.len()) else {
@@ -208,54 +184,51 @@ impl<'rules> Cutter<'rules> {
 
     /// How cutting ends at the next piece, if a fault begins there, whatever comes.
     pub(crate) fn stopped_next(&self) -> Option<CutEnd>
-        ensures fault { IfSome result (λ end. (found : ℕ)
+        ensures fault { IfSome result (λ end. (found : FoundValue)
             × ((end ≡ CutEnd.Stopped self.now.here found)
-            × ((take 1 (chars self.now.incoming.chunks.rest) ≡ found ∷ [])
+            × (IsFoundNext self.now.incoming.chunks found
             × BeginsFault self.now.incoming.chunks))) }
-        ensures none { IfNone result ((self.now.incoming.chunks.rest ≡ [])
+        ensures none { IfNone result (IsBegun self.now.incoming.chunks.rest
             ⊎ MayMatch self.now.incoming.chunks) }
     {
-        if !self.incoming.chunks.begins_fault() {
+        let chunks = &self.incoming.chunks;
+        if !chunks.begins_fault() {
             return None;
         }
-        Some(stopped(self.here, self.incoming.chunks.rest()))
+        // A character that has only begun is shown once it is whole.
+        if !chunks.is_ended() && is_begun(chunks.rest()) {
+            return None;
+        }
+        Some(stopped(self.here, chunks.rest()))
     }
 
-    // How many bytes of the text have come.
-    fn size(&self) -> Result<usize, AllocError>
-        ensures size { IfOk result (λ n. n ≡ self.now.at + length self.now.incoming.chunks.rest) }
-    {
-        self.at
-            .checked_add(self.incoming.chunks.rest().len())
-            .ok_or(AllocError)
-    }
-
-    /// Reads more of the text, and says what may still come.
+    /// Reads more of the text, and says what that brought. If nothing more comes, or a read failed, all was fed.
     ///
     /// # Errors
     ///
-    /// `AllocError` if a request for memory was refused, or if 2^64 bytes have come.
+    /// `AllocError` if a request for memory was refused. Then what was read may be lost.
     pub(crate) fn read_on<S: Source>(
         &mut self,
-        alloc: Global,
         reader: &mut Reader<S>,
-    ) -> Result<Coming, AllocError>
-        requires whole { self.old.incoming.decoder.is_broken ≡ false }
+    ) -> Result<Brought, AllocError>
         requires goes { self.old.incoming.chunks.is_ended ≡ false }
-        ensures comes { IfOk result (λ coming.
-            Comes self.old.lexer.now reader.old reader.new self.old self.new coming) }
+        ensures comes { IfOk result (λ brought.
+            Comes self.old.lexer.now reader.old reader.new self.old self.new brought) }
         ensures same { OnOk result (self.new.lexer ≡ self.old.lexer) }
-        ensures lost { OnErr result ((more : List ℕ)
-            × Reads reader.old reader.new (record { bytes = more; end = LeftOff })) }
+        ensures lost { OnErr result ((reading : Reading)
+            × Reads reader.old reader.new reading) }
     {
-        match self.incoming.read_on(alloc, reader)? {
-            Brought::Failure => Ok(Coming::Failure),
-            Brought::More if !self.incoming.is_broken() => Ok(Coming::More),
-            Brought::Nothing if !self.incoming.is_within() => {
+        match self.incoming.read_on(reader)? {
+            Brought::More => Ok(Brought::More),
+            Brought::Nothing => {
+                self.incoming.release()?;
                 self.incoming.chunks.finish();
-                Ok(Coming::Nothing)
+                Ok(Brought::Nothing)
             }
-            Brought::More | Brought::Nothing => Ok(Coming::NoCharacter { at: self.size()? }),
+            Brought::Failure => {
+                self.incoming.release()?;
+                Ok(Brought::Failure)
+            }
         }
     }
 
@@ -273,18 +246,17 @@ impl<'rules> Cutter<'rules> {
         }
     }
 
-    /// How cutting ends where no more comes, once all pieces were given that can be; none if more may come.
-    pub(crate) fn end(&self, coming: Coming) -> Option<CutEnd>
-        ensures end { result ≡ end_by self.now coming }
+    /// How cutting ends after what reading brought, once all pieces were given that can be; none if more may come.
+    pub(crate) fn end(&self, brought: Brought) -> Option<CutEnd>
+        ensures end { result ≡ end_by self.now brought }
     {
-        match coming {
-            Coming::More => None,
-            Coming::Nothing => Some(CutEnd::Whole {
+        match brought {
+            Brought::More => None,
+            Brought::Nothing => Some(CutEnd::Whole {
                 has_fault: self.has_fault,
                 inside: self.open_mode(),
             }),
-            Coming::NoCharacter { at } => Some(CutEnd::Broken(TextError::NotText { at })),
-            Coming::Failure => Some(CutEnd::Broken(TextError::Read)),
+            Brought::Failure => Some(CutEnd::Unread),
         }
     }
 }

@@ -1,31 +1,26 @@
 //! The messages for a place where nothing matches, for a text that ends in a mode that has one below it, and for a file that
-//! gives no text.
-ghost use Rattle.std.specs.Prelude.{◌≡◌, ◌++◌, codes, string_bytes, IfOk};
-ghost use Rattle.bajofeki_rules.specs.Quoted.{told};
+//! can't be read to its end.
+ghost use Rattle.std.specs.Prelude.{◌≡◌, ◌++◌, codes, string_bytes, IfOk, OnOk};
 ghost use Rattle.reports_lib.specs.Answer.{about};
-ghost use Rattle.tokens_lib.specs.CutEnds.{lack_text};
-ghost use Rattle.tokens_lib.specs.TextAnswer.{fault_text, open_text, place_in};
+ghost use Rattle.reports_lib.specs.ItemLines.{byte_told};
+ghost use Rattle.tokens_lib.specs.TextAnswer.{fault_text, found_told, open_text, place_in};
 
-use crate::cut_end::TextError;
+use crate::cut_end::Found;
 use lalrpop_lexer::{Position, push_escaped_char};
 use reports_lib::about;
 use std::alloc::{AllocError, Global};
+use std::fmt::Write;
 
-/// The line that says that a file gives no text, or that its text breaks off, and why.
+/// The line that says that a file couldn't be read to its end.
 ///
 /// # Errors
 ///
 /// `AllocError` if a request for memory was refused.
-pub(crate) fn lack_message(
-    alloc: Global,
-    file: &str,
-    lack: &TextError,
-) -> Result<String, AllocError>
+pub(crate) fn unread_message(alloc: Global, file: &str) -> Result<String, AllocError>
     ensures message { IfOk result (λ message.
-        string_bytes message ≡ about file.now (lack_text lack.now)) }
+        string_bytes message ≡ about file.now (codes "read failed")) }
 {
-    let reason = format!(in alloc; "{lack}")?;
-    about(alloc, file, &reason)
+    about(alloc, file, "read failed")
 }
 
 // How a message about a place begins.
@@ -37,8 +32,28 @@ fn placed(alloc: Global, file: &str, place: Position) -> Result<String, AllocErr
     format!(in alloc; "tokens: {file}:{line}:{column}: ")
 }
 
-/// The line that says where no rule matches, so that the text couldn't be cut further, and shows the
-/// character that was found there.
+// Appends a byte that is of no character.
+fn push_byte(text: &mut String, byte: u8) -> Result<(), AllocError>
+    ensures told { OnOk result (string_bytes text.new ≡ string_bytes text.old ++ byte_told byte) }
+{
+    if byte.is_ascii() {
+        return push_escaped_char(text, char::from(byte));
+    }
+    write!(text, "\\x{byte:x}")
+}
+
+// Appends what was found where no rule matches.
+fn push_found(text: &mut String, found: Found) -> Result<(), AllocError>
+    ensures told { OnOk result (string_bytes text.new ≡ string_bytes text.old ++ found_told found) }
+{
+    match found {
+        Found::Character(c) => push_escaped_char(text, c),
+        Found::Byte(byte) => push_byte(text, byte),
+    }
+}
+
+/// The line that says where no rule matches, so that the text couldn't be cut further, and shows what was found there: a
+/// character, or a byte as `\xff`.
 ///
 /// # Errors
 ///
@@ -47,14 +62,14 @@ pub(crate) fn fault_message(
     alloc: Global,
     file: &str,
     place: Position,
-    found: char,
+    found: Found,
 ) -> Result<String, AllocError>
     ensures message { IfOk result (λ message.
-        string_bytes message ≡ fault_text file.now place (told found)) }
+        string_bytes message ≡ fault_text file.now place (found_told found)) }
 {
     let mut message = placed(alloc, file, place)?;
     message.push_str("no rule matches \"")?;
-    push_escaped_char(&mut message, found)?;
+    push_found(&mut message, found)?;
     message.push_str("\"\n")?;
     Ok(message)
 }

@@ -16,9 +16,13 @@ use std::alloc::Global;
 
 /// Cuts the text by rules as it comes, and writes a line for each token and for each fault, but none for skipped pieces.
 /// A plain line is `LINE:COLUMN NAME "SLICE"`, with `FILE:` before it if the file is named. Lines and columns count from 1,
-/// columns in characters, and a fault has `!` for its name. A line of JSON is an object with the members `file`, if the file is
+/// and a fault has `!` for its name. A line of JSON is an object with the members `file`, if the file is
 /// named, `line`, `column`, `start` and `end`, which are offsets in bytes, `rule`, which is `null` for a fault, `mode`, if the
 /// layout names several modes, and `text`. A byte order mark at the beginning is left out.
+///
+/// A text is any bytes. What isn't UTF-8 matches no rule, so it lies in a fault: a plain line shows the bytes of such a fault one
+/// by one, those that aren't ASCII as `\xff`, and a line of JSON has U+FFFD for each invalid sequence. A column counts the bytes
+/// with which a character begins: all but 0x80 to 0xBF.
 ///
 /// If the layout doesn't recover, the text is cut up to its first fault, which has no line. Then no more is read than is needed to
 /// know that a fault begins there.
@@ -29,7 +33,7 @@ use std::alloc::Global;
 /// # Errors
 ///
 /// `OutOfMemory` if a request for memory was refused, and `Write` if a write fails or has failed: a prefix of the lines was
-/// written. Where a read fails, the text breaks off; that isn't an error.
+/// written. Where a read fails, the text is cut as far as it was read; that isn't an error.
 pub fn write_items<S: Source, O: Sink, E: Sink>(
     alloc: Global,
     lexer: &RuleLexer,

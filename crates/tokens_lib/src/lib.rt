@@ -12,6 +12,7 @@ mod cutter;
 mod differing;
 mod emitted;
 mod fault;
+mod found;
 mod incoming;
 mod item_lines;
 mod listing;
@@ -26,7 +27,7 @@ mod warnings;
 
 pub use command::{Action, ArgumentsError, Command, Language, Markup, Verbosity, command_of};
 pub use console::Console;
-pub use cut_end::{CutEnd, OpenMode, TextError};
+pub use cut_end::{CutEnd, Found, OpenMode};
 pub use item_lines::write_items;
 pub use lalrpop_rule_file::{RuleFile, RuleFileError, Warning, read_rules};
 pub use lalrpop_rules::{

@@ -30,7 +30,8 @@ fn page_form<'rules>(
 }
 
 /// Writes the text as HTML, or in colours for a terminal, as `html` and `ansi` of `bajofeki` make them, while it comes. The
-/// text is cut to its end, after faults too. A byte order mark at its beginning is left out.
+/// text is cut to its end, after faults too. A byte order mark at its beginning is left out. What isn't UTF-8 matches no rule, so it
+/// lies in a fault, with U+FFFD for each invalid sequence.
 ///
 /// What nothing that comes can change is written before the next read, or about 64 KiB at a time, so the page is never held as a
 /// whole.
@@ -38,7 +39,7 @@ fn page_form<'rules>(
 /// # Errors
 ///
 /// `OutOfMemory` if a request for memory was refused, and `Write` if a write fails or has failed: a prefix of the page was
-/// written. Where a read fails, the text breaks off; that isn't an error.
+/// written. Where a read fails, the text is cut as far as it was read; that isn't an error.
 pub fn write_page<S: Source, O: Sink, E: Sink>(
     alloc: Global,
     lexer: &RuleLexer,

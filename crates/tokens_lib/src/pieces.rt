@@ -5,15 +5,17 @@ ghost use Rattle.bajofeki.specs.Given.{item_of};
 ghost use Rattle.lalrpop_rules.specs.declared.item.Item.{Item as ItemValue};
 ghost use Rattle.lexdfa_lib.specs.Streams.{Reading, Reads};
 ghost use Rattle.tokens_lib.specs.Console.{Console as ConsoleValue, Writes, WritesPart};
-ghost use Rattle.tokens_lib.specs.Internal.CutTexts.{goes_on, piece_shown, shown, IsGiven, IsGivenInPart, GivesAll};
+ghost use Rattle.tokens_lib.specs.Internal.CutTexts.{goes_on, markup_of, piece_shown, shown, IsGiven, IsGivenInPart, GivesAll};
 ghost use Rattle.tokens_lib.specs.Written.{WritesCut, WritesCutPart};
 
 use crate::console::Console;
 use crate::cut_end::CutEnd;
 use crate::cutter::{Cut, Cutter, stopped};
 use crate::sheet::Sheet;
+use bajofeki::GivenPiece;
 use lexdfa_lib::{Reader, RunError, Sink, Source};
 use std::alloc::Global;
+use std::str;
 
 // What waits is written once it has this many bytes.
 const CHUNK: usize = 65536;
@@ -47,12 +49,34 @@ fn pass_on<O: Sink, E: Sink>(
     Ok(())
 }
 
-// Appends what is written for a piece with this slice, and writes what waits, if it fills a chunk.
+// Appends the markup of a piece with this text, and writes what waits, if it fills a chunk.
+fn put_markup<O: Sink, E: Sink>(
+    sheet: &mut Sheet<'_, '_, '_>,
+    piece: &GivenPiece,
+    text: &str,
+    console: &mut Console<O, E>,
+) -> Result<(), RunError>
+    ensures put { OnOk result ((sent : List ℕ) × (Writes console.old sent console.new
+        × (sheet.old.waiting.items ++ markup_of sheet.old.form sheet.old.lexer.now.names
+        (item_of piece.now text.entry) ≡ sent ++ sheet.new.waiting.items))) }
+    ensures form { OnOk result (sheet.new.form ≡ sheet.old.form) }
+    ensures lexer { OnOk result (sheet.new.lexer ≡ sheet.old.lexer) }
+    ensures part { IfErr result (λ e. WritesPart console.old
+        (sheet.old.waiting.items ++ markup_of sheet.old.form sheet.old.lexer.now.names
+        (item_of piece.now text.entry)) e console.new) }
+{
+    let item = piece.item(text);
+    sheet.push_markup(&item)?;
+    pass_on(&mut sheet.waiting, console)
+}
+
+// Appends what is written for a piece with this slice, and writes what waits, if it fills a chunk. Markup has U+FFFD for what
+// isn't UTF-8, which only a fault has.
 fn put_piece<O: Sink, E: Sink>(
     alloc: Global,
     sheet: &mut Sheet<'_, '_, '_>,
     cut: &Cut,
-    slice: &str,
+    slice: &[u8],
     console: &mut Console<O, E>,
 ) -> Result<(), RunError>
     ensures put { OnOk result ((sent : List ℕ) × (Writes console.old sent console.new
@@ -65,9 +89,15 @@ fn put_piece<O: Sink, E: Sink>(
         (sheet.old.waiting.items ++ piece_shown sheet.old.form sheet.old.lexer.now.names
         cut.now.place cut.now.mode (item_of cut.now.piece slice.entry)) e console.new) }
 {
-    let item = cut.piece.item(slice);
-    sheet.push(alloc, cut.place, cut.mode, &item)?;
-    pass_on(&mut sheet.waiting, console)
+    if sheet.has_lines() {
+        sheet.push_line(alloc, cut, slice)?;
+        return pass_on(&mut sheet.waiting, console);
+    }
+    if let Ok(text) = str::from_utf8(slice) {
+        return put_markup(sheet, &cut.piece, text, console);
+    }
+    let text = String::from_utf8_lossy(alloc, slice)?;
+    put_markup(sheet, &cut.piece, &text, console)
 }
 
 // Gives the pieces that nothing that comes can change, up to a fault, if cutting ends there.
@@ -155,11 +185,11 @@ pub(crate) fn write_pieces<S: Source, O: Sink, E: Sink>(
 {
     let mut cutter = Cutter::new(alloc, sheet.lexer);
     'reading: for _ in 0..u64::MAX {
-        let coming = cutter.read_on(alloc, reader)?;
+        let brought = cutter.read_on(reader)?;
         if let Some(ended) = give(alloc, sheet, &mut cutter, console)? {
             return Ok(ended);
         }
-        if let Some(ended) = cutter.end(coming) {
+        if let Some(ended) = cutter.end(brought) {
             return Ok(ended);
         }
     }

@@ -226,7 +226,7 @@ fn arguments_refused(alloc: Global, error: &ArgumentsError<'_>) -> Result<Reply,
 /// - 2 if rules can't be compiled or written, or clash,
 /// - 3 if a line of the rules is bad or its pattern doesn't parse,
 /// - 4 for wrong arguments, also for the name of a rule that isn't there,
-/// - 6 if a file gave no text, or one that breaks off: a read failed, or a byte is of no character.
+/// - 6 if a file gave no text, or a read of it failed.
 ///
 /// Of several files, and of the warnings and the rest of a check, the greatest status counts.
 ///

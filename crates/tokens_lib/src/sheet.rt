@@ -1,9 +1,10 @@
 //! What is written for the pieces of a text.
-ghost use Rattle.std.specs.Prelude.{◌≡◌, ◌++◌, ◌+◌, ◌≤◌, ℕ, List, [], length, map, option_map, string_bytes, OnOk};
-ghost use Rattle.lalrpop_rules.specs.Pieces.{slice_of, start_of};
+ghost use Rattle.std.specs.Prelude.{◌≡◌, ◌++◌, ◌+◌, ◌≤◌, ℕ, List, [], true, length, map, option_map, string_bytes, OnOk};
+ghost use Rattle.bajofeki.specs.Given.{item_of};
 ghost use Rattle.reports_lib.specs.ItemLines.{line_in, name_at, mode_named as mode_named_of};
-ghost use Rattle.tokens_lib.specs.Internal.CutTexts.{goes_on, line_here, piece_shown};
+ghost use Rattle.tokens_lib.specs.Internal.CutTexts.{goes_on, has_lines, line_here, markup_of, piece_shown};
 
+use crate::cutter::Cut;
 use bajofeki::{Painter, push_html};
 use lalrpop_lexer::Position;
 use lalrpop_lexer::lexer::dfa::NfaIndex;
@@ -87,32 +88,29 @@ fn push_item(
     lines: &mut Vec<u8>,
     lexer: &RuleLexer,
     layout: &Layout<'_, '_>,
-    place: Position,
-    mode: usize,
-    item: &Item<'_>,
+    cut: &Cut,
+    slice: &[u8],
 ) -> Result<(), AllocError>
-    requires fits { start_of item.now + length (slice_of item.now) ≤ usize.MAX }
+    requires fits { cut.now.piece.start + length slice.now ≤ usize.MAX }
     ensures line { OnOk result (lines.new.items ≡ lines.old.items
         ++ line_here layout.now.form layout.now.recovers
         (option_map (λ f. f.now) layout.now.file) lexer.now.names
-        (mode_named_of (map string_bytes layout.now.modes.now) mode) place item.now) }
+        (mode_named_of (map string_bytes layout.now.modes.now) cut.now.mode) cut.now.place
+        (item_of cut.now.piece slice.entry)) }
 {
-    let shown = match item {
-        Item::Token(token) => Shown {
-            start: token.start,
-            name: Some(name_of(lexer, token.index)),
-            mode: mode_named(layout.modes, mode),
-            slice: token.slice,
-        },
-        Item::Fault { start, slice } if layout.recovers => Shown {
-            start: *start,
-            name: None,
-            mode: mode_named(layout.modes, mode),
-            slice,
-        },
-        Item::Skipped(_) | Item::Fault { .. } => return Ok(()),
+    let name = match cut.piece.rule {
+        Some(_) if cut.piece.is_skipped => return Ok(()),
+        Some(rule) => Some(name_of(lexer, NfaIndex::new(rule))),
+        None if layout.recovers => None,
+        None => return Ok(()),
     };
-    push_line(alloc, lines, layout, place, &shown)
+    let shown = Shown {
+        start: cut.piece.start,
+        name,
+        mode: mode_named(layout.modes, cut.mode),
+        slice,
+    };
+    push_line(alloc, lines, layout, cut.place, &shown)
 }
 
 impl<'rules, 'file, 'modes> Sheet<'rules, 'file, 'modes> {
@@ -144,46 +142,58 @@ impl<'rules, 'file, 'modes> Sheet<'rules, 'file, 'modes> {
         }
     }
 
-    /// Appends what is written for a piece that begins at this place and was read in this mode.
+    /// Whether lines are written.
+    pub(crate) fn has_lines(&self) -> bool
+        ensures lines { result ≡ has_lines self.now.form }
+    {
+        matches!(self.form, Form::Lines(_))
+    }
+
+    /// Appends the line of a piece with this slice, if it has one. Markup has no lines.
     ///
     /// # Errors
     ///
     /// `AllocError` if a request for memory was refused, or if the piece ends past 2^64 bytes.
-    pub(crate) fn push(
+    pub(crate) fn push_line(
         &mut self,
         alloc: Global,
-        place: Position,
-        mode: usize,
-        item: &Item<'_>,
+        cut: &Cut,
+        slice: &[u8],
     ) -> Result<(), AllocError>
-        ensures shown { OnOk result (self.new.waiting.items ≡ self.old.waiting.items
-            ++ piece_shown self.old.form self.old.lexer.now.names place mode item.now) }
+        ensures shown { OnOk result (has_lines self.old.form ≡ true
+            → self.new.waiting.items ≡ self.old.waiting.items
+            ++ piece_shown self.old.form self.old.lexer.now.names cut.now.place cut.now.mode
+            (item_of cut.now.piece slice.entry)) }
         ensures form { OnOk result (self.new.form ≡ self.old.form) }
         ensures lexer { OnOk result (self.new.lexer ≡ self.old.lexer) }
     {
-        let Some(_) = item.start().checked_add(item.slice().len()) else {
+        let Some(_) = cut.piece.start.checked_add(slice.len()) else {
             return Err(AllocError);
         };
-        match &mut self.form {
+        match &self.form {
             Form::Lines(layout) => {
-                return push_item(
-                    alloc,
-                    &mut self.waiting,
-                    self.lexer,
-                    layout,
-                    place,
-                    mode,
-                    item,
-                );
+                push_item(alloc, &mut self.waiting, self.lexer, layout, cut, slice)
             }
-            Form::Html => {
-                self.markup.clear();
-                push_html(&mut self.markup, self.lexer.names(), item)?;
-            }
-            Form::Ansi(painter) => {
-                self.markup.clear();
-                painter.push(&mut self.markup, item)?;
-            }
+            Form::Html | Form::Ansi(_) => Ok(()),
+        }
+    }
+
+    /// Appends the markup of a piece. Lines have none.
+    ///
+    /// # Errors
+    ///
+    /// `AllocError` if a request for memory was refused.
+    pub(crate) fn push_markup(&mut self, item: &Item<'_>) -> Result<(), AllocError>
+        ensures shown { OnOk result (self.new.waiting.items ≡ self.old.waiting.items
+            ++ markup_of self.old.form self.old.lexer.now.names item.now) }
+        ensures form { OnOk result (self.new.form ≡ self.old.form) }
+        ensures lexer { OnOk result (self.new.lexer ≡ self.old.lexer) }
+    {
+        self.markup.clear();
+        match &mut self.form {
+            Form::Lines(_) => {}
+            Form::Html => push_html(&mut self.markup, self.lexer.names(), item)?,
+            Form::Ansi(painter) => painter.push(&mut self.markup, item)?,
         }
         self.waiting.extend_from_slice(self.markup.as_bytes())
     }

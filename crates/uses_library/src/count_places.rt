@@ -1,7 +1,7 @@
 //! Places in a text, as line and column.
 ghost use Rattle.std.specs.Prelude.{◌≡◌, ◌≤◌, ◌+◌, ◌++◌, ◌↔◌, ◌⊎◌, IfNone, IfSome, IsSome};
 ghost use Rattle.std.specs.Str.{IsCharBoundary, chars};
-ghost use Rattle.bajofeki_rules.specs.Position.{Fits, place_after, place_behind, position_of};
+ghost use Rattle.bajofeki_rules.specs.Position.{Fits, byte_place, moved, place_after, place_behind, position_of};
 
 use lalrpop_lexer::{Position, Positions};
 
@@ -60,6 +60,18 @@ pub fn behind_both(first: &str, second: &str) -> Position
 {
     let begin = Position { line: 1, column: 1 };
     behind(behind(begin, first), second)
+}
+
+// Needs lalrpop_lexer::Position::after_bytes: place, fits.
+/// The line after bytes that begin at a place, if both numbers of the place after them fit.
+pub fn line_after(place: Position, bytes: &[u8]) -> Option<usize>
+    ensures some { IsSome result ↔ Fits (moved place (byte_place bytes.now)) }
+    ensures line { IfSome result (λ line. line ≡ (moved place (byte_place bytes.now)).line) }
+{
+    match place.after_bytes(bytes) {
+        Some(end) => Some(end.line),
+        None => None,
+    }
 }
 
 // Needs lalrpop_lexer::Position::then: place, fits.

@@ -1,9 +1,7 @@
 //! A text comes in chunks, and is put together again from its pieces.
-ghost use Rattle.std.specs.Prelude.{◌≡◌, ◌++◌, ◌⊎◌, List, ℕ, [], true, false, length, string_bytes, take, slice_get, Some, IfOk, OnOk, OnErr, IfSome, IfNone};
+ghost use Rattle.std.specs.Prelude.{◌≡◌, ◌++◌, ◌⊎◌, List, ℕ, [], true, false, length, take, slice_get, Some, IfOk, OnOk, OnErr, IfSome, IfNone};
 ghost use Rattle.std.specs.Borrow.{Bor};
-ghost use Rattle.std.specs.Str.{chars};
-ghost use Rattle.lalrpop_hir.specs.Winners.{Matched};
-ghost use Rattle.bajofeki.specs.Chunked.{Came, IsHeldBack, BeginsFault};
+ghost use Rattle.bajofeki.specs.Chunked.{Came, IsHeldBack, BeginsFault, MayBegin};
 ghost use Rattle.lalrpop_rules.specs.Modes.{ArePiecesFrom, ModeRules, trees_in};
 ghost use Rattle.lalrpop_rules.specs.Found.{MatchesAt};
 ghost use Rattle.bajofeki_rules.specs.Stack.{Stack, start};
@@ -17,7 +15,7 @@ use std::alloc::Global;
 
 // Needs bajofeki::Stream::is_ended: ended; bajofeki::Stream::feed: fed, refused.
 /// Whether a chunk came: not if the text has ended, or memory was refused.
-pub fn feed_if_open(chunks: &mut Stream<'_>, chunk: &str) -> bool
+pub fn feed_if_open(chunks: &mut Stream<'_>, chunk: &[u8]) -> bool
     ensures came { result ≡ true
         → chunks.new ≡ record chunks.old { last = []; rest = chunks.old.rest ++ chunk.now } }
     ensures same { result ≡ false → chunks.new ≡ chunks.old }
@@ -30,17 +28,17 @@ pub fn feed_if_open(chunks: &mut Stream<'_>, chunk: &str) -> bool
 
 // Needs bajofeki::Stream::next_piece: gives; bajofeki::Stream::slice: slice.
 // Appends the pieces that no later chunk can change.
-fn take_pieces(chunks: &mut Stream<'_>, whole: &mut String) -> Result<(), EditError>
+fn take_pieces(chunks: &mut Stream<'_>, whole: &mut Vec<u8>) -> Result<(), EditError>
     ensures taken { OnOk result ((r : ModeRules) (text : List ℕ) (xs : List ItemValue)
-        → Came r text xs chunks.old → string_bytes whole.old ≡ joined xs
+        → Came r text xs chunks.old → whole.old.items ≡ joined xs
         → (ys : List ItemValue) × (Came r text ys chunks.new
-        × (string_bytes whole.new ≡ joined ys))) }
+        × (whole.new.items ≡ joined ys))) }
     ensures held { OnOk result (IsHeldBack chunks.new) }
     ensures ended { OnOk result (chunks.new.is_ended ≡ chunks.old.is_ended) }
 {
     'pieces: loop {
         match chunks.next_piece()? {
-            Some(_) => whole.push_str(chunks.slice())?,
+            Some(_) => whole.extend_from_slice(chunks.slice())?,
             None => return Ok(()),
         }
     }
@@ -75,9 +73,9 @@ pub fn place_of(piece: &GivenPiece, slice: &str) -> (usize, usize)
 // Needs bajofeki::Stream::mode: mode; bajofeki::Stream::rest: rest.
 // Needs bajofeki::Stream::begins_fault: yes, no.
 /// The mode in which some rule may match what is left, and what is left. None if nothing is, or if a fault begins there.
-pub fn match_to_come<'text>(chunks: &'text Stream<'_>) -> Option<(usize, &'text str)>
+pub fn match_to_come<'text>(chunks: &'text Stream<'_>) -> Option<(usize, &'text [u8])>
     ensures may { IfSome result (λ m. MatchesAt (trees_in chunks.now.rules m.0) m.1.now 0
-        ⊎ ((v : List ℕ) × Matched (trees_in chunks.now.rules m.0) (chars m.1.now ++ v))) }
+        ⊎ MayBegin (trees_in chunks.now.rules m.0) m.1.now) }
     ensures none { IfNone result ((chunks.now.rest ≡ []) ⊎ BeginsFault chunks.now) }
 {
     let rest = chunks.rest();
@@ -97,16 +95,16 @@ pub fn match_to_come<'text>(chunks: &'text Stream<'_>) -> Option<(usize, &'text 
 pub fn put_together(
     alloc: Global,
     lexer: &RuleLexer,
-    front: &str,
-    back: &str,
-) -> Result<String, EditError>
-    ensures whole { IfOk result (λ whole. string_bytes whole ≡ front.now ++ back.now) }
+    front: &[u8],
+    back: &[u8],
+) -> Result<Vec<u8>, EditError>
+    ensures whole { IfOk result (λ whole. whole.items ≡ front.now ++ back.now) }
     ensures pieces { IfOk result (λ whole. (xs : List ItemValue) × ((end : Stack)
         × (ArePiecesFrom lexer.now (front.now ++ back.now) 0 start xs end
-        × (string_bytes whole ≡ joined xs)))) }
+        × (whole.items ≡ joined xs)))) }
 {
     let mut chunks = Stream::new(alloc, lexer);
-    let mut whole = String::new(alloc);
+    let mut whole = Vec::new(alloc);
     chunks.feed(front)?;
     take_pieces(&mut chunks, &mut whole)?;
     chunks.feed(back)?;
@@ -121,13 +119,13 @@ pub fn put_together(
 /// # Errors
 ///
 /// `OutOfMemory`, or `TooLarge` for a text of 2^64 bytes.
-pub fn first_pieces(alloc: Global, lexer: &RuleLexer, front: &str) -> Result<String, EditError>
+pub fn first_pieces(alloc: Global, lexer: &RuleLexer, front: &[u8]) -> Result<Vec<u8>, EditError>
     ensures begins { IfOk result (λ first. (back : List ℕ) (ys : List ItemValue) (end : Stack)
         → ArePiecesFrom lexer.now (front.now ++ back) 0 start ys end
-        → (n : ℕ) × (string_bytes first ≡ joined (take n ys))) }
+        → (n : ℕ) × (first.items ≡ joined (take n ys))) }
 {
     let mut chunks = Stream::new(alloc, lexer);
-    let mut first = String::new(alloc);
+    let mut first = Vec::new(alloc);
     chunks.feed(front)?;
     take_pieces(&mut chunks, &mut first)?;
     Ok(first)
@@ -142,7 +140,7 @@ pub fn first_pieces(alloc: Global, lexer: &RuleLexer, front: &str) -> Result<Str
 pub fn place_of_fault(
     alloc: Global,
     lexer: &RuleLexer,
-    front: &str,
+    front: &[u8],
 ) -> Result<Option<usize>, EditError>
     ensures fault { IfOk result (λ found. IfSome found (λ at. (back : List ℕ)
         (ys : List ItemValue) (end : Stack)
@@ -150,11 +148,11 @@ pub fn place_of_fault(
         → (n : ℕ) × ((slice : Bor (List ℕ)) × (slice_get ys n ≡ Some (Fault at slice))))) }
 {
     let mut chunks = Stream::new(alloc, lexer);
-    let mut before = String::new(alloc);
+    let mut before = Vec::new(alloc);
     chunks.feed(front)?;
     take_pieces(&mut chunks, &mut before)?;
     if !chunks.begins_fault() {
         return Ok(None);
     }
-    Ok(Some(before.as_str().len()))
+    Ok(Some(before.len()))
 }

@@ -18,7 +18,6 @@ pub mod cut_by_numbers;
 pub mod cut_by_rules;
 pub mod cut_in_bounded_time;
 pub mod cut_ranges;
-pub mod decode_chunks;
 pub mod edit_a_text;
 pub mod edit_cost;
 pub mod escape_texts;

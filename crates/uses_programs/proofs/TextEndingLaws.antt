@@ -1,21 +1,23 @@
 -- How a text in memory ends, by what a lexer knows.
-use Rattle.std.proofs.Common.{◌≡◌, ◌≢◌, ℕ, zero, suc, ◌+◌, ◌≤◌, ◌<◌, Bool, true, false, cond, List, [], ◌∷◌, ◌++◌, Some, None, inl, inr, length, take, drop, refl, sym, ap, ◌∙◌, subst, append-nil, append_assoc, length-append, arith}
+use Rattle.std.proofs.Common.{◌≡◌, ◌≢◌, ℕ, zero, suc, ◌+◌, ◌≤◌, ◌<◌, ◌⊎◌, Bool, true, false, cond, List, [], ◌∷◌, ◌++◌, Some, None, inl, inr, length, take, drop, refl, sym, ap, ◌∙◌, subst, append-nil, append_assoc, length-append, arith}
 use Rattle.std.specs.Prelude.{Option, is_some, slice_get}
 use Rattle.std.specs.Bool.{then_some}
 use Rattle.std.specs.Borrow.{Bor}
 use Rattle.std.specs.Io.KnownBytes.{Consumes, IsAtEnd}
-use Rattle.std.specs.Str.{IsUtf8, bytes_eq, chars}
-use Rattle.std.proofs.Math.Seq.{take-length}
-use Rattle.std.proofs.lemmas.List.{take-append-drop, take_at, drop_at}
+use Rattle.std.specs.Str.{IsUtf8, bytes_eq, chars, encode_utf8_all}
+use Rattle.std.specs.Char.{encode_utf8}
+use Rattle.std.proofs.iter.TextItems.{one_code}
+use Rattle.std.proofs.lemmas.List.{take-append-drop, take-append-le, take_at, drop_at}
 use Rattle.std.proofs.lemmas.Slice.Eq.{bytes_eq-Decides}
-use Rattle.std.proofs.lemmas.Str.{IsCharBoundary-from_take, IsUtf8-append, IsUtf8-drop, IsUtf8-nil, chars-append}
+use Rattle.std.proofs.lemmas.Str.{IsUtf8-append, IsUtf8-encode, IsUtf8-nil, chars-append}
+use Rattle.std.proofs.lemmas.Bool.{cases_order}
 use Rattle.lalrpop_hir.specs.Prefix.{IsPrefix}
 use Rattle.bajofeki_rules.specs.Stack.{Stack, start}
 use Rattle.bajofeki_rules.specs.declared.action.Action.{Action}
 use Rattle.bajofeki_rules.specs.declared.position.Position.{Position}
-use Rattle.bajofeki_rules.specs.Position.{position_of}
-use Rattle.bajofeki.specs.Chunked.{Chunked, BeginsFault}
-use Rattle.bajofeki.specs.Decoded.{NoCharacter}
+use Rattle.bajofeki_rules.specs.Position.{byte_place_of}
+use Rattle.bajofeki.specs.Chunked.{Chunked, BeginsFault, Came}
+use Rattle.bajofeki.specs.Begun.{NoCharacter}
 use Rattle.bajofeki.proofs.ChunkLaws.{came_rest, came_to, fault_follows}
 use Rattle.bajofeki.proofs.Chunking.{ArePiecesTo, begin_all}
 use Rattle.lalrpop_rule_file.specs.RuleFile.{without_mark}
@@ -24,23 +26,22 @@ use Rattle.lalrpop_rules.specs.Pieces.{AreSame, IsSame, joined, slice_of, start_
 use Rattle.lalrpop_rules.specs.declared.item.Item.{Item}
 use Rattle.lalrpop_rules.specs.declared.item.Item.TheVariants.{Token, Skipped, Fault}
 use Rattle.lalrpop_rules.proofs.ModePieces.{pieces-from-unique, same_after}
-use Rattle.lalrpop_rules.proofs.PieceLaws.{is_front}
+use Rattle.lalrpop_rules.proofs.PieceLaws.{is_front, utf8_behind}
 use Rattle.lalrpop_rules.proofs.CallerLaws.{starts_at}
-use Rattle.lexdfa_lib.specs.Streams.{AtEnd, EndsReading, Failed, LeftOff, NotOpened, ReadEnd, Reading, Reads, Stream, opened}
+use Rattle.lexdfa_lib.specs.Streams.{AtEnd, EndsReading, ReadEnd, Reading, Reads, Stream, opened}
 use Rattle.reports_lib.specs.Answer.{Answer}
 use Rattle.reports_lib.specs.ItemLines.{fault_line, line_at, line_in, mode_named, name_at, piece_line, piece_lines}
 use Rattle.reports_lib.specs.declared.layout.LineForm.{LineForm}
-use Rattle.tokens_lib.specs.CutEnds.{AreGiven, BreaksOff, IsCutTo, IsTextOf, first_fault}
+use Rattle.tokens_lib.specs.CutEnds.{AreGiven, IsCutTo, IsFound, IsFoundNext, first_fault}
 use Rattle.tokens_lib.specs.OpenModes.{open_after, open_behind, open_mode}
 use Rattle.tokens_lib.specs.TextAnswer.{PiecesAnswer, cut_status, cut_text, lines_of}
 use Rattle.tokens_lib.specs.declared.cut_end.CutEnd.{CutEnd}
-use Rattle.tokens_lib.specs.declared.cut_end.CutEnd.TheVariants.{Whole, Stopped, Broken}
+use Rattle.tokens_lib.specs.declared.cut_end.CutEnd.TheVariants.{Whole, Stopped, Unread}
+use Rattle.tokens_lib.specs.declared.cut_end.Found.{Found}
+use Rattle.tokens_lib.specs.declared.cut_end.Found.TheVariants.{Character, Byte}
 use Rattle.tokens_lib.specs.declared.cut_end.OpenMode.{OpenMode}
-use Rattle.tokens_lib.specs.declared.cut_end.TextError.{TextError}
-use Rattle.tokens_lib.specs.declared.cut_end.TextError.TheVariants.{NotText}
-use Rattle.tokens_lib.proofs.Incomings.{mark_settled, no_mark}
 use Rattle.tokens_lib.proofs.CutLaws.{place_stays, place_within}
-use Rattle.uses_programs.specs.Endings.{AreAllPieces, Begins, TextEnds, Way, cut_answer, whole_end}
+use Rattle.uses_programs.specs.Endings.{AreAllPieces, TextEnds, Way, cut_answer, whole_end}
 
 -- ---- pieces that are the same
 
@@ -93,16 +94,62 @@ module _ (form : LineForm) (file : Option (List ℕ)) (modes : List (List ℕ)) 
   line_stays true mode (Fault at slice) le = ap (λ (p : Position). line_in form file p at None mode slice.now) (place_stays text more at le)
   line_stays false mode (Fault at slice) le = refl
 
-  -- what comes changes no line before a fault that begins in the text; and its characters stand there
+  -- what comes changes no line before a fault that begins in the text
   lines_stay : (recovers : Bool) (k : ℕ) (s : Stack) (xs ys : List Item) (at : ℕ) (slice : Bor (List ℕ)) (end : Stack) → ArePiecesFrom r (text ++ more) k s (xs ++ Fault at slice ∷ ys) end
-      → at ≤ length text → (k ≤ at) × ((piece_lines form recovers file modes r (text ++ more) s xs ≡ piece_lines form recovers file modes r text s xs) × IsPrefix slice.now (drop at (text ++ more)))
+      → at ≤ length text → (k ≤ at) × (piece_lines form recovers file modes r (text ++ more) s xs ≡ piece_lines form recovers file modes r text s xs)
   lines_stay recovers k s [] ys at slice end pieces le =
-      let here : at ≡ k = pieces.0.0 in (omega (arith, here), (refl, subst (λ (n : ℕ). IsPrefix slice.now (drop n (text ++ more))) (sym here) pieces.0.1.front))
+      let here : at ≡ k = pieces.0.0 in (omega (arith, here), refl)
   lines_stay recovers k s (x ∷ xs) ys at slice end pieces le =
       let rest = lines_stay recovers (k + length (slice_of x)) (after r.actions x s) xs ys at slice end pieces.1 le in
       let begin = starts_at (trees_in r s.mode) r.precedences r.skips (text ++ more) k x pieces.0 in
       let line = line_stays recovers (mode_named modes s.mode) x (omega (arith, begin, rest.0, le)) in
-      (omega (arith, rest.0), (cc (line, rest.1.0), rest.1.1))
+      (omega (arith, rest.0), cc (line, rest.1))
+
+-- ---- what is found at the front of some bytes
+
+-- of two beginnings of one text, one begins the other
+shorter : (p q r s : List ℕ) → p ++ r ≡ q ++ s → length p ≤ length q → (more : List ℕ) × (q ≡ p ++ more)
+shorter p q r s same less = (drop (length p) q, sym (take-append-drop (length p) q) ∙ ap (λ (l : List ℕ). l ++ drop (length p) q) front)
+  where
+    front : take (length p) q ≡ p
+    front = sym (take-append-le (length p) q s less) ∙ ap (take (length p)) (sym same) ∙ take_at p r (length p) refl
+
+-- a text of one character that begins another of one has the same
+same_character : (p q r s : List ℕ) (c d : ℕ) → p ++ r ≡ q ++ s → length p ≤ length q → IsUtf8 p → chars p ≡ c ∷ [] → chars q ≡ d ∷ [] → c ≡ d
+same_character p q r s c d same less utf8 is of =
+    let longer = shorter p q r s same less in
+    let both : c ∷ chars longer.0 ≡ d ∷ [] = ap (λ (l : List ℕ). l ++ chars longer.0) (sym is) ∙ sym (chars-append p longer.0 utf8) ∙ ap chars (sym longer.1) ∙ of in
+    cc (both)
+
+-- there is a byte of a character
+some_of_one : (p : List ℕ) (c : ℕ) → chars p ≡ c ∷ [] → p ≢ []
+unfolding chars
+some_of_one p c is none = let e : [] ≡ c ∷ [] = sym (ap chars none) ∙ is in cc (e)
+
+some_length : (p : List ℕ) → p ≢ [] → 0 < length p
+some_length [] some = absurd (some refl)
+some_length (b ∷ p) some = omega arith
+
+no_character_there : (bytes p : List ℕ) (c : ℕ) → NoCharacter bytes → IsPrefix p bytes → chars p ≡ c ∷ [] → ⊥
+no_character_there bytes p c none (rest, (is, utf8)) one =
+    none (length p) (some_length p (some_of_one p c one)) (omega (arith, ap length is, length-append p rest))
+    (subst IsUtf8 (sym (ap (take (length p)) is ∙ take_at p rest (length p) refl)) utf8)
+
+-- it is one
+one_found : (bytes : List ℕ) (x y : Found) → IsFound bytes x → IsFound bytes y → x ≡ y
+one_found bytes (Character c) (Character d) (p, ((r, (is, utf8)), one)) (q, ((s, (too, utf8_too)), other)) = elim (le_or (length p) (length q)) [
+  | inl less ↦ ap Character (same_character p q r s c d (sym is ∙ too) less utf8 one other)
+  | inr more ↦ ap Character (sym (same_character q p s r d c (sym too ∙ is) more utf8_too other one))
+]
+  where
+    le_or : (n m : ℕ) → (n ≤ m) ⊎ (m ≤ n)
+    le_or n m = elim (cases_order n m) [
+      | inl same ↦ inl (omega (arith, same))
+      | inr other ↦ elim other [ inl less ↦ inl (omega (arith, less)) | inr more ↦ inr (omega (arith, more)) ]
+    ]
+one_found bytes (Character c) (Byte b) (p, (prefix, one)) (none, is) = absurd (no_character_there bytes p c none prefix one)
+one_found bytes (Byte b) (Character c) (none, is) (p, (prefix, one)) = absurd (no_character_there bytes p c none prefix one)
+one_found bytes (Byte b) (Byte d) (none, (r, is)) (too, (s, so)) = let both : b ∷ r ≡ d ∷ s = sym is ∙ so in ap Byte (cc (both))
 
 -- ---- a text after the bytes that were read
 
@@ -114,71 +161,98 @@ by_list : (l : List ℕ) {P : Type 0} → (l ≡ [] → P) → (l ≢ [] → P) 
 by_list [] none some = none refl
 by_list (x ∷ l) none some = some (λ is. cc (is))
 
--- no byte order mark is made of what was read by what comes
-settled : (bytes front left more : List ℕ) → IsTextOf bytes front left → (front ≡ [] → NoCharacter (left ++ more)) → without_mark (bytes ++ more) ≡ front ++ (left ++ more)
-settled bytes front left more is none_there = by_test (bytes_eq (take 3 bytes) (239 ∷ 187 ∷ 191 ∷ [])) marked plain
+abbrev mark : List ℕ
+mark = 239 ∷ 187 ∷ 191 ∷ []
+
+marked : (bytes : List ℕ) → bytes_eq (take 3 bytes) mark ≡ true → bytes ≡ mark ++ drop 3 bytes
+marked bytes is_so = sym (take-append-drop 3 bytes) ∙ ap (λ (l : List ℕ). l ++ drop 3 bytes) ((bytes_eq-Decides (take 3 bytes) mark).0 is_so)
+
+mark_is : encode_utf8 65279 ≡ mark
+unfolding encode_utf8
+mark_is = refl
+
+-- a text that begins a mark, and isn't empty, is all of it
+whole_mark : (cs p rest : List ℕ) → encode_utf8_all cs ≡ p → p ≢ [] → p ++ rest ≡ mark → (behind : List ℕ) × (p ≡ mark ++ behind)
+whole_mark [] p rest is some all = absurd (some (sym is))
+whole_mark (c ∷ cs) p rest is some all =
+    let begin : encode_utf8 c ++ (encode_utf8_all cs ++ rest) ≡ encode_utf8 65279 ++ [] =
+    sym (append_assoc (encode_utf8 c) (encode_utf8_all cs) rest) ∙ ap (λ (l : List ℕ). l ++ rest) is ∙ all ∙ sym mark_is ∙ sym (append-nil (encode_utf8 65279)) in
+    let same : c ≡ 65279 = (one_code c 65279 (encode_utf8_all cs ++ rest) [] begin).0 in
+    (encode_utf8_all cs, sym is ∙ ap (λ (l : List ℕ). l ++ encode_utf8_all cs) (ap encode_utf8 same ∙ mark_is))
+
+-- so none is shorter
+no_short_mark : (p rest : List ℕ) → IsUtf8 p → p ≢ [] → p ++ rest ≡ mark → length p < 3 → ⊥
+no_short_mark p rest utf8 some is short =
+    let whole = whole_mark utf8.0 p rest utf8.1.1 some is in omega (arith, short, ap length whole.1, length-append mark whole.0)
+
+utf8_of_mark : IsUtf8 mark
+utf8_of_mark = subst IsUtf8 mark_is (IsUtf8-encode 65279 refl)
+
+-- pieces of a text are text
+joined_utf8 : (r : ModeRules) (text : List ℕ) (at : ℕ) (s : Stack) (xs : List Item) (to : ℕ) (t : Stack) → IsUtf8 (drop at text) → ArePiecesTo r text at s xs to t
+    → IsUtf8 (joined xs)
+joined_utf8 r text at s [] to t utf8 are = IsUtf8-nil
+joined_utf8 r text at s (x ∷ xs) to t utf8 are =
+    let front = is_front (trees_in r s.mode) r.precedences r.skips text at x utf8 are.0 in
+    IsUtf8-append (slice_of x) (joined xs) front.1.1
+    (joined_utf8 r text (at + length (slice_of x)) (after r.actions x s) xs to t (utf8_behind text at (slice_of x) utf8 front) are.1)
+
+-- what stops in the bytes that were read begins no byte order mark
+module _ (r : ModeRules) (bytes : List ℕ) (xs : List Item) (k : Chunked) (found : Found) (came : Came r bytes xs k) (goes : k.is_ended ≡ false) (some : k.rest ≢ [])
+    (next : IsFoundNext k found) where
+  may : (more : List ℕ) → k.is_ended ≡ true → more ≡ []
+  may more over = absurd (let e : true ≡ false = sym over ∙ goes in cc (e))
+
+  short_joined : length bytes < 3 → length (joined xs) < 3
+  short_joined short = omega (arith, short, ap length (came_rest r bytes xs k came).0, length-append (joined xs) k.rest)
+
+  by_found : (f : Found) → IsFound k.rest f → IsFound mark f → length k.rest < 3 → (more : List ℕ) → k.rest ++ more ≡ mark → ⊥
+  by_found (Character c) (p, ((rest, (is, utf8)), one)) of_mark short more whole =
+      no_short_mark p (rest ++ more) utf8 (some_of_one p c one) (sym (append_assoc p rest more) ∙ ap (λ (l : List ℕ). l ++ more) (sym is) ∙ whole)
+      (omega (arith, short, ap length is, length-append p rest))
+  by_found (Byte b) own (none, is) short more whole = none 3 (omega arith) (omega arith) utf8_of_mark
+
+  begins_no_mark : (more : List ℕ) → bytes ++ more ≡ mark → length bytes < 3 → ⊥
+  begins_no_mark more whole short =
+      let so_far = (came_rest r bytes xs k came).0 in
+      let all : joined xs ++ (k.rest ++ more) ≡ mark = sym (append_assoc (joined xs) k.rest more) ∙ ap (λ (l : List ℕ). l ++ more) (sym so_far) ∙ whole in
+      let utf8 = joined_utf8 r (bytes ++ more) 0 start xs k.at k.stack (subst IsUtf8 (sym whole) utf8_of_mark) (came_to r bytes xs k came more (may more)) in
+      by_list (joined xs)
+      (λ none.
+      let rest_is : k.rest ++ more ≡ mark = ap (λ (l : List ℕ). l ++ (k.rest ++ more)) (sym none) ∙ all in
+      let own : IsFound k.rest found = subst (λ (l : List ℕ). IsFound l found) (append-nil k.rest) (next [] (may [])) in
+      by_found found own (subst (λ (l : List ℕ). IsFound l found) rest_is (next more (may more)))
+      (omega (arith, short, ap length so_far, length-append (joined xs) k.rest)) more rest_is)
+      (λ full. no_short_mark (joined xs) (k.rest ++ more) utf8 full all (short_joined short))
+
+-- so the text goes on as the bytes do
+settled : (bytes more : List ℕ) → ((tail : List ℕ) → bytes ++ tail ≡ mark → length bytes < 3 → ⊥) → without_mark (bytes ++ more) ≡ without_mark bytes ++ more
+settled bytes more no_mark = by_test (bytes_eq (take 3 bytes) mark)
+    (λ is_so. subst (λ (s : List ℕ). without_mark (s ++ more) ≡ without_mark s ++ more) (sym (marked bytes is_so)) refl)
+    (λ not_so. ap (λ (b : Bool). cond b (drop 3 (bytes ++ more)) (bytes ++ more)) (still not_so) ∙ ap (λ (l : List ℕ). l ++ more) (sym (ap (λ (b : Bool). cond b (drop 3 bytes) bytes) not_so)))
   where
-    marked : bytes_eq (take 3 bytes) (239 ∷ 187 ∷ 191 ∷ []) ≡ true → without_mark (bytes ++ more) ≡ front ++ (left ++ more)
-    marked is_so =
-        let whole : bytes ≡ (239 ∷ 187 ∷ 191 ∷ []) ++ drop 3 bytes =
-        sym (take-append-drop 3 bytes) ∙ ap (λ (l : List ℕ). l ++ drop 3 bytes) ((bytes_eq-Decides (take 3 bytes) (239 ∷ 187 ∷ 191 ∷ [])).0 is_so) in
-        let behind : without_mark (bytes ++ more) ≡ without_mark bytes ++ more = subst (λ (s : List ℕ). without_mark (s ++ more) ≡ without_mark s ++ more) (sym whole) refl in
-        behind ∙ ap (λ (l : List ℕ). l ++ more) is.0 ∙ append_assoc front left more
+    still : bytes_eq (take 3 bytes) mark ≡ false → bytes_eq (take 3 (bytes ++ more)) mark ≡ false
+    still not_so = by_test (bytes_eq (take 3 (bytes ++ more)) mark) (λ is_so. absurd (by_size is_so (cases_order (length bytes) 3))) (λ same. same)
+      where
+        is_front : bytes_eq (take 3 (bytes ++ more)) mark ≡ true → 3 ≤ length bytes → bytes_eq (take 3 bytes) mark ≡ true
+        is_front is_so long = ap (λ (l : List ℕ). bytes_eq l mark) (sym (take-append-le 3 bytes more long)) ∙ is_so
 
-    plain : bytes_eq (take 3 bytes) (239 ∷ 187 ∷ 191 ∷ []) ≡ false → without_mark (bytes ++ more) ≡ front ++ (left ++ more)
-    plain not_so =
-        let own : bytes ≡ front ++ left = sym (ap (λ (b : Bool). cond b (drop 3 bytes) bytes) not_so) ∙ is.0 in
-        let all : without_mark (bytes ++ more) ≡ without_mark (front ++ (left ++ more)) = ap without_mark (ap (λ (l : List ℕ). l ++ more) own ∙ append_assoc front left more) in
-        all ∙ by_list front
-        (λ none. ap (λ (l : List ℕ). without_mark (l ++ (left ++ more))) none ∙ no_mark (left ++ more) (none_there none) ∙ ap (λ (l : List ℕ). l ++ (left ++ more)) (sym none))
-        (λ some.
-        let same : without_mark front ++ left ≡ front ++ left = sym (mark_settled front left is.1.0 some) ∙ sym (ap without_mark own) ∙ is.0 in
-        mark_settled front (left ++ more) is.1.0 some ∙ sym (append_assoc (without_mark front) left more) ∙ ap (λ (l : List ℕ). l ++ more) same ∙ append_assoc front left more)
+        true_not : bytes_eq (take 3 bytes) mark ≡ true → ⊥
+        true_not is_so = let e : true ≡ false = sym is_so ∙ not_so in cc (e)
 
-rest_utf8 : (front rest : List ℕ) → IsUtf8 (front ++ rest) → IsUtf8 front → IsUtf8 rest
-rest_utf8 front rest all first =
-    let seam = IsCharBoundary-from_take (front ++ rest) (length front) all (omega (arith, length-append front rest)) (subst IsUtf8 (sym (take_at front rest (length front) refl)) first) in
-    subst IsUtf8 (drop_at front rest (length front) refl) (IsUtf8-drop (front ++ rest) (length front) all seam)
-
--- after a text none begins where no character does
-no_text : (front rest : List ℕ) → IsUtf8 front → rest ≢ [] → NoCharacter rest → ¬ IsUtf8 (front ++ rest)
-no_text front rest first some none all = none (length rest) (size rest some) (omega arith) (subst IsUtf8 (sym (take-length rest)) (rest_utf8 front rest all first))
-  where
-    size : (l : List ℕ) → l ≢ [] → 0 < length l
-    size [] some = absurd (some refl)
-    size (x ∷ l) some = omega arith
-
-first_of : (l m : List ℕ) (x : ℕ) → take 1 l ≡ x ∷ [] → take 1 (l ++ m) ≡ x ∷ []
-first_of [] m x is = absurd (cc (is))
-first_of (z ∷ l) m x is = is
-
--- a text begins with one character
-one_first : (a b more tail : List ℕ) (x y : ℕ) → a ++ more ≡ b ++ tail → IsUtf8 a → IsUtf8 b → take 1 (chars a) ≡ x ∷ [] → take 1 (chars b) ≡ y ∷ [] → x ≡ y
-one_first a b more tail x y same own its is of =
-    let one : x ∷ [] ≡ y ∷ [] =
-    sym (first_of (chars a) (chars more) x is) ∙ ap (take 1) (sym (chars-append a more own) ∙ ap chars same ∙ chars-append b tail its) ∙ first_of (chars b) (chars tail) y of in
-    cc (one)
+        by_size : bytes_eq (take 3 (bytes ++ more)) mark ≡ true → (length bytes ≡ 3) ⊎ ((length bytes < 3) ⊎ (3 < length bytes)) → ⊥
+        by_size is_so (inr (inl short)) =
+            let whole = marked (bytes ++ more) is_so in
+            let longer = shorter bytes mark more (drop 3 (bytes ++ more)) whole (omega (arith, short)) in
+            no_mark longer.0 (sym longer.1) short
+        by_size is_so (inl same) = true_not (is_front is_so (omega (arith, same)))
+        by_size is_so (inr (inr longer)) = true_not (is_front is_so (omega (arith, longer)))
 
 -- ---- what memory gives
 
 some_read : (all bytes : List ℕ) (left : Option (List ℕ)) → Consumes (Some all) left bytes → (rest : List ℕ) × ((all ≡ bytes ++ rest) × (IsAtEnd left → rest ≡ []))
 some_read all bytes None read = absurd read
 some_read all bytes (Some ys) read = (ys, (read, λ end. end))
-
--- no read of it fails: where it breaks off, bytes are left that are no text, whatever follows
-breaks_off : (old new : Stream) (end : ReadEnd) (front left rest : List ℕ) (error : TextError) → old.may_fail ≡ false → EndsReading old new end → BreaksOff end front left error
-    → (end ≡ AtEnd → rest ≡ []) → (left ≢ []) × ((error ≡ NotText (length front)) × NoCharacter (left ++ rest))
-breaks_off old new AtEnd front left rest error safe ends breaks whole =
-    (breaks.1.0, (breaks.1.1, subst (λ (l : List ℕ). NoCharacter l) (sym (ap (λ (l : List ℕ). left ++ l) (whole refl) ∙ append-nil left)) breaks.0.0))
-breaks_off old new Failed front left rest error safe ends breaks whole = absurd (cc (safe, ends.0))
-breaks_off old new (NotOpened reason) front left rest error safe ends breaks whole = absurd ends
-breaks_off old new LeftOff front left rest error safe ends breaks whole = (breaks.0.0, (breaks.1, breaks.0.1 rest))
-
--- pieces are text
-joined_utf8 : (r : ModeRules) (text : List ℕ) (at : ℕ) (s : Stack) (xs : List Item) (to : ℕ) (t : Stack) → ArePiecesTo r text at s xs to t → IsUtf8 (joined xs)
-joined_utf8 r text at s [] to t are = IsUtf8-nil
-joined_utf8 r text at s (x ∷ xs) to t are =
-    IsUtf8-append (slice_of x) (joined xs) (is_front (trees_in r s.mode) r.precedences r.skips text at x are.0).1.1 (joined_utf8 r text (at + length (slice_of x)) (after r.actions x s) xs to t are.1)
 
 no_fault_behind : (x : Item) (xs : List Item) → first_fault (x ∷ xs) ≡ None → first_fault xs ≡ None
 no_fault_behind (Token token) xs none = none
@@ -231,28 +305,29 @@ clean_end r modes way text xs end no_fault closed =
     let of : Option ℕ → List ℕ → Answer = λ o l. cut_answer r modes way (without_mark text) xs (Whole (is_some o) (open_mode (without_mark text) end.mode l)) in
     ap (λ (o : Option ℕ). of o (open_behind r.actions xs [])) no_fault ∙ ap (of None) closed
 
-module _ (r : ModeRules) (modes : List (List ℕ)) (way : Way) (text : List ℕ) (left : Stream) (reading : Reading) (front rest : List ℕ) (xs : List Item)
-    (reads : Reads (opened (Some text) false) left reading) (is_text : IsTextOf reading.bytes front rest) where
-  begins : Begins text front rest reading
-  begins =
-      let more = some_read text reading.bytes left.bytes reads.0 in record {
-        rest = more.0;
-        read = more.1.0;
-        whole = λ ends. let at_end = subst (λ (e : ReadEnd). EndsReading (opened (Some text) false) left e) ends reads.1 in more.1.1 at_end.1.1;
-        is_text = is_text;
-      }
+module _ (r : ModeRules) (modes : List (List ℕ)) (way : Way) (text : List ℕ) (left : Stream) (reading : Reading) (xs : List Item)
+    (reads : Reads (opened (Some text) false) left reading) where
+  abbrev front : List ℕ
+  front = without_mark reading.bytes
 
-  whole_text : reading.end ≡ AtEnd → rest ≡ [] → without_mark text ≡ front
-  whole_text ends none =
-      let read : text ≡ reading.bytes = begins.read ∙ ap (λ (l : List ℕ). reading.bytes ++ l) (begins.whole ends) ∙ append-nil reading.bytes in
-      ap without_mark read ∙ is_text.0 ∙ ap (λ (l : List ℕ). front ++ l) none ∙ append-nil front
+  -- what isn't read
+  unread : (rest : List ℕ) × ((text ≡ reading.bytes ++ rest) × (reading.end ≡ AtEnd → rest ≡ []))
+  unread =
+      let more = some_read text reading.bytes left.bytes reads.0 in
+      (more.0, (more.1.0, λ ends. let at_end = subst (λ (e : ReadEnd). EndsReading (opened (Some text) false) left e) ends reads.1 in more.1.1 at_end.1.1))
+
+  abbrev more : List ℕ
+  more = unread.0
+
+  whole_text : reading.end ≡ AtEnd → without_mark text ≡ front
+  whole_text ends = ap without_mark (unread.1.0 ∙ ap (λ (l : List ℕ). reading.bytes ++ l) (unread.1.1 ends) ∙ append-nil reading.bytes)
 
   -- by all its pieces, where it is cut whole
-  is_whole : (has : Bool) (inside : Option OpenMode) → IsCutTo r way.recovers reading front rest xs (Whole has inside) → (ys : List Item) (end : Stack) → AreAllPieces r text ys end
+  is_whole : (has : Bool) (inside : Option OpenMode) → IsCutTo r way.recovers reading front xs (Whole has inside) → (ys : List Item) (end : Stack) → AreAllPieces r text ys end
       → (has ≡ is_some (first_fault ys)) × (cut_answer r modes way front xs (Whole has inside) ≡ cut_answer r modes way (without_mark text) ys (whole_end r text ys end))
-  is_whole has inside (ends, (none, (last, (pieces, (has_is, (past, inside_is)))))) ys end all =
-      let own = whole_text ends none in
-      let same = pieces-from-unique r (without_mark text) 0 start xs ys last end (subst (λ (t : List ℕ). ArePiecesFrom r t 0 start xs last) (sym own) pieces) all.pieces in
+  is_whole has inside (ends, (last, (pieces, (has_is, (past, inside_is))))) ys end all =
+      let own = whole_text ends in
+      let same = pieces-from-unique r (without_mark text) 0 start xs ys last end (subst (λ (t : List ℕ). ArePiecesFrom r t 0 start xs last) (sym own) pieces) all in
       let fault : has ≡ is_some (first_fault ys) = has_is ∙ ap (λ (o : Option ℕ). is_some o) (same_fault xs ys same.0) in
       let open_at : inside ≡ open_mode (without_mark text) end.mode (open_behind r.actions ys []) =
       inside_is ∙ ap (λ (t : List ℕ). open_mode t last.mode (open_behind r.actions xs [])) (sym own)
@@ -269,89 +344,73 @@ module _ (r : ModeRules) (modes : List (List ℕ)) (way : Way) (text : List ℕ)
       )
 
   -- by a fault, where cutting stops
-  may_come : (k : Chunked) → AreGiven r way.recovers reading front rest xs k → k.is_ended ≡ true → rest ++ begins.rest ≡ []
-  may_come k given over = let ends = given.ended over in ap (λ (l : List ℕ). l ++ begins.rest) ends.1 ∙ begins.whole ends.0
+  module _ (k : Chunked) (found : Found) (given : AreGiven r way.recovers reading front xs k) (begin : BeginsFault k) (next : IsFoundNext k found) where
+    may_come : k.is_ended ≡ true → more ≡ []
+    may_come over = unread.1.1 (given.ended over)
 
-  goes_on : (k : Chunked) → AreGiven r way.recovers reading front rest xs k → BeginsFault k → without_mark text ≡ front ++ (rest ++ begins.rest)
-  goes_on k given begin =
-      ap without_mark begins.read ∙ settled reading.bytes front rest begins.rest is_text
-      (λ none. absurd (begin.0 (empty_back (joined xs) k.rest (sym (came_rest r front xs k given.came).0 ∙ none)).1))
+    goes_on : without_mark text ≡ front ++ more
+    goes_on = by_test k.is_ended
+        (λ over. whole_text (given.ended over) ∙ sym (append-nil front) ∙ ap (λ (l : List ℕ). front ++ l) (sym (may_come over)))
+        (λ goes. ap without_mark unread.1.0 ∙ settled reading.bytes more (no_mark goes))
+      where
+        no_mark : k.is_ended ≡ false → (tail : List ℕ) → reading.bytes ++ tail ≡ mark → length reading.bytes < 3 → ⊥
+        no_mark goes tail whole short =
+            let plain : front ≡ reading.bytes = by_test (bytes_eq (take 3 reading.bytes) mark)
+            (λ is_so. absurd (let size = ap length (marked reading.bytes is_so) in omega (arith, short, size, length-append mark (drop 3 reading.bytes))))
+            (λ not_so. ap (λ (b : Bool). cond b (drop 3 reading.bytes) reading.bytes) not_so) in
+            begins_no_mark r reading.bytes xs k found (subst (λ (t : List ℕ). Came r t xs k) plain given.came) goes begin.0 next tail whole short
 
-  is_stopped : (place : Position) (found : ℕ) → IsCutTo r way.recovers reading front rest xs (Stopped place found) → (ys : List Item) (end : Stack) → AreAllPieces r text ys end
-      → first_fault ys ≢ None
-  is_stopped place found (stops, (k, (given, (begin, at)))) ys end all =
-      let fault = fault_follows r front xs k given.came begin (rest ++ begins.rest) (may_come k given) ys end (subst (λ (t : List ℕ). ArePiecesFrom r t 0 start ys end) (goes_on k given begin) all.pieces) in
-      fault_at ys (length xs) k.at fault.0 fault.1
+    fault_there : (ys : List Item) (end : Stack) → AreAllPieces r text ys end → (slice : Bor (List ℕ)) × (slice_get ys (length xs) ≡ Some (Fault k.at slice))
+    fault_there ys end all =
+        fault_follows r front xs k given.came begin more may_come ys end (subst (λ (t : List ℕ). ArePiecesFrom r t 0 start ys end) goes_on all)
 
-  -- which is the first one
-  stops_at : (place : Position) (found : ℕ) → IsCutTo r way.recovers reading front rest xs (Stopped place found) → (ys zs : List Item) (at c : ℕ) (slice : Bor (List ℕ)) (end : Stack)
-      → AreAllPieces r text (ys ++ Fault at slice ∷ zs) end → first_fault ys ≡ None → take 1 (chars slice.now) ≡ c ∷ []
-      → cut_answer r modes way front xs (Stopped place found) ≡ cut_answer r modes way (without_mark text) ys (Stopped (position_of (without_mark text) at) c)
-  stops_at place found (stops, (k, (given, (begin, (place_is, found_is))))) ys zs at c slice end all none is_c =
-      let more : List ℕ = rest ++ begins.rest in
-      let so_far = came_rest r front xs k given.came in
-      let own : without_mark text ≡ front ++ more = goes_on k given begin in
-      let pieces = subst (λ (t : List ℕ). ArePiecesFrom r t 0 start (ys ++ Fault at slice ∷ zs) end) own all.pieces in
-      let fault = fault_follows r front xs k given.came begin more (may_come k given) (ys ++ Fault at slice ∷ zs) end pieces in
-      let to = came_to r front xs k given.came more (may_come k given) in
-      let there = first_there ys zs xs at k.at slice fault.0 none (given.no_fault stops)
-      (begin_all r (front ++ more) 0 start xs k.at k.stack (ys ++ Fault at slice ∷ zs) end to pieces) fault.1 in
-      let within : at ≤ length front = omega (arith, there.1, place_within r front xs k given.came) in
-      let stay = lines_stay way.form (then_some way.several way.file) modes r front more way.recovers 0 start ys zs at slice end pieces within in
-      let lines_are = same_lines way.form way.recovers (then_some way.several way.file) modes r front start xs ys there.0 ∙ sym stay.1.0
-      ∙ ap (λ (t : List ℕ). lines_of r modes way.form way.recovers way.several way.file t ys) (sym own) in
-      let place_at : place ≡ position_of (without_mark text) at =
-      place_is ∙ ap (λ (n : ℕ). position_of front n) (sym there.1) ∙ sym (place_stays front more at within) ∙ ap (λ (t : List ℕ). position_of t at) (sym own) in
-      let behind : drop at (front ++ more) ≡ k.rest ++ more =
-      ap (λ (l : List ℕ). drop at (l ++ more)) so_far.0 ∙ ap (drop at) (append_assoc (joined xs) k.rest more) ∙ drop_at (joined xs) (k.rest ++ more) at (sym (there.1 ∙ so_far.1)) in
-      let utf8 = rest_utf8 (joined xs) k.rest (subst IsUtf8 so_far.0 is_text.1.0) (joined_utf8 r (front ++ more) 0 start xs k.at k.stack to) in
-      let front_of = stay.1.1 in
-      let one : found ≡ c = one_first k.rest slice.now more front_of.0 found c (sym behind ∙ front_of.1.0) utf8 front_of.1.1 found_is is_c in
-      let of : Position → ℕ → List ℕ → Answer = λ p f l. record { status = 1; out = l; err = cut_text modes way.file (Stopped p f) } in
-      let place_now : Position = position_of (without_mark text) at in
-      let written = lines_of r modes way.form way.recovers way.several way.file front xs in
-      ap (λ (p : Position). of p found written) place_at ∙ ap (λ (f : ℕ). of place_now f written) one ∙ ap (of place_now c) lines_are
+    -- which is the first one
+    stops_at : (stops : way.recovers ≡ false) (ys zs : List Item) (at : ℕ) (slice : Bor (List ℕ)) (other : Found) (end : Stack)
+        → AreAllPieces r text (ys ++ Fault at slice ∷ zs) end → first_fault ys ≡ None → IsFound (drop at (without_mark text)) other
+        → cut_answer r modes way front xs (Stopped (byte_place_of front k.at) found)
+        ≡ cut_answer r modes way (without_mark text) ys (Stopped (byte_place_of (without_mark text) at) other)
+    stops_at stops ys zs at slice other end all none is_other =
+        let so_far = came_rest r front xs k given.came in
+        let pieces = subst (λ (t : List ℕ). ArePiecesFrom r t 0 start (ys ++ Fault at slice ∷ zs) end) goes_on all in
+        let fault = fault_follows r front xs k given.came begin more may_come (ys ++ Fault at slice ∷ zs) end pieces in
+        let to = came_to r front xs k given.came more may_come in
+        let there = first_there ys zs xs at k.at slice fault.0 none (given.no_fault stops)
+        (begin_all r (front ++ more) 0 start xs k.at k.stack (ys ++ Fault at slice ∷ zs) end to pieces) fault.1 in
+        let within : at ≤ length front = omega (arith, there.1, place_within r front xs k given.came) in
+        let stay = lines_stay way.form (then_some way.several way.file) modes r front more way.recovers 0 start ys zs at slice end pieces within in
+        let lines_are = same_lines way.form way.recovers (then_some way.several way.file) modes r front start xs ys there.0 ∙ sym stay.1
+        ∙ ap (λ (t : List ℕ). lines_of r modes way.form way.recovers way.several way.file t ys) (sym goes_on) in
+        let place_at : byte_place_of front k.at ≡ byte_place_of (without_mark text) at =
+        ap (λ (n : ℕ). byte_place_of front n) (sym there.1) ∙ sym (place_stays front more at within) ∙ ap (λ (t : List ℕ). byte_place_of t at) (sym goes_on) in
+        let behind : drop at (without_mark text) ≡ k.rest ++ more =
+        ap (drop at) goes_on ∙ ap (λ (l : List ℕ). drop at (l ++ more)) so_far.0 ∙ ap (drop at) (append_assoc (joined xs) k.rest more)
+        ∙ drop_at (joined xs) (k.rest ++ more) at (sym (there.1 ∙ so_far.1)) in
+        let one : found ≡ other = one_found (k.rest ++ more) found other (next more may_come) (subst (λ (l : List ℕ). IsFound l other) behind is_other) in
+        let of : Position → Found → List ℕ → Answer = λ p f l. record { status = 1; out = l; err = cut_text modes way.file (Stopped p f) } in
+        let place_now : Position = byte_place_of (without_mark text) at in
+        let written = lines_of r modes way.form way.recovers way.several way.file front xs in
+        ap (λ (p : Position). of p found written) place_at ∙ ap (λ (f : Found). of place_now f written) one ∙ ap (of place_now other) lines_are
 
-  -- it isn't UTF-8, where it breaks off
-  is_broken : (error : TextError) → IsCutTo r way.recovers reading front rest xs (Broken error) → (rest ≢ []) × ((error ≡ NotText (length front)) × (¬ IsUtf8 (without_mark text)))
-  is_broken error cut =
-      let off = breaks_off (opened (Some text) false) left reading.end front rest begins.rest error refl reads.1 cut.0 begins.whole in
-      let own = ap without_mark begins.read ∙ settled reading.bytes front rest begins.rest is_text (λ _. off.1.1) in
-      (off.0, (off.1.0, λ utf8. no_text front (rest ++ begins.rest) is_text.1.0 (λ none. off.0 (empty_back rest begins.rest none).0) off.1.1 (subst IsUtf8 own utf8)))
-
-  ends_of : (own : Answer) (ended : CutEnd) → IsCutTo r way.recovers reading front rest xs ended → own ≡ cut_answer r modes way front xs ended → TextEnds r modes way text own
+  ends_of : (own : Answer) (ended : CutEnd) → IsCutTo r way.recovers reading front xs ended → own ≡ cut_answer r modes way front xs ended → TextEnds r modes way text own
   ends_of own (Whole has inside) cut is = record {
     clean = λ ys end all no_fault closed. is ∙ (is_whole has inside cut ys end all).1 ∙ clean_end r modes way text ys end no_fault closed;
     whole = λ ys end all past. is ∙ (is_whole has inside cut ys end all).1;
-    faulty = λ ys zs at c slice end all none is_c stops.
+    faulty = λ ys zs at slice other end all none is_other stops.
         let found = (is_whole has inside cut (ys ++ Fault at slice ∷ zs) end all).0 in
-        absurd (fault_among ys zs at slice (none_found (first_fault (ys ++ Fault at slice ∷ zs)) (sym found ∙ cut.1.1.1.1.1.0 stops)));
-    no_text = λ none. absurd (none (subst IsUtf8 (sym (whole_text cut.0 cut.1.0)) is_text.1.0));
+        absurd (fault_among ys zs at slice (none_found (first_fault (ys ++ Fault at slice ∷ zs)) (sym found ∙ cut.1.1.1.1.0 stops)));
   }
-  ends_of own (Stopped place found) cut is = record {
-    clean = λ ys end all no_fault closed. absurd (is_stopped place found cut ys end all no_fault);
-    whole = λ ys end all past. absurd (is_stopped place found cut ys end all (past cut.0));
-    faulty = λ ys zs at c slice end all none is_c stops. is ∙ stops_at place found cut ys zs at c slice end all none is_c;
-    no_text = λ none. inr (record { reading = reading; front = front; left = rest; begins = begins; xs = xs; place = place; found = found; cut = cut; answer_is = is });
-  }
-  ends_of own (Broken error) cut is =
-      let off = is_broken error cut in record {
-        clean = λ ys end all no_fault closed. absurd (off.1.1 all.utf8);
-        whole = λ ys end all past. absurd (off.1.1 all.utf8);
-        faulty = λ ys zs at c slice end all none is_c stops. absurd (off.1.1 all.utf8);
-        no_text = λ none. inl (record {
-          reading = reading;
-          front = front;
-          left = rest;
-          begins = begins;
-          some = off.0;
-          xs = xs;
-          cut = subst (λ (e : TextError). IsCutTo r way.recovers reading front rest xs (Broken e)) off.1.0 cut;
-          answer_is = subst (λ (e : TextError). own ≡ cut_answer r modes way front xs (Broken e)) off.1.0 is;
-        });
+  ends_of own (Stopped place found) (stops, (k, (given, (begin, (place_is, next))))) is =
+      let fails : (ys : List Item) (end : Stack) → AreAllPieces r text ys end → first_fault ys ≢ None = λ ys end all.
+      let fault = fault_there k found given begin next ys end all in fault_at ys (length xs) k.at fault.0 fault.1 in
+      let own_is : own ≡ cut_answer r modes way front xs (Stopped (byte_place_of front k.at) found) =
+      is ∙ ap (λ (p : Position). cut_answer r modes way front xs (Stopped p found)) place_is in record {
+        clean = λ ys end all no_fault closed. absurd (fails ys end all no_fault);
+        whole = λ ys end all past. absurd (fails ys end all (past stops));
+        faulty = λ ys zs at slice other end all none is_other still. own_is ∙ stops_at k found given begin next stops ys zs at slice other end all none is_other;
       }
+  ends_of own Unread (failed, rest) is =
+      let ends = subst (λ (e : ReadEnd). EndsReading (opened (Some text) false) left e) failed reads.1 in absurd (cc (ends.0))
 
 -- how a text in memory ends
 pub ends_so : (r : ModeRules) (modes : List (List ℕ)) (way : Way) (text : List ℕ) (own : Answer) → CutsMemory text way r modes own → TextEnds r modes way text own
-ends_so r modes way text own (left, (reading, (reads, (front, (rest, (xs, (ended, (is_text, (cut, is))))))))) =
-    ends_of r modes way text left reading front rest xs reads is_text own ended cut is
+ends_so r modes way text own (left, (reading, (reads, (xs, (ended, (cut, is)))))) = ends_of r modes way text left reading xs reads own ended cut is

@@ -1,9 +1,8 @@
 -- How `tokens [--recover] [--json] rules [text -]` ends: each way, and exactly what is then written and said, and the status.
-use Rattle.std.specs.Prelude.{◌≡◌, ◌≢◌, ℕ, ◌⊎◌, Bool, true, false, List, [], ◌∷◌, ◌++◌, length, take, None, is_some, codes, decimal}
+use Rattle.std.specs.Prelude.{◌≡◌, ◌≢◌, ℕ, ◌⊎◌, Bool, true, false, List, [], ◌∷◌, ◌++◌, length, drop, None, is_some, codes}
 use Rattle.std.specs.Borrow.{Bor}
-use Rattle.std.specs.Str.{IsUtf8, chars}
 use Rattle.bajofeki_rules.specs.Lines.{lines}
-use Rattle.bajofeki_rules.specs.Position.{position_of}
+use Rattle.bajofeki_rules.specs.Position.{byte_place_of}
 use Rattle.bajofeki_rules.specs.Stack.{Stack, start}
 use Rattle.bajofeki_rules.specs.declared.mode_rule.ModeRule.{ModeRule}
 use Rattle.bajofeki_rules.specs.declared.position.Position.{Position}
@@ -18,21 +17,19 @@ use Rattle.lalrpop_rules.specs.declared.error.RulesError.{RulesError}
 use Rattle.lalrpop_rules.specs.declared.error.RulesError.TheVariants as errors
 use Rattle.lalrpop_rules.specs.declared.item.Item.{Item}
 use Rattle.lalrpop_rules.specs.declared.item.Item.TheVariants.{Fault}
-use Rattle.lexdfa_lib.specs.Streams.{AtEnd, Reading}
-use Rattle.reports_lib.specs.Answer.{Answer, about, followed, headed, refusal}
+use Rattle.reports_lib.specs.Answer.{Answer, followed, headed, refusal}
 use Rattle.reports_lib.specs.Reasons.{SaysRules, placed, syntax_text}
 use Rattle.reports_lib.specs.declared.layout.LineForm.{LineForm}
 use Rattle.reports_lib.specs.declared.layout.LineForm.TheVariants.{Plain}
-use Rattle.tokens_lib.specs.CutEnds.{IsCutTo, IsTextOf, first_fault}
+use Rattle.tokens_lib.specs.CutEnds.{IsFound, first_fault}
 use Rattle.tokens_lib.specs.NamedRules.{IsSetOf, SayRules, StandAt, rules_status}
 use Rattle.tokens_lib.specs.OpenModes.{open_behind, open_mode}
-use Rattle.tokens_lib.specs.TextAnswer.{cut_status, cut_text, fault_text, lines_of}
+use Rattle.tokens_lib.specs.TextAnswer.{cut_status, cut_text, fault_text, found_told, lines_of}
 use Rattle.tokens_lib.specs.WarningsSaid.{Warned}
 use Rattle.tokens_lib.specs.declared.command.Verbosity.TheVariants.{Warnings}
-use Rattle.tokens_lib.specs.declared.cut_end.CutEnd.TheVariants.{Whole, Stopped, Broken}
+use Rattle.tokens_lib.specs.declared.cut_end.CutEnd.TheVariants.{Whole}
 use Rattle.tokens_lib.specs.declared.cut_end.CutEnd.{CutEnd}
-use Rattle.tokens_lib.specs.declared.cut_end.TextError.TheVariants.{NotText}
-use Rattle.bajofeki_rules.specs.Quoted.{told}
+use Rattle.tokens_lib.specs.declared.cut_end.Found.{Found}
 use Rattle.uses_programs.specs.declared.run_tokens.Given.{Given}
 
 -- the lines of a file of rules, after a byte order mark
@@ -89,49 +86,9 @@ pub record Way : Type 0 where
   pub several : Bool
   pub file : List ℕ
 
--- the bytes that are read begin the text: they are this text, and others are left
-pub record Begins (text front left : List ℕ) (reading : Reading) : Type 0 where
-  pub rest : List ℕ
-  pub read : text ≡ reading.bytes ++ rest
-  pub whole : reading.end ≡ AtEnd → rest ≡ []
-  pub is_text : IsTextOf reading.bytes front left
-
--- cutting stops where no rule matches: the lines before that place are written, it is said with its character, and the status is 1
-pub record IsFaulty (r : ModeRules) (modes : List (List ℕ)) (way : Way) (text : List ℕ) (answer : Answer) : Type 0 where
-  pub reading : Reading
-  pub front : List ℕ
-  pub left : List ℕ
-  pub begins : Begins text front left reading
-  pub xs : List Item
-  pub place : Position
-  pub found : ℕ
-  pub cut : IsCutTo r way.recovers reading front left xs (Stopped place found)
-  pub answer_is : answer ≡ record {
-    status = 1;
-    out = lines_of r modes way.form way.recovers way.several way.file front xs;
-    err = fault_text way.file place (told found);
-  }
-
--- the text breaks off where it isn't UTF-8: the lines that nothing after that place could change are written, it is said, and the status
--- is 6
-pub record IsBroken (r : ModeRules) (modes : List (List ℕ)) (way : Way) (text : List ℕ) (answer : Answer) : Type 0 where
-  pub reading : Reading
-  pub front : List ℕ
-  pub left : List ℕ
-  pub begins : Begins text front left reading
-  pub some : left ≢ []
-  pub xs : List Item
-  pub cut : IsCutTo r way.recovers reading front left xs (Broken (NotText (length front)))
-  pub answer_is : answer ≡ record {
-    status = 6;
-    out = lines_of r modes way.form way.recovers way.several way.file front xs;
-    err = about way.file (codes "not UTF-8 from byte " ++ (decimal (length front) ++ codes " on"));
-  }
-
--- the text is UTF-8, and these are all its pieces
-pub record AreAllPieces (r : ModeRules) (text : List ℕ) (xs : List Item) (end : Stack) : Type 0 where
-  pub utf8 : IsUtf8 (without_mark text)
-  pub pieces : ArePiecesFrom r (without_mark text) 0 start xs end
+-- these are all pieces of the text
+abbrev pub AreAllPieces : ModeRules → List ℕ → List Item → Stack → Type 0
+AreAllPieces r text xs end = ArePiecesFrom r (without_mark text) 0 start xs end
 
 -- how a text ends that is cut whole: whether it has a fault, and where the mode at its end was entered, if it has one below it
 abbrev pub whole_end : ModeRules → List ℕ → List Item → Stack → CutEnd
@@ -153,15 +110,13 @@ pub record TextEnds (r : ModeRules) (modes : List (List ℕ)) (way : Way) (text 
   -- no fault, or --recover: all lines are written, and an open mode is said; a fault or an open mode makes the status 1
   pub whole : (xs : List Item) (end : Stack) → AreAllPieces r text xs end → (way.recovers ≡ false → first_fault xs ≡ None)
       → answer ≡ cut_answer r modes way (without_mark text) xs (whole_end r text xs end)
-  -- without --recover cutting stops at the first fault: the lines before it are written, and its place is said with its first character
-  pub faulty : (xs ys : List Item) (at c : ℕ) (slice : Bor (List ℕ)) (end : Stack) → AreAllPieces r text (xs ++ Fault at slice ∷ ys) end
-      → first_fault xs ≡ None → take 1 (chars slice.now) ≡ c ∷ [] → way.recovers ≡ false → answer ≡ record {
+  -- without --recover cutting stops at the first fault: the lines before it are written, and its place is said, with what is found there
+  pub faulty : (xs ys : List Item) (at : ℕ) (slice : Bor (List ℕ)) (found : Found) (end : Stack) → AreAllPieces r text (xs ++ Fault at slice ∷ ys) end
+      → first_fault xs ≡ None → IsFound (drop at (without_mark text)) found → way.recovers ≡ false → answer ≡ record {
         status = 1;
         out = lines_of r modes way.form way.recovers way.several way.file (without_mark text) xs;
-        err = fault_text way.file (position_of (without_mark text) at) (told c);
+        err = fault_text way.file (byte_place_of (without_mark text) at) (found_told found);
       }
-  -- a fault may stand before the place
-  pub no_text : ¬ IsUtf8 (without_mark text) → IsBroken r modes way text answer ⊎ IsFaulty r modes way text answer
 
 -- standard input alone
 abbrev pub Alone : LineForm → Bool → List ℕ → ModeRules → List (List ℕ) → Answer → Type 0

@@ -11,14 +11,14 @@ use reports_lib::{Shown, push_plain};
 use std::alloc::{AllocError, Global};
 use tokens_lib::{ModeFile, RuleFileError, bad_line_message, rules_message};
 
-// The line of a token of any text, by a rule whose name is safe, after lines that are safe.
+// The line of any bytes, by a rule whose name is safe, after lines that are safe.
 // Needs reports_lib::push_plain.
 pub fn line_of_a_token(
     alloc: Global,
     lines: &mut Vec<u8>,
     position: Position,
     name: &str,
-    slice: &str,
+    slice: &[u8],
 ) -> Result<(), AllocError>
     requires lines { IsSafe lines.old.items }
     requires name { IsSafe name.now }

@@ -5,8 +5,8 @@ use Rattle.std.specs.Borrow.{Bor}
 use Rattle.std.specs.Str.{chars}
 use Rattle.lalrpop_hir.specs.Tree.{Tree}
 use Rattle.lalrpop_hir.specs.Winners.{Matched}
-use Rattle.lalrpop_rules.specs.Found.{MatchesAt}
-use Rattle.lalrpop_rules.specs.Pieces.{IsPiece, slice_of}
+use Rattle.lalrpop_rules.specs.Found.{MatchesAt, NoMatchBefore}
+use Rattle.lalrpop_rules.specs.Pieces.{IsFault, IsPiece, slice_of}
 use Rattle.lalrpop_rules.specs.declared.item.Item.{Item}
 use Rattle.lalrpop_rules.specs.declared.item.Item.TheVariants.{Fault}
 use Rattle.lalrpop_rules.specs.Modes.{ModeRules, trees_in}
@@ -15,6 +15,9 @@ use Rattle.bajofeki.specs.Lexed.{placed}
 use Rattle.bajofeki.specs.declared.error.EditError.{EditError}
 use Rattle.bajofeki.specs.declared.error.EditError.TheVariants.{NoBoundary, TooLarge, OutOfMemory}
 use Rattle.bajofeki.specs.Chunked.{Chunked, nothing_come, IsFinal, IsOpen, IsHeldBack, GivesFinal, GivesOrRefuses, IsChunkError, BeginsFault, MayMatch, Came, nothing, fed, ended}
+use Rattle.bajofeki.proofs.BytesLaws.{matches_more, none_at, none_at_front}
+use Rattle.bajofeki.proofs.Cases.Begun.{a_first_byte_begins, letter, of_no_character}
+use Rattle.bajofeki.proofs.BegunLaws.{nothing_begun}
 use Rattle.bajofeki.proofs.Settling.{settled_match}
 use Rattle.bajofeki.proofs.ChunkLaws.{came_rest}
 
@@ -29,12 +32,12 @@ whole r rest = record (come r rest) { is_ended = true }
 -- ---- pieces that are final, or held back
 
 nothing_yet_to_give : (r : ModeRules) → IsHeldBack (nothing_come r)
-nothing_yet_to_give r = ((λ over. absurd (cc)), (λ goes. inl (λ n below m. omega arith)))
+nothing_yet_to_give r = ((λ over. absurd (cc)), (λ goes. ([], ([], (refl, (nothing_begun, inl (λ n below m. omega arith)))))))
 
 -- `a` matches, and `ab` does too
 match_may_go_on : (ts : List Tree) → Matched ts (codes "ab") → IsOpen ts (codes "a")
 unfolding chars
-match_may_go_on ts longer = inr (0, ((omega arith, λ some high. omega arith), inl refl, (98 ∷ [], ((λ none. cc), longer))))
+match_may_go_on ts longer = inr (0, (letter, inl refl, (98 ∷ [], ((λ none. cc), longer))))
 
 -- `a` matches, and nothing longer that begins with it
 match_goes_no_further : (ts : List Tree) → MatchesAt ts (codes "a") 0 → ((v : List ℕ) → v ≢ [] → ¬ Matched ts (codes "a" ++ v)) → ¬ IsOpen ts (codes "a")
@@ -106,12 +109,86 @@ match_has_come : (r : ModeRules) → MatchesAt (trees_in r 0) (codes "ab") 0 →
 match_has_come r m = inl m
 
 match_is_to_come : (r : ModeRules) → Matched (trees_in r 0) (codes "abc") → MayMatch (come r (codes "ab"))
-unfolding chars
-match_is_to_come r longer = inr (refl, (codes "c", ((λ none. cc), longer)))
+unfolding chars lib.Utf8.encode
+match_is_to_come r longer = inr (refl, (codes "ab", ([], (refl, ((codes "ab", (refl, refl)), (nothing_begun, (codes "c", ((λ none. cc), longer))))))))
 
 no_match_after_the_end : (r : ModeRules) → ¬ MatchesAt (trees_in r 0) (codes "ab") 0 → ¬ MayMatch (whole r (codes "ab"))
 no_match_after_the_end r none (inl m) = none m
 no_match_after_the_end r none (inr (goes, longer)) = absurd (cc)
+
+-- ---- bytes that are of no character
+
+none_in_front : (ts : List Tree) (more : List ℕ) → NoMatchBefore ts (255 ∷ more) 1
+none_in_front ts more = none_at ts (255 ∷ more) (none_at_front ts (255 ∷ more) (of_no_character.1 more))
+
+-- FF is a fault once something comes that matches
+fault_of_one_byte : (r : ModeRules) (slice : Bor (List ℕ)) → slice.now ≡ 255 ∷ [] → MatchesAt (trees_in r 0) (codes "a") 0
+    → IsFinal (come r (255 ∷ codes "a")) (Fault 0 slice)
+fault_of_one_byte r slice one m more may = (
+  refl,
+  subst (λ (p : List ℕ). IsFault (trees_in r 0) (255 ∷ 97 ∷ more) p) (sym one) (record {
+    front = (97 ∷ more, refl);
+    some = λ none. cc;
+    nothing = none_in_front (trees_in r 0) (97 ∷ more);
+    ends = inr (matches_more (trees_in r 0) (255 ∷ 97 ∷ []) more 1 m);
+  }),
+)
+
+-- or once the text has ended
+fault_at_the_end : (r : ModeRules) (slice : Bor (List ℕ)) → slice.now ≡ 255 ∷ [] → IsFinal (whole r (255 ∷ [])) (Fault 0 slice)
+fault_at_the_end r slice one more may = (
+  refl,
+  subst (λ (t : List ℕ). IsFault (trees_in r 0) (255 ∷ t) slice.now) (sym (may refl))
+      (subst (λ (p : List ℕ). IsFault (trees_in r 0) (255 ∷ []) p) (sym one) (record {
+        front = ([], refl);
+        some = λ none. cc;
+        nothing = none_in_front (trees_in r 0) [];
+        ends = inl refl;
+      })),
+)
+
+-- before that one more such byte may come
+fault_may_have_another : (r : ModeRules) (slice : Bor (List ℕ)) → slice.now ≡ 255 ∷ [] → ¬ IsFinal (come r (255 ∷ [])) (Fault 0 slice)
+fault_may_have_another r slice one final =
+    let fault = (final (255 ∷ []) (λ over. absurd (cc))).1 in
+    elim fault.ends [
+      | inl all ↦ (let n : 1 ≡ 2 = sym (ap length one) ∙ ap length all in omega (arith, n))
+      | inr m ↦ none_at_front (trees_in r 0) (255 ∷ []) (of_no_character.1 []) (subst (λ (p : List ℕ). MatchesAt (trees_in r 0) (255 ∷ 255 ∷ []) (length p)) one m)
+    ]
+
+fault_held_back : (r : ModeRules) → IsHeldBack (come r (255 ∷ []))
+fault_held_back r = ((λ over. absurd (cc)), (λ goes. (255 ∷ [], ([], (refl, (nothing_begun, inl (none_in_front (trees_in r 0) [])))))))
+
+-- after it a word may have begun: then how long the fault is isn't known
+word_begun_after_a_byte : (r : ModeRules) → NoMatchBefore (trees_in r 0) (255 ∷ codes "a") 2 → Matched (trees_in r 0) (codes "ab")
+    → IsHeldBack (come r (255 ∷ codes "a"))
+unfolding chars
+word_begun_after_a_byte r none longer = (
+  (λ over. absurd (cc)),
+  (λ goes. (255 ∷ codes "a", ([], (refl, (nothing_begun, inr (1, (letter, inr none, (98 ∷ [], ((λ none. cc), longer))))))))),
+)
+
+-- if the word matches as it is, the fault ends before it
+fault_not_held_back : (ts : List Tree) → MatchesAt ts (codes "a") 0 → ¬ IsOpen ts (255 ∷ codes "a")
+fault_not_held_back ts m (inl none) = none 1 (omega arith) m
+fault_not_held_back ts m (inr (zero, (utf8, before, more))) = of_no_character.1 (codes "a") 2 (omega arith) (omega arith) utf8
+fault_not_held_back ts m (inr (suc k, (utf8, inl e, more))) = absurd (omega (arith, e))
+fault_not_held_back ts m (inr (suc k, (utf8, inr before, more))) = before 1 (omega arith) m
+
+-- half of `ä` is held back
+half_a_character : (r : ModeRules) → IsHeldBack (come r (195 ∷ []))
+half_a_character r = ((λ over. absurd (cc)), (λ goes. ([], (195 ∷ [], (refl, (a_first_byte_begins, inl (λ n below m. omega arith)))))))
+
+-- so is `a`, if more of it may match
+half_after_a_letter : (r : ModeRules) → Matched (trees_in r 0) (codes "ab") → IsHeldBack (come r (97 ∷ 195 ∷ []))
+half_after_a_letter r longer = ((λ over. absurd (cc)), (λ goes. (codes "a", (195 ∷ [], (refl, (a_first_byte_begins, match_may_go_on (trees_in r 0) longer))))))
+
+-- it is a fault at the end of the text
+half_at_the_end : (r : ModeRules) (new : Chunked) → ¬ GivesFinal (whole r (195 ∷ [])) None new
+half_at_the_end r new gives = absurd (cc (gives.1.0 refl))
+
+fault_begins_at_a_byte : (r : ModeRules) → BeginsFault (come r (255 ∷ []))
+fault_begins_at_a_byte r = ((λ empty. cc), (λ more may. none_in_front (trees_in r 0) more))
 
 -- ---- what a call gives
 

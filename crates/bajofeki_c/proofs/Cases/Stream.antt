@@ -1,22 +1,21 @@
 -- Cases of specs/Stream.antt.
 use Rattle.std.proofs.Common.{◌≡◌, [], ◌∷◌, false, true, inl, inr, refl, ap, arith}
 use Rattle.std.specs.Prelude.{None, Some, Err}
-use Rattle.bajofeki.specs.Chunked.{Chunked}
+use Rattle.bajofeki.specs.Chunked.{Chunked, nothing_come}
+use Rattle.lalrpop_rules.specs.Modes.{ModeRules}
 use Rattle.bajofeki_c.specs.Document.{count_told}
-use Rattle.bajofeki_c.specs.Stream.{GivesAll, GivesOn, IsCode, IsFed, IsStreamBegun}
+use Rattle.bajofeki_c.specs.Stream.{GivesAll, GivesOn, IsFed, IsFedOpen, IsStreamBegun}
 use Rattle.bajofeki_c.specs.declared.held.BuildError.TheVariants.{Freed}
 use Rattle.bajofeki_c.specs.declared.document.Count.{Count}
 use Rattle.bajofeki_c.specs.declared.stream.Stream.{Stream}
 
--- a byte of no character has come, or the text ends in one
-broken : IsCode (record { begun = []; is_broken = true }) false 3
-broken = inl (refl, inl refl)
+-- any bytes come
+bytes_come : (r : ModeRules) → IsFedOpen (nothing_come r) (255 ∷ []) true 0 (record (nothing_come r) { rest = 255 ∷ []; is_ended = true })
+bytes_come r = inl (refl, (refl, refl))
 
-ends_in_a_character : IsCode (record { begun = 195 ∷ []; is_broken = false }) true 3
-ends_in_a_character = inl (refl, inr (refl, λ e. cc e))
-
-whole : IsCode (record { begun = []; is_broken = false }) true 0
-whole = inr (refl, (refl, λ e. refl))
+-- and none after the last ones
+ended : (r : ModeRules) (c : Chunked) → c ≡ record (nothing_come r) { is_ended = true } → IsFedOpen c (97 ∷ []) true 8 c
+ended r c is = inr (inr (ap (λ (d : Chunked). d.is_ended) is, (refl, refl)))
 
 nothing_is_given : (c : Chunked) → GivesAll c [] c
 nothing_is_given c = refl

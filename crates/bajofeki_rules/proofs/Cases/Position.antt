@@ -1,7 +1,7 @@
 -- Cases of specs/Position.antt.
-use Rattle.std.proofs.Common.{◌≡◌, ◌≢◌, ℕ, ◌∷◌, inl, inr, codes, refl, ap, arith}
+use Rattle.std.proofs.Common.{◌≡◌, ◌≢◌, ℕ, [], ◌∷◌, inl, inr, codes, refl, ap, arith}
 use Rattle.std.specs.Str.{chars}
-use Rattle.bajofeki_rules.specs.Position.{Fits, IsBefore, moved, place_after, position_of}
+use Rattle.bajofeki_rules.specs.Position.{byte_place, byte_place_of, Fits, IsBefore, moved, place_after, position_of}
 use Rattle.bajofeki_rules.specs.declared.position.Position.{Position}
 
 abbrev place : ℕ → ℕ → Position
@@ -36,6 +36,23 @@ the_end = refl
 a_line_feed_counted_before_it : position_of (codes "ab\ncd") 2 ≢ place 2 1
 unfolding chars
 a_line_feed_counted_before_it e = let n : 1 ≡ 2 = ap (λ (p : Position). p.line) e in omega (arith, n)
+
+-- ---- bytes that are no UTF-8
+
+-- 0xFF can't stand in a character, and is a column; 0x80 only follows another byte, and is none
+a_column_for_each_first_byte : byte_place (97 ∷ 255 ∷ 128 ∷ 128 ∷ []) ≡ place 1 3
+a_column_for_each_first_byte = refl
+
+a_line_feed_among_bad_bytes : byte_place (255 ∷ 10 ∷ 128 ∷ 255 ∷ 254 ∷ []) ≡ place 2 3
+a_line_feed_among_bad_bytes = refl
+
+before_a_bad_byte : byte_place_of (97 ∷ 195 ∷ 169 ∷ 255 ∷ []) 3 ≡ place 1 3
+before_a_bad_byte = refl
+
+no_column_for_each_byte : byte_place (128 ∷ []) ≢ place 1 2
+no_column_for_each_byte e = let n : 1 ≡ 2 = ap (λ (p : Position). p.column) e in omega (arith, n)
+
+-- ---- places in places
 
 -- what begins in the middle of a line ends in that line or in a later one
 in_the_same_line : moved (place 7 3) (place 1 5) ≡ place 7 7

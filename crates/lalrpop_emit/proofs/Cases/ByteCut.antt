@@ -39,7 +39,7 @@ module _ (run : Run) where
 
   a_fault_is_given : GivesBytePiece no_rules [] (255 ∷ []) (cut_at run 0 0 []) (Some (fault 0 1)) (cut_at run 1 0 [])
   a_fault_is_given = (
-    (refl, (refl, record { some = omega arith; within = omega arith; nothing = λ n l. nothing_matches (255 ∷ []) n; ends = inl refl })),
+    (refl, (refl, (omega arith, record { front = ([], refl); some = λ e. absurd (cc); nothing = λ n l. nothing_matches (255 ∷ []) n; ends = inl refl }))),
     tt,
     refl,
     refl,

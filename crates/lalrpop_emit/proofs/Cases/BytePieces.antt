@@ -1,12 +1,12 @@
 -- Cases of specs/BytePieces.antt.
-use Rattle.std.proofs.Common.{◌≡◌, ℕ, zero, suc, Bool, true, false, List, [], ◌∷◌, inl, inr, refl, ap, arith}
+use Rattle.std.proofs.Common.{◌≡◌, ℕ, zero, suc, Bool, true, false, List, [], ◌∷◌, inl, inr, length, refl, ap, arith}
 use Rattle.std.specs.Prelude.{Option, Some, None}
 use Rattle.lalrpop_hir.specs.Tree.{Tree}
 use Rattle.lalrpop_rules.specs.Found.{MatchesAt}
 use Rattle.bajofeki_rules.specs.declared.action.Action.TheVariants.{Push, Pop}
 use Rattle.bajofeki_rules.specs.Stack.{Stack, start, actions_of}
 use Rattle.lalrpop_rules.specs.Modes.{ModeRules, trees_in}
-use Rattle.lalrpop_emit.specs.BytePieces.{IsByteToken, IsByteFault, IsBytePiece, rule_actions, after_piece, Fits, AreBytePieces, AreBytePiecesTo}
+use Rattle.lalrpop_emit.specs.BytePieces.{IsByteToken, IsByteTokenOrFault, IsBytePiece, rule_actions, after_piece, Fits, AreBytePieces, AreBytePiecesTo}
 use Rattle.lalrpop_emit.specs.declared.numbered_piece.NumberedPiece.{NumberedPiece}
 
 -- without a tree nothing matches
@@ -17,14 +17,20 @@ nothing_matches text at m = let none = m.1.2.1.1.0 in cc
 abbrev fault : ℕ → ℕ → NumberedPiece
 fault start size = record { kind = None; rule = 0; start = start; length = size }
 
-all_bytes_are_a_fault : IsByteFault [] (255 ∷ 255 ∷ []) 2
-all_bytes_are_a_fault = record { some = omega arith; within = omega arith; nothing = λ n l. nothing_matches (255 ∷ 255 ∷ []) n; ends = inl refl }
+all_bytes_are_a_fault : IsByteTokenOrFault [] [] [] (255 ∷ 255 ∷ []) None 0 2
+all_bytes_are_a_fault = (refl, (omega arith, record { front = ([], refl); some = λ none. cc; nothing = λ n l. nothing_matches (255 ∷ 255 ∷ []) n; ends = inl refl }))
 
-no_fault_ends_before_another : ¬ IsByteFault [] (255 ∷ 255 ∷ []) 1
-no_fault_ends_before_another h = elim h.ends [ inl whole ↦ omega arith | inr match ↦ nothing_matches (255 ∷ 255 ∷ []) 1 match ]
+no_fault_ends_before_another : ¬ IsByteTokenOrFault [] [] [] (255 ∷ 255 ∷ []) None 0 1
+no_fault_ends_before_another h = elim h.1.1.ends [ inl whole ↦ omega (arith, ap length whole) | inr match ↦ nothing_matches (255 ∷ 255 ∷ []) 1 match ]
 
-no_fault_is_empty : ¬ IsByteFault [] [] 0
-no_fault_is_empty h = omega (arith, h.some)
+no_fault_is_empty : ¬ IsByteTokenOrFault [] [] [] [] None 0 0
+no_fault_is_empty h = h.1.1.some refl
+
+no_fault_is_longer_than_the_text : ¬ IsByteTokenOrFault [] [] [] (255 ∷ []) None 0 2
+no_fault_is_longer_than_the_text h = omega (arith, h.1.0)
+
+no_fault_has_a_rule : ¬ IsByteTokenOrFault [] [] [] (255 ∷ []) None 1 1
+no_fault_has_a_rule h = omega (arith, h.0)
 
 no_token_is_longer_than_the_text : ¬ IsByteToken [] [] (0 ∷ []) (97 ∷ []) 0 0 2
 no_token_is_longer_than_the_text h = omega (arith, h.within)
@@ -39,7 +45,7 @@ no_rules = record { names = []; trees = []; precedences = []; skips = []; action
 
 one_fault : AreBytePieces no_rules [] 0 (255 ∷ []) (fault 0 1 ∷ []) true
 one_fault = (
-  (refl, (refl, record { some = omega arith; within = omega arith; nothing = λ n l. nothing_matches (255 ∷ []) n; ends = inl refl })),
+  (refl, (refl, (omega arith, record { front = ([], refl); some = λ none. cc; nothing = λ n l. nothing_matches (255 ∷ []) n; ends = inl refl }))),
   tt,
   refl,
 )
@@ -48,7 +54,7 @@ whole_only_at_the_end : ¬ AreBytePieces no_rules [] 0 (255 ∷ []) [] true
 whole_only_at_the_end h = cc
 
 no_piece_of_an_empty_text : ¬ AreBytePieces no_rules [] 0 [] (fault 0 1 ∷ []) true
-no_piece_of_an_empty_text h = omega (arith, h.0.1.1.within)
+no_piece_of_an_empty_text h = omega (arith, h.0.1.1.0)
 
 -- two rules: the first belongs to mode 0 and puts mode 1 on top, the second belongs to mode 1 and takes it away
 abbrev brackets : Tree → Tree → ModeRules

@@ -1,21 +1,22 @@
 -- Cases of specs/BytePositions.antt.
-use Rattle.std.proofs.Common.{◌≡◌, ◌≢◌, ℕ, ◌∷◌, [], codes, refl, ap, true, false, arith}
-use Rattle.lalrpop_emit.specs.BytePositions.{begins_character, byte_position_of}
+use Rattle.std.proofs.Common.{◌≡◌, ◌≢◌, ℕ, List, ◌∷◌, [], codes, refl, ap, arith}
+use Rattle.lalrpop_emit.specs.BytePositions.{byte_position_of}
 use Rattle.lalrpop_emit.specs.declared.byte_positions.BytePosition.{BytePosition}
 
 abbrev place : ℕ → ℕ → ℕ → BytePosition
 place at line column = record { at = at; line = line; column = column }
 
-a_letter_begins : begins_character 127 ≡ true
-a_letter_begins = refl
+-- the bytes 128 to 191 only follow another, and are no columns
+abbrev edges : List ℕ
+edges = 127 ∷ 128 ∷ 191 ∷ 192 ∷ []
 
-the_least_byte_that_follows : begins_character 128 ≡ false
-the_least_byte_that_follows = refl
+the_greatest_letter_begins : byte_position_of edges 1 ≡ place 1 1 2
+the_greatest_letter_begins = refl
 
-the_greatest_byte_that_follows : begins_character 191 ≡ false
-the_greatest_byte_that_follows = refl
+these_bytes_follow : byte_position_of edges 3 ≡ place 3 1 2
+these_bytes_follow = refl
 
-the_first_byte_of_two_begins : begins_character 192 ≡ true
+the_first_byte_of_two_begins : byte_position_of edges 4 ≡ place 4 1 3
 the_first_byte_of_two_begins = refl
 
 the_beginning : byte_position_of (codes "ab") 0 ≡ place 0 1 1

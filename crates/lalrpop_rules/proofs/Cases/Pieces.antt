@@ -15,7 +15,7 @@ use Rattle.lalrpop_rules.specs.declared.item.Item.TheVariants.{Token, Skipped, F
 fault_of_one_character : (ts : List Tree) → ¬ MatchesAt ts (codes "ba") 0 → MatchesAt ts (codes "ba") 1 → IsFault ts (codes "ba") (codes "b")
 unfolding lib.Utf8.encode
 fault_of_one_character ts none m = record {
-  front = (codes "a", (refl, (codes "b", (refl, refl))));
+  front = (codes "a", refl);
   some = λ e. absurd (cc);
   nothing = λ n below at. none (subst (λ (k : ℕ). MatchesAt ts (codes "ba") k) (zero n below) at);
   ends = inr m;
@@ -36,12 +36,27 @@ fault_where_something_matches ts m fault = fault.nothing 0 (omega arith) m
 fault_of_no_character : (ts : List Tree) (text : List ℕ) → ¬ IsFault ts text []
 fault_of_no_character ts text fault = fault.some refl
 
--- the second byte of é alone is no character
-fault_within_a_character : (ts : List Tree) (slice : List ℕ) → slice ≡ codes "a" → ¬ IsFault ts (195 ∷ 169 ∷ []) slice
-fault_within_a_character ts slice one fault =
-    let text : 195 ∷ 169 ∷ [] ≡ codes "a" ++ fault.front.0 = fault.front.1.0 ∙ ap (λ (p : List ℕ). p ++ fault.front.0) one in
+fault_of_another_text : (ts : List Tree) (slice : List ℕ) → slice ≡ codes "a" → ¬ IsFault ts (195 ∷ 169 ∷ []) slice
+fault_of_another_text ts slice one fault =
+    let text : 195 ∷ 169 ∷ [] ≡ codes "a" ++ fault.front.0 = fault.front.1 ∙ ap (λ (p : List ℕ). p ++ fault.front.0) one in
     let n : 195 ≡ 97 = ap (λ (v : List ℕ). get_or v 0 0) text in
     omega (arith, n)
+
+-- nothing matches within é
+fault_within_a_character : (ts : List Tree) → ¬ MatchesAt ts (195 ∷ 169 ∷ []) 1 → ¬ IsFault ts (195 ∷ 169 ∷ []) (195 ∷ [])
+fault_within_a_character ts none fault = elim fault.ends [ inl whole ↦ (let n : 1 ≡ 2 = ap length whole in omega (arith, n)) | inr m ↦ none m ]
+
+-- bytes that begin no character are a fault
+bytes_of_no_character : (ts : List Tree) → ¬ MatchesAt ts (255 ∷ []) 0 → IsFault ts (255 ∷ []) (255 ∷ [])
+bytes_of_no_character ts none = record {
+  front = ([], refl);
+  some = λ e. absurd (cc);
+  nothing = λ n below at. none (subst (λ (k : ℕ). MatchesAt ts (255 ∷ []) k) (zero n below) at);
+  ends = inl refl;
+}
+  where
+    zero : (n : ℕ) → n < 1 → n ≡ 0
+    zero n below = omega arith
 
 -- ---- one piece
 

@@ -1,6 +1,6 @@
 -- Cases of specs/OpenModes.antt.
 use Rattle.std.proofs.Common.{◌≡◌, ℕ, suc, List, [], ◌∷◌, None, Some, length, refl, ap, arith}
-use Rattle.bajofeki_rules.specs.Position.{position_of}
+use Rattle.bajofeki_rules.specs.Position.{byte_place_of}
 use Rattle.lalrpop_rules.specs.Modes.{after, after_all}
 use Rattle.bajofeki_rules.specs.Stack.{Stack, act, act_all, actions_of}
 use Rattle.bajofeki_rules.specs.declared.action.Action.{Action}
@@ -27,7 +27,7 @@ pop_at_the_bottom = refl
 first_mode_is_not_open : (text : List ℕ) → open_mode text 0 [] ≡ None
 first_mode_is_not_open text = refl
 
-comment_is_open : (text : List ℕ) → open_mode text 1 (4 ∷ []) ≡ Some (record { mode = 1; place = position_of text 4 })
+comment_is_open : (text : List ℕ) → open_mode text 1 (4 ∷ []) ≡ Some (record { mode = 1; place = byte_place_of text 4 })
 comment_is_open text = refl
 
 -- ---- there is a place for each mode that has one below it

@@ -1,8 +1,7 @@
 -- Cases of specs/Written.antt.
-use Rattle.std.proofs.Common.{◌≡◌, ◌≤◌, ℕ, true, false, List, [], ◌++◌, ◌∷◌, length, take, codes, refl, subst, arith}
+use Rattle.std.proofs.Common.{◌≡◌, ◌≤◌, ℕ, true, false, List, [], ◌∷◌, length, take, codes, refl, subst, arith}
 use Rattle.std.specs.Prelude.{Bool, Option, Some, None, is_some}
 use Rattle.std.specs.Io.KnownBytes.{Appends}
-use Rattle.std.proofs.lemmas.Str.{IsUtf8-nil}
 use Rattle.bajofeki.specs.Chunked.{nothing_come}
 use Rattle.lalrpop_rules.specs.Modes.{ModeRules, ArePiecesFrom}
 use Rattle.bajofeki_rules.specs.Stack.{Stack, start as first_stack}
@@ -28,26 +27,21 @@ screen bytes is_broken = record { out = record { bytes = Some bytes; may_fail = 
 
 -- of an empty text nothing is written, and it has no fault
 nothing_is_written : (rules : ModeRules) → WritesCut rules true (page rules) all_of_nothing (screen [] false) (screen [] false) (Whole false None)
-nothing_is_written rules =
-    ([], ([], ([], ((refl, (IsUtf8-nil, λ n some le. absurd (omega (arith, some, le)))), (empty_text rules true, ((refl, refl), refl))))))
+nothing_is_written rules = ([], (empty_text rules true, ((refl, refl), refl)))
 
-nothing_has_no_fault : (rules : ModeRules) (text left : List ℕ) (xs : List Item) (end : Stack) → [] ≡ text ++ left → ArePiecesFrom rules text 0 first_stack xs end
-    → true ≡ is_some (first_fault xs) → ⊥
-nothing_has_no_fault rules text left [] end none are first = absurd (cc (first))
-nothing_has_no_fault rules [] left (x ∷ xs) end none are first = no_piece_left _ _ _ [] 0 x are.0 refl
-nothing_has_no_fault rules (b ∷ text) left (x ∷ xs) end none are first = absurd (cc (none))
+nothing_has_no_fault : (rules : ModeRules) (xs : List Item) (end : Stack) → ArePiecesFrom rules [] 0 first_stack xs end → true ≡ is_some (first_fault xs) → ⊥
+nothing_has_no_fault rules [] end are first = absurd (cc (first))
+nothing_has_no_fault rules (x ∷ xs) end are first = no_piece_left _ _ _ [] 0 x are.0 refl
 
 fault_of_nothing : (rules : ModeRules) (inside : Option OpenMode) → ¬ WritesCut rules true (page rules) all_of_nothing (screen [] false) (screen [] false) (Whole true inside)
-fault_of_nothing rules inside (text, (left, (xs, (is, (cut, sent))))) =
-    nothing_has_no_fault rules text left xs cut.1.1.0 is.0 cut.1.1.1.0 cut.1.1.1.1.0
+fault_of_nothing rules inside (xs, (cut, sent)) = nothing_has_no_fault rules xs cut.1.0 cut.1.1.0 cut.1.1.1.0
 
 -- a failed write took nothing of an empty page, and no byte more
 nothing_of_it : (rules : ModeRules) → WritesCutPart rules true (page rules) nothing_read (screen [] false) Write (screen [] true)
-nothing_of_it rules =
-    ([], ([], ([], (nothing_come rules, ((refl, IsUtf8-nil), (none_given rules true, (((refl, refl), (0, omega arith, refl)), refl)))))))
+nothing_of_it rules = ([], ([], ([], (nothing_come rules, (refl, (none_given rules true, (((refl, refl), (0, omega arith, refl)), refl)))))))
 
 no_byte_of_it : (rules : ModeRules) → ¬ WritesCutPart rules true (page rules) nothing_read (screen [] false) Write (screen (codes "x") true)
 no_byte_of_it rules (text, (left, (xs, (c, (begins, (are, ((breaks, (n, le, e)), same))))))) =
-    let none = nothing_given rules text left xs c true begins.0 are in
+    let none = nothing_given rules text left xs c true begins are in
     no_byte n (subst (λ (ys : List Item). n ≤ length (page_of Html rules.names ys)) none le)
     (subst (λ (ys : List Item). Appends (Some []) (Some (codes "x")) (take n (page_of Html rules.names ys))) none e)

@@ -1,36 +1,38 @@
 -- A text that comes and is cut: its pieces, where they lie, and what is written for them.
-use Rattle.std.specs.Prelude.{◌≡◌, ℕ, ◌+◌, ◌≤◌, ◌⊎◌, Bool, true, false, ◌||◌, List, [], ◌∷◌, ◌++◌, length, take, map, reverse, Option, Some, None, option_map, is_some, string_bytes}
-use Rattle.std.specs.Str.{chars, IsUtf8}
+use Rattle.std.specs.Prelude.{◌≡◌, ℕ, ◌+◌, ◌≤◌, ◌⊎◌, Bool, true, false, ◌||◌, List, [], ◌∷◌, ◌++◌, length, map, reverse, Option, Some, None, option_map, is_some, string_bytes}
+use Rattle.bajofeki.specs.Begun.{IsBegun}
 use Rattle.bajofeki.specs.Chunked.{Chunked, GivesFinal, Came, IsHeldBack, BeginsFault, MayMatch}
-use Rattle.bajofeki_rules.specs.Position.{place_after, position_of}
+use Rattle.bajofeki_rules.specs.Position.{byte_place, byte_place_of, moved}
 use Rattle.bajofeki_rules.specs.declared.position.Position.{Position}
 use Rattle.bajofeki.specs.Markup.{marked}
 use Rattle.bajofeki.specs.Terminal.{painted}
 use Rattle.lalrpop_rules.specs.Modes.{ModeRules, AllOf, after}
 use Rattle.bajofeki_rules.specs.Stack.{Stack, start, actions_of}
 use Rattle.bajofeki_rules.specs.declared.action.Action.{Action}
-use Rattle.lalrpop_rules.specs.Pieces.{joined, slice_of, start_of}
+use Rattle.lalrpop_rule_file.specs.RuleFile.{without_mark}
+use Rattle.lalrpop_rules.specs.Pieces.{slice_of, start_of}
 use Rattle.lalrpop_rules.specs.declared.item.Item.{Item}
 use Rattle.lalrpop_rules.specs.declared.item.Item.TheVariants.{Token, Skipped, Fault}
 use Rattle.lexdfa_lib.specs.Streams.{Stream, ReadEnd, AtEnd, Failed, LeftOff, Reads}
 use Rattle.reports_lib.specs.ItemLines.{line_in, mode_named, name_at}
 use Rattle.reports_lib.specs.declared.layout.LineForm.{LineForm}
 use Rattle.tokens_lib.specs.Console.{Console, Writes, WritesPart}
-use Rattle.tokens_lib.specs.CutEnds.{BreaksOff, first_fault}
+use Rattle.tokens_lib.specs.CutEnds.{IsFoundNext, first_fault}
 use Rattle.tokens_lib.specs.OpenModes.{open_behind, pushed_all}
+use Rattle.tokens_lib.specs.TextAnswer.{legible}
 use Rattle.lexdfa_lib.specs.declared.error.RunError.{RunError}
 use Rattle.tokens_lib.specs.Internal.Incoming.{IsIncoming}
 use Rattle.tokens_lib.specs.declared.command.Markup.{Markup}
 use Rattle.tokens_lib.specs.declared.command.Markup.TheVariants.{Html as MarkupHtml, Ansi as MarkupAnsi}
 use Rattle.tokens_lib.specs.declared.cut_end.CutEnd.{CutEnd}
-use Rattle.tokens_lib.specs.declared.cut_end.CutEnd.TheVariants.{Whole, Stopped, Broken}
+use Rattle.tokens_lib.specs.declared.cut_end.CutEnd.TheVariants.{Whole, Stopped, Unread}
+use Rattle.tokens_lib.specs.declared.cut_end.Found.{Found}
 use Rattle.tokens_lib.specs.declared.cut_end.OpenMode.{OpenMode}
-use Rattle.tokens_lib.specs.declared.cutter.Coming.{Coming}
-use Rattle.tokens_lib.specs.declared.cutter.Coming.TheVariants.{More, Nothing, NoCharacter, Failure}
 use Rattle.tokens_lib.specs.declared.cutter.Cutter.{Cutter}
+use Rattle.tokens_lib.specs.declared.incoming.Brought.{Brought}
+use Rattle.tokens_lib.specs.declared.incoming.Brought.TheVariants.{More, Nothing, Failure}
 use Rattle.tokens_lib.specs.declared.sheet.Form.{Form}
 use Rattle.tokens_lib.specs.declared.sheet.Form.TheVariants.{Lines, Html, Ansi}
-use Rattle.tokens_lib.specs.declared.cut_end.TextError.TheVariants.{NotText, Read}
 
 -- ---- places
 
@@ -55,14 +57,13 @@ is_fault (Fault begin slice) = true
 -- a piece is given, which begins at this place and was read in this mode
 pub record GivesCut (old : Cutter) (x : Item) (place : Position) (mode : ℕ) (new : Cutter) : Type 0 where
   pub gives : GivesFinal old.incoming.chunks (Some x) new.incoming.chunks
-  pub utf8 : IsUtf8 (slice_of x)
-  pub decoder : new.incoming.decoder ≡ old.incoming.decoder
+  pub front : new.incoming.front ≡ old.incoming.front
   pub begun : new.incoming.has_begun ≡ old.incoming.has_begun
   pub lexer : new.lexer ≡ old.lexer
   pub at : new.at ≡ old.at + length (slice_of x)
   pub place_is : place ≡ old.here
   pub mode_is : mode ≡ old.incoming.chunks.stack.mode
-  pub here : new.here ≡ place_after old.here (slice_of x)
+  pub here : new.here ≡ moved old.here (byte_place (slice_of x))
   pub fault : new.has_fault ≡ (old.has_fault || is_fault x)
   pub places : reverse new.places.items ≡ opened_after old.lexer.now.actions place x (reverse old.places.items)
 
@@ -76,29 +77,26 @@ pub record IsCutInto (rules : ModeRules) (text : List ℕ) (xs : List Item) (c :
   pub came : Came rules text xs c.incoming.chunks
   pub lexer : c.lexer.now ≡ rules
   pub at : c.at ≡ c.incoming.chunks.at
-  pub utf8 : IsUtf8 (joined xs)
   pub begin : BeginWithin c.incoming.chunks.at xs
-  pub here : c.here ≡ position_of text c.incoming.chunks.at
+  pub here : c.here ≡ byte_place_of text c.incoming.chunks.at
   pub fault : c.has_fault ≡ is_some (first_fault xs)
-  pub places : reverse c.places.items ≡ map (position_of text) (open_behind rules.actions xs [])
+  pub places : reverse c.places.items ≡ map (byte_place_of text) (open_behind rules.actions xs [])
   pub opened : AllOf (λ n. n ≤ c.incoming.chunks.at) (open_behind rules.actions xs [])
 
 -- ---- what comes
 
--- what may still come, after a read that ended so
-abbrev pub IsComing : ReadEnd → List ℕ → List ℕ → Cutter → Coming → Type 0
-IsComing end text left c More = (end ≡ LeftOff) × ((c.incoming.decoder.is_broken ≡ false) × (c.incoming.chunks.is_ended ≡ false))
-IsComing end text left c Nothing = (end ≡ AtEnd) × ((left ≡ []) × (c.incoming.chunks.is_ended ≡ true))
-IsComing end text left c (NoCharacter at) = BreaksOff end text left (NotText at) × (c.incoming.chunks.is_ended ≡ false)
-IsComing end text left c Failure = (end ≡ Failed) × (BreaksOff Failed text left Read × (c.incoming.chunks.is_ended ≡ false))
+-- what is known of the text after a read that brought this
+abbrev pub HasCome : ReadEnd → List ℕ → List ℕ → Cutter → Brought → Type 0
+HasCome end bytes text c More = (end ≡ LeftOff) × (IsIncoming bytes text c.incoming × (c.incoming.chunks.is_ended ≡ false))
+HasCome end bytes text c Nothing = (end ≡ AtEnd) × ((without_mark bytes ≡ text) × (c.incoming.chunks.is_ended ≡ true))
+HasCome end bytes text c Failure = (end ≡ Failed) × ((without_mark bytes ≡ text) × (c.incoming.chunks.is_ended ≡ false))
 
--- what a read brings: bytes, and a part of the text, whatever was read before
-abbrev pub Comes : ModeRules → Stream → Stream → Cutter → Cutter → Coming → Type 0
-Comes rules s t old new coming =
+-- a read brings bytes, and a part of the text, whatever was read before
+abbrev pub Comes : ModeRules → Stream → Stream → Cutter → Cutter → Brought → Type 0
+Comes rules s t old new brought =
     (more : List ℕ) × ((end : ReadEnd) × (Reads s t (record { bytes = more; end = end })
-    × ((bytes text left : List ℕ) (xs : List Item) → IsIncoming bytes text left old.incoming → IsCutInto rules text xs old
-    → (chunk : List ℕ) × ((behind : List ℕ) × (IsIncoming (bytes ++ more) (text ++ chunk) behind new.incoming
-    × (IsCutInto rules (text ++ chunk) xs new × IsComing end (text ++ chunk) behind new coming))))))
+    × ((bytes text : List ℕ) (xs : List Item) → IsIncoming bytes text old.incoming → IsCutInto rules text xs old
+    → (chunk : List ℕ) × (IsCutInto rules (text ++ chunk) xs new × HasCome end (bytes ++ more) (text ++ chunk) new brought))))
 
 -- ---- how cutting ends
 
@@ -107,12 +105,11 @@ abbrev pub open_place : ℕ → List Position → Option OpenMode
 open_place mode [] = None
 open_place mode (place ∷ places) = Some (record { mode = mode; place = place })
 
--- by what may still come
-abbrev pub end_by : Cutter → Coming → Option CutEnd
+-- by what reading brought
+abbrev pub end_by : Cutter → Brought → Option CutEnd
 end_by c More = None
 end_by c Nothing = Some (Whole c.has_fault (open_place c.incoming.chunks.stack.mode (reverse c.places.items)))
-end_by c (NoCharacter at) = Some (Broken (NotText at))
-end_by c Failure = Some (Broken Read)
+end_by c Failure = Some Unread
 
 -- ---- what is written
 
@@ -123,12 +120,22 @@ line_here form recovers file names mode place (Skipped token) = []
 line_here form true file names mode place (Fault begin slice) = line_in form file place begin None mode slice.now
 line_here form false file names mode place (Fault begin slice) = []
 
+-- the markup of a piece; lines have none
+abbrev pub markup_of : Form → List (List ℕ) → Item → List ℕ
+markup_of (Lines layout) names x = []
+markup_of Html names x = marked names x
+markup_of (Ansi painter) names x = painted painter x
+
 -- what is written for a piece that begins at this place and was read in this mode
 abbrev pub piece_shown : Form → List (List ℕ) → Position → ℕ → Item → List ℕ
 piece_shown (Lines layout) names place mode x =
     line_here layout.form layout.recovers (option_map (λ f. f.now) layout.file) names (mode_named (map string_bytes layout.modes.now) mode) place x
-piece_shown Html names place mode x = marked names x
-piece_shown (Ansi painter) names place mode x = painted painter x
+piece_shown form names place mode x = markup_of form names (legible x)
+
+-- whether lines are written
+abbrev pub has_lines : Form → Bool
+has_lines (Lines layout) = true
+has_lines form = false
 
 -- whether cutting goes on after a fault
 abbrev pub goes_on : Form → Bool
@@ -146,7 +153,7 @@ IsPageForm _ _ names = ⊥
 abbrev pub shown_from : Form → ModeRules → List ℕ → Stack → List Item → List ℕ
 shown_from form rules text s [] = []
 shown_from form rules text s (x ∷ xs) =
-    piece_shown form rules.names (position_of text (start_of x)) s.mode x ++ shown_from form rules text (after rules.actions x s) xs
+    piece_shown form rules.names (byte_place_of text (start_of x)) s.mode x ++ shown_from form rules text (after rules.actions x s) xs
 
 abbrev pub shown : Form → ModeRules → List ℕ → List Item → List ℕ
 shown form rules text xs = shown_from form rules text start xs
@@ -179,21 +186,21 @@ pub record EndsAtFault (form : Form) (rules : ModeRules) (text : List ℕ) (xs :
   pub no_fault : first_fault xs ≡ None
   pub ends : goes_on form ≡ false
   pub fault : BeginsFault c
-  pub found : ℕ
-  pub ended_is : ended ≡ Stopped (position_of text c.at) found
-  pub character : take 1 (chars c.rest) ≡ found ∷ []
+  pub found : Found
+  pub ended_is : ended ≡ Stopped (byte_place_of text c.at) found
+  pub shows : IsFoundNext c found
 
 -- nothing has changed of what comes
 pub record IsAsBefore (old new : Cutter) : Type 0 where
   pub lexer : new.lexer ≡ old.lexer
-  pub decoder : new.incoming.decoder ≡ old.incoming.decoder
+  pub front : new.incoming.front ≡ old.incoming.front
   pub begun : new.incoming.has_begun ≡ old.incoming.has_begun
   pub ended : new.incoming.chunks.is_ended ≡ old.incoming.chunks.is_ended
 
 -- no piece can be given any more, before more comes
 pub record IsWaiting (form : Form) (c : Chunked) : Type 0 where
   pub held : IsHeldBack c
-  pub may : goes_on form ≡ false → (c.rest ≡ []) ⊎ MayMatch c
+  pub may : goes_on form ≡ false → IsBegun c.rest ⊎ MayMatch c
 
 -- all pieces were given that can be; or cutting ends at a fault after those that were given
 abbrev pub GivesAll : Form → ModeRules → List ℕ → Cutter → Cutter → List ℕ → Console → Console → Option CutEnd → Type 0

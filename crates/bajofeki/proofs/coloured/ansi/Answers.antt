@@ -33,7 +33,7 @@ returns-clause-text c =
     let i = c.loop-item.invariant.so_far in
     let given = c.in_ok-item-items.ensures in
     let all = all_pieces _ _ _ _ _ i.0 c.into_iter-item-iterator.ensures.into_iter_gives i.1.0 c.in-None.is c.next.ensures.steps given.next in
-    ap unpainted i.1.1 ∙ pieces_out _ c.args.lexer.now _ _ _ _ _ (given.items i.0 _ all.0 all.1) ∙ given.whole i.0 _ all.0 all.1
+    ap unpainted i.1.1 ∙ pieces_out _ c.args.lexer.now _ _ _ _ _ c.utf8.text (given.items i.0 _ all.0 all.1) ∙ given.whole i.0 _ all.0 all.1
 
 pub returns-clause-sequences : goal.returns-clause-sequences
 returns-clause-sequences c =

@@ -27,7 +27,7 @@ returns-clause-text c =
     let i = c.loop-item.invariant in
     let given = c.in_ok-item-items.ensures in
     let all = all_pieces _ _ _ _ _ i.0 c.into_iter-item-iterator.ensures.into_iter_gives i.1.0 c.in-None.is c.next.ensures.steps given.next in
-    ap outside i.1.1 ∙ pieces_out _ c.args.lexer.now _ _ _ _ _ (given.items i.0 _ all.0 all.1) ∙ given.whole i.0 _ all.0 all.1
+    ap outside i.1.1 ∙ pieces_out _ c.args.lexer.now _ _ _ _ _ c.utf8.text (given.items i.0 _ all.0 all.1) ∙ given.whole i.0 _ all.0 all.1
 
 pub returns-clause-tags : goal.returns-clause-tags
 returns-clause-tags c =

@@ -43,6 +43,7 @@ returns-in_default-clause-next c = λ r are.
     let nothing = none_at ts r.precedences text s.at ((none.found table.0 table.1).longest right.automaton right.right ts r.precedences recognizes) in
     let below = c.args.below.now in
     fault_comes r n.kinds (length below) text s.at (stack_of s below) (stack_of c.fault-piece.new.state below) c.fault-piece.result c.fault-piece.ensures.piece
+    (omega (arith, c.fault-piece.ensures.place.ends, c.fault-piece.ensures.place.within))
     (c.fault-piece.ensures.fault table.0 table.1 right.automaton right.right ts r.precedences recognizes nothing) (same_stack s c.fault-piece.new.state below c.fault-piece.ensures.stack)
 
 pub returns-in_default-clause-run : goal.returns-in_default-clause-run

@@ -1,10 +1,11 @@
-use Rattle.std.proofs.Common.{◌≡◌, true, false, List, ℕ, [], ◌∷◌, ◌++◌, take, refl, sym, ap, subst, ◌∙◌}
+use Rattle.std.proofs.Common.{◌≡◌, true, false, List, ℕ, [], ◌∷◌, ◌++◌, refl, sym, ap, subst, ◌∙◌}
 use Rattle.std.specs.Prelude.{not}
-use Rattle.std.specs.Str.{chars}
 use Rattle.lexdfa_lib.specs.declared.error.RunError.TheVariants.{OutOfMemory}
 use Rattle.lalrpop_rules.proofs.Results.{handed_on}
 use Rattle.bajofeki.specs.Given.{item_of}
+use Rattle.lalrpop_rules.specs.Pieces.{slice_of}
 use Rattle.tokens_lib.specs.Console.{WritesPart}
+use Rattle.tokens_lib.specs.CutEnds.{IsFound}
 use Rattle.tokens_lib.specs.Internal.CutTexts.{GivesCut, goes_on, is_fault}
 use Rattle.tokens_lib.proofs.CutLaws.{fault_by, slice_by}
 use Rattle.tokens_lib.proofs.GivingLaws.{GivesSome, as_more, in_part_more, in_part_now, less_left, one_more, same_piece, some_slice, stops_at, waits_now, waits_or_stops}
@@ -37,14 +38,15 @@ returns-then-not-goes_on-clause-given g c begun text xs is =
     (rw c.in-Some.is at c.in_ok-cut.ensures.gives) slice c.slice-slice.ensures.slice in
     let ends : goes_on c.args.sheet.now.form ≡ false = ap goes_on (sym c.giving.invariant.form) ∙ sym c.goes_on.ensures.goes ∙ c.if-not-goes_on.true in
     let fault : is_fault (item_of piece slice) ≡ true = fault_by piece.rule piece.is_skipped piece.start slice ∙ ap not (c.is_none.ensures ∙ ap not c.if-is_none.true) in
-    let first = ap (λ (t : List ℕ). take 1 (chars t)) (slice_by piece.rule piece.is_skipped piece.start slice) ∙ c.stopped.ensures.stopped.1.1 in
+    let shows : IsFound (slice_of (item_of piece slice)) c.stopped.ensures.stopped.0 =
+    subst (λ (t : List ℕ). IsFound t c.stopped.ensures.stopped.0) (sym (slice_by piece.rule piece.is_skipped piece.start slice)) c.stopped.ensures.stopped.1.1 in
     let ys = c.giving.invariant.given begun text xs is in (
       ys.0,
       (
         c.giving.cutter.incoming.chunks,
         (
           stops_at _ _ text ys.0 c.giving.cutter _ begun _ ys.1 c.next_piece.new.self (item_of piece slice) _ _ gives ends fault c.stopped.ensures.stopped.0 c.stopped.result
-              c.stopped.ensures.stopped.1.0 first,
+              c.stopped.ensures.stopped.1.0 shows,
           (ys.1.written, c.giving.invariant.same.ended),
         ),
       ),

@@ -11,7 +11,7 @@ returns c =
     let came = came_front r c.new-chunks.result c.feed.new.self front c.new-chunks.ensures.nothing fed in
     let goes : c.take_pieces.new.chunks.is_ended ≡ false =
     c.in_ok-take_pieces.ensures.ended ∙ goes_on r c.new-chunks.result c.feed.new.self front c.new-chunks.ensures.nothing fed in
-    let got = c.in_ok-take_pieces.ensures.taken r front [] came c.new-first.ensures.bytes in
+    let got = c.in_ok-take_pieces.ensures.taken r front [] came c.new-first.ensures.items in
     record {
       begins = λ back ys end all.
           (length got.0, got.1.1 ∙ same_joined got.0 (take (length got.0) ys) (came_first r front got.0 c.take_pieces.new.chunks got.1.0 goes back ys end all));

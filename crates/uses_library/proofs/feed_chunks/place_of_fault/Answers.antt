@@ -1,4 +1,4 @@
-use Rattle.std.proofs.Common.{◌≡◌, false, [], length, ap, ◌∙◌}
+use Rattle.std.proofs.Common.{rules, ◌≡◌, false, [], length, arith, ◌∙◌}
 use Rattle.uses_library.proofs.Joining.{came_front, goes_on, fault_at}
 use Rattle.uses_library.proofs.feed_chunks.place_of_fault.Goals as goal
 
@@ -10,8 +10,9 @@ returns c =
     let came = came_front r c.new-chunks.result c.feed.new.self front c.new-chunks.ensures.nothing fed in
     let goes : c.take_pieces.new.chunks.is_ended ≡ false =
     c.in_ok-take_pieces.ensures.ended ∙ goes_on r c.new-chunks.result c.feed.new.self front c.new-chunks.ensures.nothing fed in
-    let got = c.in_ok-take_pieces.ensures.taken r front [] came c.new-before.ensures.bytes in
+    let got = c.in_ok-take_pieces.ensures.taken r front [] came c.new-before.ensures.items in
+    let size : c.len.result ≡ length c.take_pieces.new.whole.items = first_of (omega arith, search rules) in
     record {
       fault = λ back ys end all.
-          fault_at r front _ got.0 c.take_pieces.new.chunks (length c.as_str.result.now) got.1.0 goes (c.begins_fault.ensures.yes c.if-not-begins_fault.false) got.1.1 (ap length c.as_str.ensures.value) back ys end all;
+          fault_at r front _ got.0 c.take_pieces.new.chunks c.len.result got.1.0 goes (c.begins_fault.ensures.yes c.if-not-begins_fault.false) got.1.1 size back ys end all;
     }

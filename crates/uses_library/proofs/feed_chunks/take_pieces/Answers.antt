@@ -24,7 +24,7 @@ pieces-preserved c =
       λ r text xs came is.
           let old = so_far.0 r text xs came is in (
             old.0 ++ item_of piece slice ∷ [],
-            (came_given r text old.0 c.pieces.chunks c.next_piece.new.self old.1.0 (item_of piece slice) gives, bytes_on old.0 piece slice _ _ old.1.1 c.in_ok-push_str-in-Some.ensures.bytes),
+            (came_given r text old.0 c.pieces.chunks c.next_piece.new.self old.1.0 (item_of piece slice) gives, bytes_on old.0 piece slice _ _ old.1.1 c.in_ok-extend_from_slice-in-Some.ensures.items),
           ),
       ap (λ (d : Chunked). d.is_ended) gives.2 ∙ so_far.1,
     )

@@ -57,9 +57,9 @@ returns-in-Err-clause-no_clash c = let whole : IsWhole c.args.self.now c.self.in
 pub returns-in-Ok-clause-exist : goal.returns-in-Ok-clause-exist
 returns-in-Ok-clause-exist c =
     let whole : IsWhole c.args.self.now c.self.inside.lexers.items = rw (← c.self.view_is) c.self.invariant in
-    pieces-from-exist c.args.self.now c.args.text.now whole.clear whole.within whole.some c.utf8.text
+    pieces-from-exist c.args.self.now c.args.text.now whole.clear whole.within whole.some
 
 pub returns-in-Err-clause-exist : goal.returns-in-Err-clause-exist
 returns-in-Err-clause-exist c =
     let whole : IsWhole c.args.self.now c.self.inside.lexers.items = rw (← c.self.view_is) c.self.invariant in
-    pieces-from-exist c.args.self.now c.args.text.now whole.clear whole.within whole.some c.utf8.text
+    pieces-from-exist c.args.self.now c.args.text.now whole.clear whole.within whole.some

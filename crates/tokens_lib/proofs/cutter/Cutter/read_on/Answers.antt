@@ -1,68 +1,34 @@
-use Rattle.std.proofs.Common.{refl, sym, ap, ◌∙◌}
+use Rattle.std.proofs.Common.{refl}
 use Rattle.lexdfa_lib.specs.Streams.{AtEnd, Failed, LeftOff}
-use Rattle.tokens_lib.specs.declared.cut_end.TextError.TheVariants.{NotText}
-use Rattle.tokens_lib.specs.declared.cutter.Coming.TheVariants.{More, NoCharacter, Failure}
-use Rattle.tokens_lib.proofs.ComingLaws.{comes_so, comes_whole, size_is, still_goes}
+use Rattle.tokens_lib.proofs.ComingLaws.{comes_more, comes_to_failure, comes_whole}
+use Rattle.tokens_lib.proofs.Incomings.{on_err}
 use Rattle.tokens_lib.proofs.cutter.Cutter.read_on.Goals as goal
-use Rattle.tokens_lib.proofs.cutter.Cutter.read_on.Goals.{in-More+else-not-is_broken, in-Nothing+else-not-is_within}
 
-pub returns-in-Failure-clause-comes : goal.returns-in-Failure-clause-comes
-returns-in-Failure-clause-comes g c =
-    let brought = rw c.in-Failure.is at c.in_ok-read_on.ensures.brought in
-    let whole = c.in_ok-read_on.ensures.whole (λ more. cc (more, c.in-Failure.is)) in
-    comes_so c.args.self.now c.read_on.new.self c.args.reader.now c.read_on.new.reader Failed c.requires.goes brought Failure
-    (λ bytes text left xs incoming cut.
-    (refl, (((incoming.begun whole).0, refl), still_goes c.args.self.now c.read_on.new.self c.args.reader.now c.read_on.new.reader Failed c.requires.goes brought)))
+pub returns-in_err-read_on-clause-lost : goal.returns-in_err-read_on-clause-lost
+returns-in_err-read_on-clause-lost g c =
+    let lost = c.in_err-read_on.ensures.lost in
+    on_err c.from_residual.result (record { bytes = lost.0; end = LeftOff }, lost.1)
+
+pub returns-in_err-release-in-Nothing-clause-lost : goal.returns-in_err-release-in-Nothing-clause-lost
+returns-in_err-release-in-Nothing-clause-lost g c =
+    let read = rw c.in-Nothing.is at c.in_ok-read_on.ensures.brought in
+    on_err c.from_residual-in_err-release-in-Nothing.result (record { bytes = read.0; end = AtEnd }, read.1.0)
+
+pub returns-in_err-release-in-Failure-clause-lost : goal.returns-in_err-release-in-Failure-clause-lost
+returns-in_err-release-in-Failure-clause-lost g c =
+    let read = rw c.in-Failure.is at c.in_ok-read_on.ensures.brought in
+    on_err c.from_residual-in_err-release-in-Failure.result (record { bytes = read.0; end = Failed }, read.1.0)
 
 pub returns-in-More-clause-comes : goal.returns-in-More-clause-comes
 returns-in-More-clause-comes g c =
-    let brought = rw c.in-More.is at c.in_ok-read_on.ensures.brought in
-    comes_so c.args.self.now c.read_on.new.self c.args.reader.now c.read_on.new.reader LeftOff c.requires.goes brought More
-    (λ bytes text left xs incoming cut. (
-      refl,
-      (
-        sym c.is_broken.ensures.broken ∙ c.if-not-is_broken.true,
-        still_goes c.args.self.now c.read_on.new.self c.args.reader.now c.read_on.new.reader LeftOff c.requires.goes brought,
-      ),
-    ))
+    comes_more c.args.self.now c.read_on.new.self c.args.reader.now c.read_on.new.reader LeftOff c.requires.goes (rw c.in-More.is at c.in_ok-read_on.ensures.brought) refl
 
-pub returns-in-Nothing-clause-comes : goal.returns-in-Nothing-clause-comes
-returns-in-Nothing-clause-comes g c =
-    let brought = rw c.in-Nothing.is at c.in_ok-read_on.ensures.brought in
-    let whole = c.in_ok-read_on.ensures.whole (λ more. cc (more, c.in-Nothing.is)) in
-    comes_whole c.args.self.now c.read_on.new.self c.args.reader.now c.read_on.new.reader AtEnd c.requires.goes brought _
-    refl whole (c.is_within.ensures.no c.if-not-is_within.true) c.finish.ensures.ended refl refl
+pub returns-in_ok-release-in-Nothing-clause-comes : goal.returns-in_ok-release-in-Nothing-clause-comes
+returns-in_ok-release-in-Nothing-clause-comes g c =
+    comes_whole c.args.self.now c.read_on.new.self c.args.reader.now c.read_on.new.reader AtEnd c.requires.goes (rw c.in-Nothing.is at c.in_ok-read_on.ensures.brought)
+    c.release.new.self c.in_ok-release-in-Nothing.ensures.all _ refl c.finish.ensures.ended
 
-pub returns-in_ok-size-in-More-2-clause-comes : goal.returns-in_ok-size-in-More-2-clause-comes
-returns-in_ok-size-in-More-2-clause-comes g c =
-    elim c.in-More-2-1.branch [
-      | in-More+else-not-is_broken w ↦ (
-          let brought = rw w.in-More.is at c.in_ok-read_on.ensures.brought in
-          comes_so c.args.self.now c.read_on.new.self c.args.reader.now c.read_on.new.reader LeftOff c.requires.goes brought
-          (NoCharacter c.in_ok-size-in-More-2.field-0)
-          (λ bytes text left xs incoming cut. (
-            (
-              incoming.broken (sym w.is_broken.ensures.broken ∙ w.if-not-is_broken.false),
-              ap NotText (size_is c.args.self.now.lexer.now text xs _ c.in_ok-size-in-More-2.field-0 cut c.in_ok-size-in-More-2.ensures.size),
-            ),
-            still_goes c.args.self.now c.read_on.new.self c.args.reader.now c.read_on.new.reader LeftOff c.requires.goes brought,
-          ))
-          )
-      | in-Nothing+else-not-is_within w ↦ (
-          let brought = rw w.in-Nothing.is at c.in_ok-read_on.ensures.brought in
-          let whole = c.in_ok-read_on.ensures.whole (λ more. cc (more, w.in-Nothing.is)) in
-          comes_so c.args.self.now c.read_on.new.self c.args.reader.now c.read_on.new.reader AtEnd c.requires.goes brought
-          (NoCharacter c.in_ok-size-in-More-2.field-0)
-          (λ bytes text left xs incoming cut.
-          let begun = incoming.begun whole in (
-            (
-              begun.0,
-              (
-                (λ none. w.is_within.ensures.yes w.if-not-is_within.false (sym begun.1 ∙ none)),
-                ap NotText (size_is c.args.self.now.lexer.now text xs _ c.in_ok-size-in-More-2.field-0 cut c.in_ok-size-in-More-2.ensures.size),
-              ),
-            ),
-            still_goes c.args.self.now c.read_on.new.self c.args.reader.now c.read_on.new.reader AtEnd c.requires.goes brought,
-          ))
-          )
-    ]
+pub returns-in_ok-release-in-Failure-clause-comes : goal.returns-in_ok-release-in-Failure-clause-comes
+returns-in_ok-release-in-Failure-clause-comes g c =
+    comes_to_failure c.args.self.now c.read_on.new.self c.args.reader.now c.read_on.new.reader Failed c.requires.goes (rw c.in-Failure.is at c.in_ok-read_on.ensures.brought)
+    c.release-in-Failure.new.self c.in_ok-release-in-Failure.ensures.all refl

@@ -1,4 +1,4 @@
-use Rattle.std.proofs.Common.{◌≡◌, ◌+◌, ◌<◌, ◌≤◌, false}
+use Rattle.std.proofs.Common.{◌+◌, ◌<◌, ◌≤◌}
 use Rattle.lexdfa_lib.specs.Streams.{LeftOff}
 use Rattle.tokens_lib.specs.Internal.Incoming.{ReadsOn, held}
 use Rattle.tokens_lib.proofs.incoming.Incoming.read_much.Given as goal
@@ -6,7 +6,6 @@ use Rattle.tokens_lib.proofs.incoming.Incoming.read_much.Given as goal
 abbrev pub invariant-loop-n : goal.invariant-loop-n
 invariant-loop-n g l = record {
   brought : ReadsOn l.fn.reader l.reader LeftOff l.fn.self l.self;
-  whole : l.self.decoder.is_broken ≡ false;
   some : 0 < l.left;
   size : held l.fn.self + l.fn.wanted ≤ held l.self + l.left;
 }
