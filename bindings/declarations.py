@@ -1,6 +1,6 @@
 """What crates/bajofeki_c exports, and what the header, the Rust crate and the Python module declare of it: functions by name, each with
 what it gives and takes, and structs by name, each with its fields. All in Rust's words; a lexer or a cutter is bytes. And what the stub of
-the Python module says of its classes, and what they are."""
+the Python module says of its classes and functions, and what they are."""
 import ast
 import enum
 import inspect
@@ -65,7 +65,8 @@ def of_python(module):
 
 
 def in_stub():
-    """Of each class of the stub its methods' parameters, with `=` after those that have a default, and its fields or values."""
+    """Of each function of the stub its parameters, with `=` after those that have a default; of each class those of its methods, and its
+    fields or values."""
 
     def member(it):
         if isinstance(it, ast.FunctionDef):
@@ -73,8 +74,9 @@ def in_stub():
             return it.name, [arg.arg + default for arg, default in zip(it.args.args, defaults)]
         return (it.target.id, None) if isinstance(it, ast.AnnAssign) else (it.targets[0].id, ast.literal_eval(it.value))
 
-    classes = [it for it in ast.parse((HOME / "python/bajofeki/__init__.pyi").read_text()).body if isinstance(it, ast.ClassDef)]
-    return {it.name: dict(member(part) for part in it.body if not isinstance(part, ast.Expr)) for it in classes}
+    body = ast.parse((HOME / "python/bajofeki/__init__.pyi").read_text()).body
+    classes = {it.name: dict(member(part) for part in it.body if not isinstance(part, ast.Expr)) for it in body if isinstance(it, ast.ClassDef)}
+    return {**dict(member(it) for it in body if isinstance(it, ast.FunctionDef)), **classes}
 
 
 def in_module(module, stub):
@@ -85,6 +87,8 @@ def in_module(module, stub):
         return [arg.name + "=" * (arg.default is not arg.empty) for arg in found if arg.kind is arg.POSITIONAL_OR_KEYWORD]
 
     def members(it):
+        if inspect.isfunction(it):
+            return parameters(it)
         if issubclass(it, enum.Enum):
             return {value.name: value.value for value in it}
         if hasattr(it, "_fields"):
@@ -120,4 +124,4 @@ def compared(module):
         title = f"{len(found)} functions and {len(structs_found)} structs in {name}"
         yield title, differences({**wanted, **laid}, {**found, **structs_found})
     stub = in_stub()
-    yield f"{len(stub)} classes in Python's stub", differences(in_module(module, stub), stub)
+    yield f"{len(stub)} classes and functions in Python's stub", differences(in_module(module, stub), stub)

@@ -25,6 +25,7 @@
 #include <stddef.h>
 #include <stdint.h>
 #include <stdlib.h>
+#include <string.h>
 #ifdef __cplusplus
 extern "C" {
 #endif
@@ -50,6 +51,15 @@ enum {
     BAJOFEKI_TOO_DEEP = 4,    /* the next token would put a mode on top of more than 1024 others; so does each further call */
     BAJOFEKI_NO_LEXER = 9,    /* there is no lexer, or no cut of this text */
     BAJOFEKI_BAD_ARGUMENT = 10 /* by the second part of this file alone: a null pointer to something, or a length past PTRDIFF_MAX */
+};
+
+/* What a check of rules came to: the status of `tokens --check`. */
+enum {
+    BAJOFEKI_CLEAN = 0,   /* nothing is wrong */
+    BAJOFEKI_FOUND = 1,   /* something was found, or the file means something else than it seems to */
+    BAJOFEKI_REFUSED = 2, /* rules clash, or one can't be compiled */
+    BAJOFEKI_UNREAD = 3   /* a line is wrong, or a rule's text doesn't parse; else BAJOFEKI_OUT_OF_MEMORY, or, if the name of the file isn't
+                             UTF-8, BAJOFEKI_BAD_ARGUMENT */
 };
 
 /* What became of the page of a text, or of a source file: the code of a page. */
@@ -119,6 +129,14 @@ typedef struct {
     uint32_t code;
     size_t length; /* how many bytes the page has, whether or not they fit; 0 without a page */
 } bajofeki_page_t;
+
+/* What a check of rules writes: a line for each thing that it finds, and then what it says: why there are no rules, or, unless lines are
+   JSON, the warnings. */
+typedef struct {
+    uint32_t code;
+    size_t found;  /* how many bytes the lines have */
+    size_t length; /* how many bytes there are in all, whether or not they fit */
+} bajofeki_checked_t;
 
 typedef struct {
     uint32_t code;
@@ -254,6 +272,10 @@ bajofeki_count_t bajofeki_next(bajofeki_stream *stream, bajofeki_piece_t *out, s
 /* Gives a stream's memory back. */
 void bajofeki_stream_end(bajofeki_stream *stream);
 
+/* Checks a file of rules of this name, as `tokens --check` does, with `--json` or without (docs/PROGRAMS.md): writes what that writes to
+   standard output, and then what it says on standard error, as many bytes as the array takes, with no 0 after them. */
+bajofeki_checked_t bajofeki_check(const char *name, size_t name_length, const char *rules, size_t length, bool is_json, char *out, size_t room);
+
 /* The line and the column of an offset. It reads the text from its beginning. */
 bajofeki_place_t bajofeki_position(const char *text, size_t length, size_t at);
 
@@ -371,6 +393,18 @@ static inline bajofeki_page_t bajofeki_lexer_rust_source(const bajofeki_lexer *l
     bajofeki_page_t page = {BAJOFEKI_NO_LEXER, 0};
     bool is_bad = bajofeki_is_bad(out, room, 1);
     return lexer == NULL ? page : bajofeki_rust_source(lexer, is_bad || room == 0 ? none : out, is_bad ? 0 : room);
+}
+
+/* As bajofeki_check, of a file whose name ends with a 0; with NULL it is `rules`. With an `out` of NULL nothing is written. */
+static inline bajofeki_checked_t bajofeki_rules_check(const char *name, const char *rules, size_t length, bool is_json, char *out, size_t room) {
+    char none[1];
+    const char *file = name == NULL ? "rules" : name;
+    bajofeki_checked_t checked = {BAJOFEKI_BAD_ARGUMENT, 0, 0};
+    bool is_bad = bajofeki_is_bad(out, room, 1);
+    if (bajofeki_is_bad(rules, length, 1)) {
+        return checked;
+    }
+    return bajofeki_check(file, strlen(file), length == 0 ? "" : rules, length, is_json, is_bad || room == 0 ? none : out, is_bad ? 0 : room);
 }
 
 /* A text that is being cut. The lexer and the bytes stay the caller's, and last longer than it. It may be moved, but of two copies only

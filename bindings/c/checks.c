@@ -133,6 +133,29 @@ static void check_sources(void) {
     bajofeki_lexer_delete(self);
 }
 
+/* A check of rules that are clean, that clash, and that have a bad line, into an array of just its size and into the half of one. */
+static void check_checks(void) {
+    static const char *const files[] = {"A = 'a'\n", "A = 'a'\nB = 'a'\n", "A\n"};
+    static const uint32_t codes[] = {BAJOFEKI_CLEAN, BAJOFEKI_REFUSED, BAJOFEKI_UNREAD};
+    for (size_t i = 0; i < 3; i++) {
+        size_t length = strlen(files[i]);
+        bajofeki_checked_t checked = bajofeki_rules_check("f", files[i], length, true, NULL, 0);
+        char *all = (char *)malloc(checked.length + 1), *part = (char *)malloc(checked.length + 1);
+        memset(part, '?', checked.length + 1);
+        CHECK(checked.code == codes[i] && (checked.found > 0) == (i < 2) && (checked.length > checked.found) == (i == 2));
+        CHECK(bajofeki_rules_check("f", files[i], length, true, all, checked.length).length == checked.length);
+        CHECK(bajofeki_rules_check("f", files[i], length, true, part, checked.length / 2).length == checked.length);
+        CHECK(memcmp(all, part, checked.length / 2) == 0 && part[checked.length / 2] == '?');
+        CHECK(i != 1 || memcmp(all, "{\"file\":\"f\",\"line\":2,", 21) == 0);
+        CHECK(i != 2 || memcmp(all, "tokens: f:1:", 12) == 0);
+        free(all);
+        free(part);
+    }
+    CHECK(bajofeki_rules_check(NULL, NULL, 0, false, NULL, 0).code == BAJOFEKI_FOUND);
+    CHECK(bajofeki_rules_check(NULL, NULL, 1, false, NULL, 0).code == BAJOFEKI_BAD_ARGUMENT);
+    CHECK(bajofeki_rules_check("\xFF", "", 0, true, NULL, 0).code == BAJOFEKI_BAD_ARGUMENT);
+}
+
 static void check_arguments(const bajofeki_lexer *lexer) {
     bajofeki_piece_t piece;
     bajofeki_text none = bajofeki_text_begin(lexer, NULL, 1), empty = bajofeki_text_begin(lexer, NULL, 0);
@@ -264,9 +287,19 @@ static bool is_source_refused(const bajofeki_lexer *lexer, size_t n) {
     return is_refused(bajofeki_lexer_c_source(lexer, "lex", 3, NULL, 0).code);
 }
 
+static bool is_check_refused(size_t n) {
+    granted = n;
+    return is_refused(bajofeki_rules_check(NULL, three, strlen(three), false, NULL, 0).code);
+}
+
 static void check_memory(void) {
     bajofeki_lexer *lexer = NULL;
     size_t refused = 0;
+    while (is_check_refused(refused)) {
+        refused += 1 + refused / 16;
+    }
+    CHECK(refused > 0);
+    refused = 0;
     for (size_t n = 0; bajofeki_lexer_report(lexer).code != BAJOFEKI_BUILT; n++) {
         CHECK(lexer == NULL || bajofeki_lexer_report(lexer).code == BAJOFEKI_OUT_OF_MEMORY);
         bajofeki_lexer_delete(lexer);
@@ -415,6 +448,7 @@ int main(int count, char **words) {
     check_no_lexer();
     check_rules();
     check_sources();
+    check_checks();
     check_document();
     check_stream();
     check_memory();

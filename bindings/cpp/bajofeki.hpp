@@ -269,6 +269,31 @@ private:
     }
 };
 
+/* What a check of rules came to. */
+struct checked {
+    std::uint32_t code;   // BAJOFEKI_CLEAN, BAJOFEKI_FOUND, BAJOFEKI_REFUSED or BAJOFEKI_UNREAD
+    std::string findings; // the lines that `tokens --check` writes
+    std::string message;  // why there are no rules; the warnings, unless lines are JSON
+};
+
+/* Checks a file of rules of this name. Throws std::invalid_argument if the name isn't UTF-8. */
+inline checked check(std::string_view rules, const std::string &name = "rules", bool is_json = false) {
+    std::string all(1 << 16, ' ');
+    bajofeki_checked_t told = bajofeki_rules_check(name.c_str(), rules.data(), rules.size(), is_json, all.data(), all.size());
+    if (told.length > all.size()) {
+        all.resize(told.length);
+        told = bajofeki_rules_check(name.c_str(), rules.data(), rules.size(), is_json, all.data(), all.size());
+    }
+    if (told.code == BAJOFEKI_BAD_ARGUMENT) {
+        throw std::invalid_argument("bajofeki: the name of the file isn't UTF-8");
+    }
+    if (told.code == BAJOFEKI_OUT_OF_MEMORY) {
+        throw std::bad_alloc();
+    }
+    all.resize(told.length);
+    return {told.code, all.substr(0, told.found), all.substr(told.found)};
+}
+
 /* A text that is edited, with its pieces. */
 class document {
 public:

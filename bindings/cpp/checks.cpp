@@ -73,6 +73,11 @@ void check_errors() {
         CHECK(std::string_view(error.what()).substr(0, 7) == "line 1,");
     }
     CHECK(throws<bajofeki::rules_error>([] { bajofeki::lexer({}); }));
+    bajofeki::checked clash = bajofeki::check("A = 'a'\nB = 'a'\n", "f"), bad = bajofeki::check("A\n");
+    CHECK(clash.code == BAJOFEKI_REFUSED && clash.findings.substr(0, 23) == "f:2:6: B clashes with A" && clash.message.empty());
+    CHECK(bajofeki::check("A = 'a'\nB = 'a'\n", "f", true).findings.substr(0, 21) == "{\"file\":\"f\",\"line\":2,");
+    CHECK(bad.code == BAJOFEKI_UNREAD && bad.findings.empty() && bad.message.substr(0, 16) == "tokens: rules:1:");
+    CHECK(bajofeki::check(three).code == BAJOFEKI_CLEAN && throws<std::invalid_argument>([] { bajofeki::check("", "\xFF"); }));
     bajofeki::lexer deep("OPEN push INITIAL = '('\n");
     std::string text(1100, '(');
     std::size_t count = 0;

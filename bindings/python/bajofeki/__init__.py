@@ -20,9 +20,10 @@ from typing import NamedTuple, Optional, Tuple, Union
 from . import _library
 from ._library import LIBRARY, Piece as _Piece, Room as _Room, Text as _Text, name as _name, word as _word, written as _written
 
-__all__ = "Arrays Change Columns Document Item Kind Lexer NotUtf8Error Piece Place Places Rule RulesError RulesErrorKind Stream".split()
+__all__ = """Arrays Change Checked Columns Document Item Kind Lexer NotUtf8Error Outcome Piece Place Places Rule RulesError RulesErrorKind
+    Stream check""".split()
 
-_DONE, _BAD_RANGE, _BAD_NAME, _FULL, _NOT_UTF8, _TOO_DEEP, _TOO_LARGE, _OUT_OF_MEMORY, _ENDED = 0, 1, 1, 2, 3, 4, 6, 7, 8
+_DONE, _BAD_RANGE, _BAD_NAME, _FULL, _NOT_UTF8, _TOO_DEEP, _TOO_LARGE, _OUT_OF_MEMORY, _ENDED, _BAD_ARGUMENT = 0, 1, 1, 2, 3, 4, 6, 7, 8, 10
 _ROOM = 4096
 _PIECES = struct.Struct("@INNN")
 _made = tuple.__new__
@@ -337,12 +338,12 @@ class Lexer:
 
     def _page(self, shows, text):
         text = _Text(text.encode() if isinstance(text, str) else text)
-        code, page = _written(lambda out, room: shows(self._room.words, text.at, text.size, out, room), 2 * text.size)
-        if code == _NOT_UTF8:
+        page, data = _written(lambda out, room: shows(self._room.words, text.at, text.size, out, room), 2 * text.size)
+        if page.code == _NOT_UTF8:
             raise NotUtf8Error(_first_bad(text.data))
-        if code:
+        if page.code:
             raise MemoryError("no memory for the page of a text")
-        return page
+        return data.decode()
 
     def c_source(self, prefix="lex"):
         """The lexer as one source file in C, as `tokens --emit c` writes it, with names that begin with the prefix. ValueError if that isn't
@@ -416,12 +417,12 @@ def _bytes_of(text):
 
 def _source(call, reason):
     """The source file that a call writes; ValueError if a name can't stand in it."""
-    code, source = _written(call, 1 << 16)
-    if code == _BAD_NAME:
+    page, source = _written(call, 1 << 16)
+    if page.code == _BAD_NAME:
         raise ValueError(reason)
-    if code:
+    if page.code:
         raise MemoryError("no memory for a source file")
-    return source
+    return source.decode()
 
 
 def _rebuilt(kind, rules):
@@ -429,6 +430,45 @@ def _rebuilt(kind, rules):
     lexer = kind.__new__(kind)
     Lexer.__init__(lexer, rules)
     return lexer
+
+
+class Outcome(enum.Enum):
+    """What a check of rules came to. A file that is FOUND has rules of which something was found, or means something else than it seems to;
+    if it is REFUSED, rules clash, or one can't be compiled; if it is UNREAD, a line is wrong, or a rule's text doesn't parse."""
+
+    CLEAN = 0
+    FOUND = 1
+    REFUSED = 2
+    UNREAD = 3
+
+
+class Checked(NamedTuple):
+    """What a check of rules found."""
+
+    outcome: Outcome
+    findings: Tuple[str, ...]  # the lines that `tokens --check` writes
+    message: str  # why there are no rules; the warnings, unless lines are JSON
+
+
+def check(rules, name="rules", is_json=False):
+    """Checks a file of rules of this name, which is a str or bytes, as `tokens --check` does, with `--json` or without.
+
+    >>> check("IF = 0 'if'\\nNAME = 1 /[a-z]+/\\n", "my.rules").findings[0]
+    'my.rules:1:9: IF never wins: NAME wins "if"'
+    >>> import json
+    >>> checked = check("A = 'a'\\nB = 'a'\\n", is_json=True)
+    >>> checked.outcome, [json.loads(it)["kind"] for it in checked.findings]
+    (<Outcome.REFUSED: 2>, ['clash'])
+    """
+    rules, name = _bytes_of(rules), name.encode("utf-8", "surrogatepass")
+    call = lambda out, room: LIBRARY.bajofeki_check(name, len(name), rules, len(rules), is_json, out, room)
+    checked, data = _written(call, 1 << 16)
+    if checked.code == _BAD_ARGUMENT:
+        raise ValueError("the name of the file has a surrogate")
+    if checked.code == _OUT_OF_MEMORY:
+        raise MemoryError("no memory for a check of rules")
+    lines = tuple(it.decode() for it in data[: checked.found].splitlines())
+    return Checked(Outcome(checked.code), lines, data[checked.found :].decode())
 
 
 class Change(NamedTuple):

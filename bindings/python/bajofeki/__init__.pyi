@@ -8,12 +8,14 @@ from typing_extensions import Self
 __all__ = [
     "Arrays",
     "Change",
+    "Checked",
     "Columns",
     "Document",
     "Item",
     "Kind",
     "Lexer",
     "NotUtf8Error",
+    "Outcome",
     "Piece",
     "Place",
     "Places",
@@ -21,6 +23,7 @@ __all__ = [
     "RulesError",
     "RulesErrorKind",
     "Stream",
+    "check",
 ]
 
 class RulesErrorKind(enum.Enum):
@@ -110,6 +113,19 @@ class Lexer:
     @property
     def modes(self) -> int: ...
     def lookahead(self, mode: int) -> Union[int, float]: ...
+
+class Outcome(enum.Enum):
+    CLEAN = 0
+    FOUND = 1
+    REFUSED = 2
+    UNREAD = 3
+
+class Checked(NamedTuple):
+    outcome: Outcome
+    findings: Tuple[str, ...]
+    message: str
+
+def check(rules: Union[str, ReadableBuffer], name: str = ..., is_json: bool = ...) -> Checked: ...
 
 class Change(NamedTuple):
     first: int

@@ -27,6 +27,10 @@ class Page(Structure):
     _fields_ = [("code", c_uint32), ("length", c_size_t)]
 
 
+class Checked(Structure):
+    _fields_ = [("code", c_uint32), ("found", c_size_t), ("length", c_size_t)]
+
+
 class Look(Structure):
     _fields_ = [("code", c_uint32), ("count", c_size_t)]
 
@@ -39,7 +43,7 @@ class Count(Structure):
     _fields_ = [("code", c_uint32), ("count", c_size_t)]
 
 
-STRUCTS = (Report, Piece, Cut, Place, Page, Look, Edit, Count)
+STRUCTS = (Report, Piece, Cut, Place, Page, Checked, Look, Edit, Count)
 # Of each function of the library what it gives and what it takes.
 FUNCTIONS = {
     "bajofeki_lexer_size": (c_size_t, []),
@@ -73,6 +77,7 @@ FUNCTIONS = {
     "bajofeki_feed": (c_uint32, [c_void_p, c_void_p, c_size_t, c_bool]),
     "bajofeki_next": (Count, [c_void_p, POINTER(Piece), c_size_t]),
     "bajofeki_stream_end": (None, [c_void_p]),
+    "bajofeki_check": (Checked, [c_void_p, c_size_t, c_void_p, c_size_t, c_bool, c_char_p, c_size_t]),
     "bajofeki_position": (Place, [c_void_p, c_size_t, c_size_t]),
     "bajofeki_version": (c_uint32, []),
 }
@@ -150,12 +155,12 @@ class Room:
 
 
 def written(call, room):
-    """The code of a call, and what it writes into an array, which grows until all of it fits."""
+    """What a call gives, and the bytes that it writes into an array, which grows until all of them fit."""
     while True:
         out = create_string_buffer(room or 1)
         page = call(out, room)
         if page.length <= room:
-            return page.code, out.raw[: page.length].decode()
+            return page, out.raw[: page.length]
         room = page.length
 
 

@@ -68,6 +68,15 @@ pub struct Look {
     pub count: usize,
 }
 
+/// What a check of rules writes.
+#[repr(C)]
+#[derive(Clone, Copy, Debug)]
+pub struct Checked {
+    pub code: u32,
+    pub found: usize,
+    pub length: usize,
+}
+
 /// What an edit changed.
 #[repr(C)]
 #[derive(Clone, Copy, Debug)]
@@ -159,6 +168,15 @@ extern "C" {
     fn bajofeki_feed(stream: *mut c_void, bytes: *const u8, length: usize, is_last: bool) -> u32;
     fn bajofeki_next(stream: *mut c_void, out: *mut Piece, room: usize) -> Count;
     fn bajofeki_stream_end(stream: *mut c_void);
+    fn bajofeki_check(
+        name: *const u8,
+        name_length: usize,
+        rules: *const u8,
+        length: usize,
+        is_json: bool,
+        out: *mut u8,
+        room: usize,
+    ) -> Checked;
     fn bajofeki_position(text: *const u8, length: usize, at: usize) -> Place;
     fn bajofeki_version() -> u32;
 }
@@ -310,6 +328,32 @@ fn written(room: usize, call: impl Fn(*mut u8, usize) -> Page) -> Result<Vec<u8>
             return Ok(all);
         }
         all.resize(page.length, 0);
+    }
+}
+
+/// What a check of rules comes to, and all that it writes.
+pub fn check(name: &str, rules: &[u8], is_json: bool) -> (Checked, Vec<u8>) {
+    let mut all = vec![0; 1 << 16];
+    loop {
+        let (file, length) = (name.as_ptr(), name.len());
+        let (out, room) = (all.as_mut_ptr(), all.len());
+        // SAFETY: slices are what they are; the array has this many places.
+        let checked = unsafe {
+            bajofeki_check(
+                file,
+                length,
+                rules.as_ptr(),
+                rules.len(),
+                is_json,
+                out,
+                room,
+            )
+        };
+        if checked.length <= room {
+            all.truncate(checked.length);
+            return (checked, all);
+        }
+        all.resize(checked.length, 0);
     }
 }
 

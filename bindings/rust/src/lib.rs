@@ -22,6 +22,7 @@
 #![deny(unsafe_code)]
 #![deny(missing_docs)]
 
+mod check;
 mod document;
 #[allow(unsafe_code)]
 mod ffi;
@@ -31,6 +32,7 @@ mod rules_error;
 mod stream;
 mod text_error;
 
+pub use check::{check, check_json, Checked, Outcome};
 pub use document::{Change, Document};
 pub use items::{Item, Items, Kind, OutOfMemory, Text};
 pub use places::{Columns, Place, Places};

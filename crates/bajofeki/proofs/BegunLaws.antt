@@ -1,4 +1,4 @@
--- Laws of text that comes as bytes.
+-- What is left of bytes after the longest text at their front: a character that has begun, or a byte of none.
 use Rattle.std.proofs.Common.{◌≡◌, ◌≢◌, ℕ, ◌+◌, ◌-◌, ◌<◌, ◌≤◌, ◌⊎◌, inl, inr, ⊎_elim, Bool, true, false, cond, List, [], ◌∷◌, ◌++◌, length, take, drop, get_or, refl, ap, subst, sym, ◌∙◌, arith, IsUtf8, take-add, le-ltb, ne_eqb, true≢false, append-nil, append_assoc, nat_lt, ◌==◌}
 use Rattle.std.proofs.lemmas.Grind.{common_steps}
 use Rattle.std.proofs.lemmas.Bool.Decides.{nat_tests}
@@ -225,12 +225,12 @@ no_character : (bytes : List ℕ) → StartsWithNoChar bytes → NoCharacter byt
 no_character bytes none n some within u =
     no_text (take n bytes) (drop n bytes) (subst StartsWithNoChar (sym (take-append-drop n bytes)) none) u (omega (arith, length-take n bytes))
 
-none_behind : (bytes : List ℕ) (n : ℕ) → IsValidUpTo bytes n → NoCharacter (drop n bytes)
-none_behind bytes n v m some within u = v.longest (n + m) (omega arith) (subst IsUtf8 (sym (take-add n m bytes)) (IsUtf8-append (take n bytes) (take m (drop n bytes)) v.front u))
+none_after : (bytes : List ℕ) (n : ℕ) → IsValidUpTo bytes n → NoCharacter (drop n bytes)
+none_after bytes n v m some within u = v.longest (n + m) (omega arith) (subst IsUtf8 (sym (take-add n m bytes)) (IsUtf8-append (take n bytes) (take m (drop n bytes)) v.front u))
 
-pub begun_behind : (bytes : List ℕ) (n : ℕ) → IsValidUpTo bytes n → utf8_error_len (drop n bytes) ≡ None → IsBegun (drop n bytes)
+pub begun_after : (bytes : List ℕ) (n : ℕ) → IsValidUpTo bytes n → utf8_error_len (drop n bytes) ≡ None → IsBegun (drop n bytes)
 unfolding Comes
-begun_behind bytes n v e = let none = none_behind bytes n v in (none, comes_whole (drop n bytes) none e)
+begun_after bytes n v e = let none = none_after bytes n v in (none, comes_whole (drop n bytes) none e)
 
 ranged_here : (l : List ℕ) → Ranged (length l - 0) (get_or l 0 0) (get_or l 1 0) (get_or l 2 0) (get_or l 3 0) → RangedAt l
 ranged_here l r = let e : length l - 0 ≡ length l = omega arith in subst (λ n. Ranged n (get_or l 0 0) (get_or l 1 0) (get_or l 2 0) (get_or l 3 0)) e r
@@ -239,9 +239,9 @@ pub none_comes : (bytes : List ℕ) → NoCharacter bytes → utf8_error_len byt
 none_comes bytes none e more =
     no_character (bytes ++ more) (no_char (bytes ++ more) 0 (λ r. e (ends_within more bytes none (ranged_here (bytes ++ more) r))))
 
-pub bad_behind : (bytes : List ℕ) (n : ℕ) → IsValidUpTo bytes n → utf8_error_len (drop n bytes) ≢ None → IsBad (drop n bytes)
-bad_behind bytes n v e =
-    ((λ empty. let short = v.short in let len = ap length empty in omega (arith, length-drop n bytes)), none_comes (drop n bytes) (none_behind bytes n v) e)
+pub bad_after : (bytes : List ℕ) (n : ℕ) → IsValidUpTo bytes n → utf8_error_len (drop n bytes) ≢ None → IsBad (drop n bytes)
+bad_after bytes n v e =
+    ((λ empty. let short = v.short in let len = ap length empty in omega (arith, length-drop n bytes)), none_comes (drop n bytes) (none_after bytes n v) e)
 
 -- ---- for the code
 
@@ -258,10 +258,10 @@ not_none (Some k) e none = some_none k none
 
 -- the error of the kit's test says whether what is left may still be a character
 pub begun_by : (bytes left : List ℕ) (n : ℕ) (len : Option ℕ) → IsValidUpTo bytes n → len ≡ utf8_error_len (drop n bytes) → left ≡ drop n bytes → is_some len ≡ false → IsBegun left
-begun_by bytes left n len v e same none = subst IsBegun (sym same) (begun_behind bytes n v (sym e ∙ not_some len none))
+begun_by bytes left n len v e same none = subst IsBegun (sym same) (begun_after bytes n v (sym e ∙ not_some len none))
 
 pub bad_by : (bytes left : List ℕ) (n : ℕ) (len : Option ℕ) → IsValidUpTo bytes n → len ≡ utf8_error_len (drop n bytes) → left ≡ drop n bytes → is_some len ≡ true → IsBad left
-bad_by bytes left n len v e same some = subst IsBad (sym same) (bad_behind bytes n v (λ none. not_none len some (e ∙ none)))
+bad_by bytes left n len v e same some = subst IsBad (sym same) (bad_after bytes n v (λ none. not_none len some (e ∙ none)))
 
 some_byte : (left : List ℕ) → left ≢ [] → 0 < length left
 some_byte [] some = absurd (some refl)

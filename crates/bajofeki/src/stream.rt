@@ -324,7 +324,7 @@ impl<'rules> Stream<'rules> {
         &self.text[self.given..]
     }
 
-    /// The piece that `next_piece` gave last. It is empty before the first one, and once more has come. That of a token is UTF-8.
+    /// The piece that `next_piece` gave last. It is empty before the first one, and once more has come. A token's slice is UTF-8.
     pub fn slice(&self) -> &[u8]
         ensures slice { result.now ≡ self.now.last }
     {

@@ -4,8 +4,6 @@ ghost use Rattle.std.specs.Prelude.{◌≡◌, ◌++◌, true, false};
 ghost use Rattle.std.specs.Str.{IsUtf8};
 ghost use Rattle.bajofeki.specs.Begun.{IsBegun, IsBad};
 
-use simdutf8::compat::from_utf8;
-
 /// Bytes, cut after the longest text at their front.
 #[derive(Clone, Copy)]
 pub(crate) struct Front<'bytes> {
@@ -23,7 +21,8 @@ pub(crate) fn front_of(bytes: &[u8]) -> Front<'_>
     ensures begun { result.is_bad ≡ false → IsBegun result.left.now }
     ensures bad { result.is_bad ≡ true → IsBad result.left.now }
 {
-    match from_utf8(bytes) {
+    // This reads no further than the first fault, so bytes that are full of faults take linear time.
+    match str::from_utf8(bytes) {
         Ok(text) => Front {
             text,
             left: &[],

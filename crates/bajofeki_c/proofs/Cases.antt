@@ -1,5 +1,6 @@
 -- Small cases of the definitions in specs/: Cases/X.antt has those of specs/X.antt.
 mod Built
+mod Check
 mod Report
 mod Rules
 mod Look

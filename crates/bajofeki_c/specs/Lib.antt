@@ -1,4 +1,5 @@
 pub mod Built
+pub mod Check
 pub mod Report
 pub mod Rules
 pub mod Look

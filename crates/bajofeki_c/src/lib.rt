@@ -22,6 +22,7 @@
 //! ```
 #![tactic(auto)]
 
+mod check;
 mod cut;
 mod cutting;
 mod document;
@@ -36,6 +37,7 @@ mod stream;
 
 ghost use Rattle.std.specs.Prelude.{◌≡◌, drop};
 ghost use Rattle.std.specs.Borrow.{sem};
+ghost use Rattle.bajofeki_c.specs.Check.{IsChecked};
 ghost use Rattle.bajofeki_c.specs.Cut.{GoesOn};
 ghost use Rattle.bajofeki_c.specs.Document.{ArePiecesTold, IsOffset, IsPlace, text_of};
 ghost use Rattle.bajofeki_c.specs.Look.{IsLookOf, mode_count};
@@ -50,6 +52,7 @@ ghost use Rattle.bajofeki_c.specs.declared.cutting.Cutting.{Cutting as CuttingVa
 ghost use Rattle.bajofeki_c.specs.declared.held.Held.{Held as HeldValue};
 ghost use Rattle.bajofeki_c.specs.declared.page.Markup.TheVariants.{Ansi, Html};
 
+pub use check::{Checked, check_into};
 pub use cut::{Cut, Piece, cut_on};
 pub use cutting::{BeginError, Cutting, begin, code_of, let_cutting_go};
 pub use document::{
@@ -499,6 +502,21 @@ pub unsafe extern "C" fn bajofeki_stream_end(stream: *mut u8)
     ensures* room { sem 𝓛 (stream_ended_at stream held) }
 {
     let_stream_go(std::ptr::read(stream as *const Stream));
+}
+
+/// Checks the rules of a file of this name, as `tokens --check` does: writes what it finds, and then what it says, as many bytes as fit, and
+/// says how many there are.
+#[unsafe(no_mangle)]
+pub extern "C" fn bajofeki_check(
+    alloc: Global,
+    name: &[u8],
+    rules: &[u8],
+    is_json: bool,
+    out: &mut [u8],
+) -> Checked
+    ensures checked { IsChecked name.now rules.now is_json out.old result out.new }
+{
+    check_into(alloc, name, rules, is_json, out)
 }
 
 /// The line and the column of an offset in bytes.

@@ -18,7 +18,7 @@ place_behind cs = record { line = 1 + count_by is_line_feed cs; column = 1 + len
 abbrev pub position_of : List ℕ → ℕ → Position
 position_of text offset = place_behind (chars (take offset text))
 
--- the same of bytes, which may be no UTF-8: a column counts the bytes with which a character begins
+-- the same of bytes, which needn't be UTF-8: a column counts the bytes with which a character begins
 abbrev pub byte_place : List ℕ → Position
 byte_place bs = record { line = 1 + count_by is_line_feed bs; column = 1 + count_by is_start (after_last is_line_feed bs) }
 

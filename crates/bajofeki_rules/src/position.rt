@@ -79,7 +79,7 @@ impl Position {
         self.after_bytes(text.as_bytes())
     }
 
-    /// The place after the bytes, if they begin at this place; they may be no UTF-8. `None` if one of its numbers is too large.
+    /// The place after the bytes, if they begin at this place; they needn't be UTF-8. `None` if one of its numbers is too large.
     ///
     /// ```
     /// let block = Position { line: 7, column: 3 };

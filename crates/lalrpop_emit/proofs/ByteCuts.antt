@@ -1,4 +1,4 @@
--- How a walk along bytes divides them: whole characters that were read, and what is left, which may be no UTF-8.
+-- How a walk along bytes divides them: whole characters that were read, and what is left, which needn't be UTF-8.
 use Rattle.std.proofs.Common.{◌≡◌, ℕ, ◌+◌, ◌<◌, ◌≤◌, ◌⊎◌, ⊎_elim, inl, inr, List, [], ◌∷◌, ◌++◌, length, take, drop, refl, sym, ap, subst, ◌∙◌, arith, append_assoc, length-append}
 use Rattle.std.specs.Char.{encode_utf8, IsScalar}
 use Rattle.std.specs.Str.{chars, IsUtf8, encode_utf8_all}

@@ -1,5 +1,5 @@
 -- cases: proofs/Cases/BytePieces.antt
--- The pieces of a text of bytes, which may be no UTF-8: what isn't UTF-8 matches nothing.
+-- The pieces of a text of bytes, which needn't be UTF-8: what isn't UTF-8 matches nothing.
 use Rattle.std.specs.Prelude.{◌≡◌, ℕ, ◌+◌, ◌≤◌, Bool, true, false, List, [], ◌∷◌, length, take, drop, slice_get, Option, Some, None}
 use Rattle.lalrpop_hir.specs.Tree.{Tree}
 use Rattle.lalrpop_hir.specs.Longest.{IsLongest}

@@ -1,5 +1,5 @@
 -- cases: proofs/Cases/BytePositions.antt
--- The line and the column of a place in a text of bytes, which may be no UTF-8.
+-- The line and the column of a place in a text of bytes, which needn't be UTF-8.
 use Rattle.std.specs.Prelude.{ℕ, List}
 use Rattle.bajofeki_rules.specs.Position.{byte_place_of}
 use Rattle.lalrpop_emit.specs.declared.byte_positions.BytePosition.{BytePosition}

@@ -80,7 +80,7 @@ module _ (ts : List Tree) (ps : List ℕ) (skips : List Bool) (text : List ℕ) 
   from zero at most = ([], nil_from_length (drop at text) (omega arith))
   from (suc n) at most = front_or_end at n (drop at text) refl most (λ to less. from n to less)
 
--- the pieces of a text, which may be no UTF-8, where no word is ambiguous
+-- the pieces of a text, which needn't be UTF-8, where no word is ambiguous
 pub pieces-exist : (ts : List Tree) (ps : List ℕ) (skips : List Bool) (text : List ℕ) → NoClash ts ps
     → (xs : List Item) × ArePieces ts ps skips text 0 xs
 pieces-exist ts ps skips text clear = from ts ps skips text clear (length text) 0 (omega arith)

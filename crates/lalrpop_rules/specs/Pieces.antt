@@ -27,7 +27,7 @@ start_of (Fault start slice) = start
 abbrev pub IsSkipped : List Bool → ℕ → Type 0
 IsSkipped skips i = slice_get skips i ≡ Some true
 
--- a fault at the front of a text, which may be no UTF-8: one or more bytes at none of which a tree matches; after them the text ends,
+-- a fault at the front of a text, which needn't be UTF-8: one or more bytes at none of which a tree matches; after them the text ends,
 -- or some tree matches
 pub record IsFault (ts : List Tree) (text slice : List ℕ) : Type 0 where
   pub front : (rest : List ℕ) × (text ≡ slice ++ rest)

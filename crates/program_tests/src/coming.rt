@@ -1,4 +1,4 @@
-//! Texts that named rules cut as they come: in chunks, up to a failed read or a fault, with bytes that are no UTF-8; and that
+//! Texts that named rules cut as they come: in chunks, up to a failed read or a fault, with bytes that aren't UTF-8; and that
 //! what nothing that comes can change is written before more is read.
 
 use crate::cutting::{
@@ -219,7 +219,7 @@ fn a_failed_read_leaves_the_lines_in_front(rt: HostRuntime) {
     }
 }
 
-// ---- bytes that are no UTF-8
+// ---- bytes that aren't UTF-8
 
 // Bytes by the rules of `lexer_of_rules`, and what is written for them: what isn't UTF-8 lies in a fault.
 struct Bytes {

@@ -2,7 +2,8 @@
 
 use std::alloc::Global;
 use tokens_lib::{
-    ModeFile, RuleLexer, bad_line_message, read_rules, rules_message, warnings_message,
+    LineForm, ModeFile, RuleLexer, bad_line_message, check_answer, read_rules, rules_message,
+    warnings_message,
 };
 
 // What is said of a file of rules; `None` if there is nothing to say.
@@ -83,4 +84,27 @@ fn warnings_of_rules_are_said(rt: HostRuntime) {
     for (bytes, said) in rows {
         assert!(rt; says_warnings(rt.alloc(), *bytes, *said));
     }
+}
+
+// Whether a check of these bytes has this status, writes this and says this.
+fn answers(alloc: Global, bytes: &[u8], status: u8, out: &str, err: &str) -> bool {
+    match check_answer(alloc, LineForm::Json, "f", bytes) {
+        Ok(reply) => {
+            reply.status() == status && reply.out() == out.as_bytes() && reply.err() == err
+        }
+        Err(_) => false,
+    }
+}
+
+#[test]
+fn rules_are_checked(rt: HostRuntime) {
+    let alloc = rt.alloc();
+    let clash =
+        "{\"file\":\"f\",\"line\":2,\"column\":6,\"kind\":\"clash\",\"rule\":\"B\",\"other\":\"A\",\"text\":\"a\"}\n";
+    assert!(rt; answers(alloc, b"A = 'a'\nB = 'a'\n", 2, clash, ""));
+    let warned =
+        "{\"file\":\"f\",\"line\":1,\"column\":1,\"kind\":\"part-unused\",\"part\":\"D\"}\n{\"file\":\"f\",\"kind\":\"automaton\",\"states\":3,\"least_states\":3,\"past\":1}\n";
+    assert!(rt; answers(alloc, b"D part = /0/\nA = 'a'\n", 1, warned, ""));
+    let said = "tokens: f:1:6: this group isn't closed\n    A = /(/\n         ^\n";
+    assert!(rt; answers(alloc, b"A = /(/\n", 3, "", said));
 }

@@ -157,7 +157,7 @@ in_quotes safe = said (codes "\"") refl (safe_append safe (plain_is_safe (codes 
 quoted_is_safe : (slice : List ℕ) → IsUtf8 slice → IsSafe (quoted slice)
 quoted_is_safe slice utf8 = in_quotes (told_are_safe (chars slice) (scalars-chars slice utf8))
 
-byte_is_safe : (b : ℕ) → IsSafe (byte_told b)
+pub byte_is_safe : (b : ℕ) → IsSafe (byte_told b)
 byte_is_safe b = by (nat_lt b 128) refl
   where
     by : (t : Bool) → nat_lt b 128 ≡ t → IsSafe (if t then told b else (codes "\\x" ++ digits 16 false b))

@@ -29,7 +29,7 @@ pub use layout::{Layout, LineForm};
 pub use messages::{about, bad_line_message, headed, rules_message};
 pub use mode_file::ModeFile;
 pub use named_clashes::clash_lines;
-pub use plain_line::push_plain;
+pub use plain_line::{push_byte, push_plain};
 pub use reply::Reply;
 pub use review_lines::{clash_report, has_findings, review_text};
 pub use rule_explain::{bad_line_explained, rules_explained};

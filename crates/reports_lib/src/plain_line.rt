@@ -30,9 +30,13 @@ fn name_or_mark<'name>(name: Option<&'name str>) -> &'name str
     }
 }
 
-// Appends a byte of a slice that isn't UTF-8.
-fn push_byte(text: &mut String, byte: u8) -> Result<(), AllocError>
-    ensures { OnOk result (string_bytes text.new ≡ string_bytes text.old ++ byte_told byte) }
+/// Appends a byte of text that isn't UTF-8: an ASCII character as it is shown in quotes, another byte in hexadecimal, such as `\xff`.
+///
+/// # Errors
+///
+/// `AllocError` if a request for memory was refused.
+pub fn push_byte(text: &mut String, byte: u8) -> Result<(), AllocError>
+    ensures told { OnOk result (string_bytes text.new ≡ string_bytes text.old ++ byte_told byte) }
 {
     if byte.is_ascii() {
         return push_escaped_char(text, char::from(byte));

@@ -16,6 +16,6 @@ pub struct Shown<'name, 'mode, 'text> {
     pub name: Option<&'name str>,
     /// The mode in which it was read, if the line names it.
     pub mode: Option<&'mode str>,
-    /// The piece of the text; it may be no UTF-8.
+    /// The piece of the text; it needn't be UTF-8.
     pub slice: &'text [u8],
 }

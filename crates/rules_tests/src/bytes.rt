@@ -1,4 +1,4 @@
-//! Pieces of texts of bytes, which may be no UTF-8. Which bytes are characters is taken from RFC 3629.
+//! Pieces of texts of bytes, which needn't be UTF-8. Which bytes are characters is taken from RFC 3629.
 
 use crate::rules::{expect, given, plain};
 use lalrpop_emit::{BytePosition, LexerNumbers, byte_position};

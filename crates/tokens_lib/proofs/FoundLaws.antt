@@ -17,7 +17,7 @@ use Rattle.lalrpop_rules.specs.Pieces.{IsFault, slice_of}
 use Rattle.lalrpop_rules.specs.declared.item.Item.{Item}
 use Rattle.lalrpop_rules.specs.declared.item.Item.TheVariants.{Token, Skipped, Fault}
 use Rattle.lalrpop_rules.specs.Modes.{trees_in}
-use Rattle.bajofeki.proofs.BegunLaws.{bad_behind, begun_behind, nothing_begun}
+use Rattle.bajofeki.proofs.BegunLaws.{bad_after, begun_after, nothing_begun}
 use Rattle.bajofeki.specs.Chunked.{Chunked, IsFinal, MayMatch}
 use Rattle.bajofeki.specs.Begun.{IsBad, IsBegun, NoCharacter}
 use Rattle.tokens_lib.specs.CutEnds.{IsFound, IsFoundNext}
@@ -132,12 +132,12 @@ first_byte (b ∷ bytes) some = refl
 
 -- the error of std's test says whether a character has begun
 pub begun_now : (bytes : List ℕ) (n : ℕ) (len : Option ℕ) → IsValidUpTo bytes n → len ≡ utf8_error_len (drop n bytes) → n ≡ 0 → is_some len ≡ false → IsBegun bytes
-begun_now bytes n None valid same none begun = subst (λ (m : ℕ). IsBegun (drop m bytes)) none (begun_behind bytes n valid (sym same))
+begun_now bytes n None valid same none begun = subst (λ (m : ℕ). IsBegun (drop m bytes)) none (begun_after bytes n valid (sym same))
 begun_now bytes n (Some k) valid same none begun = absurd (cc (begun))
 
 pub bad_now : (bytes : List ℕ) (n : ℕ) (len : Option ℕ) → IsValidUpTo bytes n → len ≡ utf8_error_len (drop n bytes) → (n ≡ 0 → is_some len ≡ true) → NoCharacter bytes → IsBad bytes
 bad_now bytes n len valid same bad none = ⊎_elim
-    (λ zero_is. subst (λ (m : ℕ). IsBad (drop m bytes)) zero_is (bad_behind bytes n valid (λ e. not_none (same ∙ e) (bad zero_is))))
+    (λ zero_is. subst (λ (m : ℕ). IsBad (drop m bytes)) zero_is (bad_after bytes n valid (λ e. not_none (same ∙ e) (bad zero_is))))
     (λ other. let short = valid.short in absurd (none n (omega (arith, other)) (omega arith) valid.front))
     (cases_eq n 0)
   where

@@ -1,16 +1,9 @@
 -- What is said of the end of a text is safe to show, if the names of its file and of its modes are.
-use Rattle.std.proofs.Common.{◌≡◌, ◌<◌, ℕ, nat_lt, Bool, true, false, List, ◌++◌, codes, refl, arith}
-use Rattle.std.specs.Prelude.{if◌then◌else◌}
-use Rattle.std.specs.List.{list_all}
-use Rattle.std.specs.Fmt.{digits}
-use Rattle.std.proofs.lemmas.Bool.{agree_below_at}
-use Rattle.std.proofs.lemmas.Bool.Decides.{nat_tests}
+use Rattle.std.proofs.Common.{◌<◌, ℕ, List, codes, refl}
 use Rattle.std.specs.Char.{IsScalar}
-use Rattle.bajofeki_rules.specs.Quoted.{told}
 use Rattle.bajofeki_rules.specs.declared.position.Position.{Position}
 use Rattle.reports_lib.specs.Safe.{IsSafe}
-use Rattle.reports_lib.specs.ItemLines.{byte_told}
-use Rattle.reports_lib.proofs.SafeLaws.{decimal_is_safe, is_printed, plain_is_safe, safe_append, said, told_is_safe}
+use Rattle.reports_lib.proofs.SafeLaws.{byte_is_safe, decimal_is_safe, plain_is_safe, safe_append, said, told_is_safe}
 use Rattle.tokens_lib.specs.TextAnswer.{fault_text, found_told, open_text, place_in}
 use Rattle.tokens_lib.specs.declared.cut_end.Found.{Found}
 use Rattle.tokens_lib.specs.declared.cut_end.Found.TheVariants.{Character, Byte}
@@ -25,20 +18,9 @@ abbrev pub FitsFound : Found → Type 0
 FitsFound (Character c) = IsScalar c
 FitsFound (Byte b) = b < 256
 
-byte_is_printed : (b : ℕ) → b < 256 → list_all is_printed (digits 16 false b) ≡ true
-unfolding digits
-byte_is_printed b fits = agree_below_at (λ n. list_all is_printed (digits 16 false n)) (λ n. true) 256 b refl fits
-
-byte_is_safe : (b : ℕ) → b < 256 → IsSafe (byte_told b)
-byte_is_safe b fits = by (nat_lt b 128) refl
-  where
-    by : (t : Bool) → nat_lt b 128 ≡ t → IsSafe (if t then told b else (codes "\\x" ++ digits 16 false b))
-    by true is = let scalar : IsScalar b = grind (arith, nat_tests) in told_is_safe b scalar
-    by false is = said (codes "\\x") refl (plain_is_safe (digits 16 false b) (byte_is_printed b fits))
-
 found_is_safe : (found : Found) → FitsFound found → IsSafe (found_told found)
 found_is_safe (Character c) scalar = told_is_safe c scalar
-found_is_safe (Byte b) fits = byte_is_safe b fits
+found_is_safe (Byte b) fits = byte_is_safe b
 
 -- no rule matches what was found
 pub fault_is_safe : {file : List ℕ} (p : Position) (found : Found) → IsSafe file → FitsFound found → IsSafe (fault_text file p (found_told found))

@@ -2,14 +2,12 @@
 //! can't be read to its end.
 ghost use Rattle.std.specs.Prelude.{◌≡◌, ◌++◌, codes, string_bytes, IfOk, OnOk};
 ghost use Rattle.reports_lib.specs.Answer.{about};
-ghost use Rattle.reports_lib.specs.ItemLines.{byte_told};
 ghost use Rattle.tokens_lib.specs.TextAnswer.{fault_text, found_told, open_text, place_in};
 
 use crate::cut_end::Found;
 use lalrpop_lexer::{Position, push_escaped_char};
-use reports_lib::about;
+use reports_lib::{about, push_byte};
 use std::alloc::{AllocError, Global};
-use std::fmt::Write;
 
 /// The line that says that a file couldn't be read to its end.
 ///
@@ -30,16 +28,6 @@ fn placed(alloc: Global, file: &str, place: Position) -> Result<String, AllocErr
 {
     let Position { line, column } = place;
     format!(in alloc; "tokens: {file}:{line}:{column}: ")
-}
-
-// Appends a byte that is of no character.
-fn push_byte(text: &mut String, byte: u8) -> Result<(), AllocError>
-    ensures told { OnOk result (string_bytes text.new ≡ string_bytes text.old ++ byte_told byte) }
-{
-    if byte.is_ascii() {
-        return push_escaped_char(text, char::from(byte));
-    }
-    write!(text, "\\x{byte:x}")
 }
 
 // Appends what was found where no rule matches.

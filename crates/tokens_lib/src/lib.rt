@@ -34,9 +34,10 @@ pub use lalrpop_rules::{
     Action as ModeAction, ModeRule, Rule, RuleLexer, RulesError, mode_clashes,
 };
 pub use lexdfa_lib::{Files, NoBytes, Reader, Sink, Source, System};
+pub use listing::check_answer;
 pub use page::write_page;
 pub use program::{run, run_program};
 pub use reports_lib::{
-    Layout, LineForm, ModeFile, bad_line_message, clash_lines, rules_message, warnings_json,
+    Layout, LineForm, ModeFile, Reply, bad_line_message, clash_lines, rules_message, warnings_json,
     warnings_message,
 };

@@ -4,11 +4,13 @@ ghost use Rattle.bajofeki_rules.specs.Lines.{lines};
 ghost use Rattle.lalrpop_rule_file.specs.RuleFile.{AreFileParts, AreRules, ArePlaces, NamesMode, without_mark as without_mark_of};
 ghost use Rattle.lalrpop_rule_file.specs.declared.file_rule.FileRule.{FileRule as FileRuleValue};
 ghost use Rattle.lexdfa_lib.specs.Streams.{GivesWhole};
+ghost use Rattle.tokens_lib.specs.Checked.{CheckAnswer, finding};
 ghost use Rattle.tokens_lib.specs.FileAnswers.{BytesAnswer};
 ghost use Rattle.tokens_lib.specs.NamedRules.{StandAt, LinesAnswer, RulesTold, ClashesAnswer};
 ghost use Rattle.tokens_lib.specs.Internal.Faults.{NameOnly};
 ghost use Rattle.tokens_lib.specs.Internal.Listings.{ListingAnswer, form_of, told_first};
 ghost use Rattle.tokens_lib.specs.WarningsSaid.{SaysIfAsked};
+ghost use Rattle.tokens_lib.specs.declared.command.Verbosity.TheVariants.{Warnings};
 
 use crate::by_rules::{clashes_status, line_refused, rules_refused, unread};
 use crate::checked::check_rules;
@@ -135,6 +137,38 @@ fn list_in(
         }
         Err(error) => line_refused(alloc, name, without_mark(bytes), &error),
     }
+}
+
+/// What `tokens --check` answers for the rules that these bytes are, in a file of this name: in `LineForm::Json` it writes an object for
+/// each thing that it finds, and says why if there are no rules. Its status is 0 if nothing was found, 1 if something was, 2 if rules
+/// clash or can't be compiled, and 3 if a line is wrong or a rule's text doesn't parse.
+///
+/// ```
+/// use tokens_lib::{LineForm, check_answer};
+///
+/// let reply = check_answer(alloc, LineForm::Plain, "my.rules", b"A = 'a'\nB = 'a'\n")?;
+/// assert_eq!(reply.status(), 2);
+/// ```
+///
+/// # Errors
+///
+/// `AllocError` if a request for memory was refused.
+pub fn check_answer(
+    alloc: Global,
+    form: LineForm,
+    name: &str,
+    bytes: &[u8],
+) -> Result<Reply, AllocError>
+    ensures answer { IfOk result (RulesTold form (finding form) Warnings (CheckAnswer form)
+        name.now bytes.now) }
+{
+    list_in(
+        alloc,
+        Listing::Review(form),
+        Verbosity::Warnings,
+        name,
+        bytes,
+    )
 }
 
 /// What is answered to what is asked of the rules of a file.

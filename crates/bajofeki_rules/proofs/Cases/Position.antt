@@ -37,7 +37,7 @@ a_line_feed_counted_before_it : position_of (codes "ab\ncd") 2 ≢ place 2 1
 unfolding chars
 a_line_feed_counted_before_it e = let n : 1 ≡ 2 = ap (λ (p : Position). p.line) e in omega (arith, n)
 
--- ---- bytes that are no UTF-8
+-- ---- bytes that aren't UTF-8
 
 -- 0xFF can't stand in a character, and is a column; 0x80 only follows another byte, and is none
 a_column_for_each_first_byte : byte_place (97 ∷ 255 ∷ 128 ∷ 128 ∷ []) ≡ place 1 3
