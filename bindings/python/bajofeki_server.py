@@ -10,6 +10,7 @@ client names those rules as `initializationOptions`:
 import functools
 import json
 import re
+import resource
 import sys
 import threading
 from concurrent.futures import ThreadPoolExecutor
@@ -46,6 +47,7 @@ KINDS = tuple(Kind)
 PARSE_ERROR, INVALID_REQUEST, NO_METHOD, FAILED, NOT_INITIALIZED = -32700, -32600, -32601, -32603, -32002
 ERROR, WARNING = 1, 2
 MOST = 100  # faults that are shown of a text
+MEMORY = 4 << 30  # bytes that the server may take: some rules ask for more than any machine has
 # A line of a check: a place in the file `rules`, and what is said of it.
 FOUND = re.compile(r"(?:tokens: )?rules:(?:(\d+):)?(?:(\d+):)? (warning: )?(.*)")
 # A rule or a part: its name, what stands before the sign, and its text.
@@ -66,7 +68,7 @@ def type_of(rule):
 
 
 def width(part, columns):
-    """How many columns a str takes, from the unit of columns on.
+    """How many columns a str takes.
 
     >>> width("a\\U0001f600", Columns.UTF16), width("a\\U0001f600", Columns.BYTES)
     (3, 5)
@@ -233,9 +235,13 @@ class Server:
         self.columns = next((it for it in Columns if it.value in wanted), Columns.UTF16)
         self.rules = (params.get("initializationOptions") or {}).get("rules", {})
         self.is_initialized = True
-        tokens = {"legend": {"tokenTypes": LEGEND, "tokenModifiers": []}, "full": True, "range": True}
-        capabilities = {"positionEncoding": self.columns.value, "textDocumentSync": {"openClose": True, "change": 2}}
-        return {"capabilities": {**capabilities, "hoverProvider": True, "semanticTokensProvider": tokens}, "serverInfo": {"name": "bajofeki"}}
+        capabilities = {
+            "positionEncoding": self.columns.value,
+            "textDocumentSync": {"openClose": True, "change": 2},
+            "hoverProvider": True,
+            "semanticTokensProvider": {"legend": {"tokenTypes": LEGEND, "tokenModifiers": []}, "full": True, "range": True},
+        }
+        return {"capabilities": capabilities, "serverInfo": {"name": "bajofeki"}}
 
     def shut_down(self, params):
         self.is_shut_down = True
@@ -280,8 +286,14 @@ class Server:
             self.publish(uri, [*self.texts[uri].findings()], version=version)
 
     def publish_check(self, uri, version, rules):
-        found = findings(rules, self.columns) if self.versions.get(uri) == version else None
-        if found is not None and self.versions.get(uri) == version:
+        if self.versions.get(uri) != version:
+            return
+        try:
+            found = findings(rules, self.columns)
+        except MemoryError:
+            start = {"line": 0, "character": 0}
+            found = [diagnostic(start, start, ERROR, f"these rules need more than {MEMORY >> 30} GB of memory")]
+        if self.versions.get(uri) == version:
             self.publish(uri, found, version=version)
 
     def publish(self, uri, found, **version):
@@ -365,4 +377,6 @@ def serve(source, sink):
 
 
 if __name__ == "__main__":
+    most = resource.getrlimit(resource.RLIMIT_AS)[1]
+    resource.setrlimit(resource.RLIMIT_AS, (MEMORY if most == resource.RLIM_INFINITY else min(MEMORY, most), most))
     sys.exit(serve(sys.stdin.buffer, sys.stdout.buffer))

@@ -1,5 +1,5 @@
-r"""A client of the language server. What it shows of rules, which are typed a character at a time, is what `tokens --check` says; the tokens of
-a text after random edits are those of the text when it is opened. So does neovim, where it is there.
+r"""A client of the language server. What it shows of rules, which are typed a character at a time, is what `tokens --check` says, in Neovim
+too, where that is there; the tokens of a text after random edits are those of a cut.
 
 >>> for client in (Client(), Client("utf-8")):
 ...     with client:
@@ -207,6 +207,8 @@ def check_errors(client):
     assert client.ask("textDocument/hover", textDocument={"uri": "file:///none"}, position={"line": 0})["result"] is None
     assert client.ask("textDocument/semanticTokens/full", textDocument={"uri": "file:///none"})["error"]["code"] == -32603
     client.tell("$/cancelRequest", id=1)
+    client.open("file:///my.rules", "plaintext", "A = /a{1000}{1000}{1000}/\n")
+    assert client.found()[1][0]["message"] == "these rules need more than 4 GB of memory"
     client.open("file:///deep", "deep", "(" * 1100 + "?")
     assert client.found("file:///deep")[1][0]["range"]["start"] == {"line": 0, "character": 1100}
     client.open("file:///c", "none", "\ud800a")
