@@ -130,8 +130,8 @@ typedef struct {
     size_t length; /* how many bytes the page has, whether or not they fit; 0 without a page */
 } bajofeki_page_t;
 
-/* What a check of rules writes: a line for each thing that it finds, and then what it says: why there are no rules, or, unless lines are
-   JSON, the warnings. */
+/* What a check of rules writes: a line for each thing that it finds, and then what it says: why the rules can't be read or compiled, or,
+   unless lines are JSON, the warnings. */
 typedef struct {
     uint32_t code;
     size_t found;  /* how many bytes the lines have */

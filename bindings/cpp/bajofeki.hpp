@@ -273,7 +273,7 @@ private:
 struct checked {
     std::uint32_t code;   // BAJOFEKI_CLEAN, BAJOFEKI_FOUND, BAJOFEKI_REFUSED or BAJOFEKI_UNREAD
     std::string findings; // the lines that `tokens --check` writes
-    std::string message;  // why there are no rules; the warnings, unless lines are JSON
+    std::string message;  // why the rules can't be read or compiled; the warnings, unless lines are JSON
 };
 
 /* Checks a file of rules of this name. Throws std::invalid_argument if the name isn't UTF-8. */

@@ -447,7 +447,7 @@ class Checked(NamedTuple):
 
     outcome: Outcome
     findings: Tuple[str, ...]  # the lines that `tokens --check` writes
-    message: str  # why there are no rules; the warnings, unless lines are JSON
+    message: str  # why the rules can't be read or compiled; the warnings, unless lines are JSON
 
 
 def check(rules, name="rules", is_json=False):

@@ -21,7 +21,7 @@ pub struct Checked {
     pub outcome: Outcome,
     /// A line for each thing that was found, and for each automaton.
     pub findings: String,
-    /// Why there are no rules; the warnings, unless lines are JSON.
+    /// Why the rules can't be read or compiled; the warnings, unless lines are JSON.
     pub message: String,
 }
 
