@@ -1,6 +1,7 @@
 //! The states of built automata, with their test edges.
 
-use crate::built::{built, expect};
+use crate::built::built;
+use crate::calls::expect;
 use lalrpop_lexer::lexer::dfa::{Dfa, DfaStateIndex};
 use std::alloc::{AllocError, Global};
 use std::fmt::Write;

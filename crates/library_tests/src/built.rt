@@ -5,22 +5,10 @@ use lalrpop_lexer::lexer::dfa::{Dfa, DfaConstructionError, Precedence, build_dfa
 use lalrpop_lexer::lexer::nfa::{Nfa, NfaConstructionError, Steps};
 use lalrpop_lexer::lexer::re::{Hir, RegexError, parse_literal, parse_regex};
 use std::alloc::{AllocError, Global};
-use std::process::Abort;
-
-/// The call has this answer.
-pub(crate) fn expect(rt: &impl Abort, found: Result<String, AllocError>, wanted: &str) {
-    let found = found.expect(rt, "memory");
-    assert_eq!(rt; found.as_str(), wanted);
-}
 
 /// Whether the automaton is run by a table: by one, an empty text is settled at once.
 pub(crate) fn has_table(dense: &DenseDfa) -> bool {
     dense.longest_within("", 0, &mut Steps::new()).is_some()
-}
-
-/// The two parts of a row. A row without a second part gets an empty one, and no call has that answer.
-pub(crate) fn halves<'a>(row: &'a str, between: &str) -> (&'a str, &'a str) {
-    row.split_once(between).unwrap_or((row, ""))
 }
 
 // A word in apostrophes is read as it is, and any other is a pattern.

@@ -2,7 +2,6 @@
 
 use lalrpop_hir::{ClassBytes, ClassBytesRange, ClassUnicode, ClassUnicodeRange};
 use std::alloc::{AllocError, Global};
-use std::process::Abort;
 
 fn character_class(alloc: Global, ends: &[(char, char)]) -> Result<ClassUnicode, AllocError> {
     let mut ranges = Vec::new(alloc);
@@ -68,44 +67,38 @@ fn makes(
     }
 }
 
-// Rows of an operation, what its operand is made of, and the runs of the result.
-fn expect(rt: &impl Abort, alloc: Global, rows: &[(Operation, &[(char, char)], &[(char, char)])]) {
-    for (operation, left, runs) in rows {
-        assert!(rt; makes(alloc, *operation, *left, *runs));
-    }
-}
-
 const LEFT: &[(char, char)] = &[('a', 'f'), ('m', 'p'), ('\u{E000}', '\u{E005}')];
+
+// An operation, what its operand is made of, and the runs of the result.
+const MADE: &[(Operation, &[(char, char)], &[(char, char)])] = &[
+    (
+        Operation::Complement,
+        RIGHT,
+        &[('\0', 'c'), ('o', '\u{D7FD}'), ('\u{E000}', '\u{10FFFF}')],
+    ),
+    (
+        Operation::Union,
+        LEFT,
+        &[('a', 'p'), ('\u{D7FE}', '\u{E005}')],
+    ),
+    (Operation::Intersection, LEFT, &[('d', 'f'), ('m', 'n')]),
+    (
+        Operation::Difference,
+        LEFT,
+        &[('a', 'c'), ('o', 'p'), ('\u{E000}', '\u{E005}')],
+    ),
+    (
+        Operation::SymmetricDifference,
+        LEFT,
+        &[('a', 'c'), ('g', 'l'), ('o', 'p'), ('\u{D7FE}', '\u{E005}')],
+    ),
+];
 
 #[test]
 fn classes_of_characters_are_joined_and_cut(rt: HostRuntime) {
-    expect(
-        &rt,
-        rt.alloc(),
-        &[
-            (
-                Operation::Complement,
-                RIGHT,
-                &[('\0', 'c'), ('o', '\u{D7FD}'), ('\u{E000}', '\u{10FFFF}')],
-            ),
-            (
-                Operation::Union,
-                LEFT,
-                &[('a', 'p'), ('\u{D7FE}', '\u{E005}')],
-            ),
-            (Operation::Intersection, LEFT, &[('d', 'f'), ('m', 'n')]),
-            (
-                Operation::Difference,
-                LEFT,
-                &[('a', 'c'), ('o', 'p'), ('\u{E000}', '\u{E005}')],
-            ),
-            (
-                Operation::SymmetricDifference,
-                LEFT,
-                &[('a', 'c'), ('g', 'l'), ('o', 'p'), ('\u{D7FE}', '\u{E005}')],
-            ),
-        ],
-    )
+    for (operation, left, runs) in MADE {
+        assert!(rt; makes(rt.alloc(), *operation, *left, *runs));
+    }
 }
 
 fn byte_class(alloc: Global, ends: &[(u8, u8)]) -> Result<ClassBytes, AllocError> {

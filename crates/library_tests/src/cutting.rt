@@ -1,6 +1,6 @@
 //! Whole texts that are cut into tokens.
 
-use crate::built::{expect, halves};
+use crate::calls::{Call, expect, expect_lines, halves};
 use crate::lookaheads::lexer_of;
 use lalrpop_lexer::lexer::dfa::NfaIndex;
 use lalrpop_lexer::{Lexer, TokenFault, Tokens};
@@ -67,7 +67,7 @@ fn cut_by(alloc: Global, lexer: &Lexer, text: &str) -> Result<String, AllocError
     Ok(line)
 }
 
-fn cut(alloc: Global, argument: &str) -> Result<String, AllocError> {
+pub(crate) fn cut(alloc: Global, argument: &str) -> Result<String, AllocError> {
     let (words, text) = halves(argument, " <- ");
     let lexer = lexer_of(alloc, words)?;
     cut_by(alloc, &lexer, text)
@@ -89,16 +89,13 @@ a* <- b => looking: no pattern matches at byte 0, None
 
 #[test]
 fn texts_are_cut(rt: HostRuntime) {
-    for row in CUT.trim_matches('\n').lines() {
-        let (argument, wanted) = halves(row, " => ");
-        expect(&rt, cut(rt.alloc(), argument), wanted);
-    }
+    expect_lines(&rt, rt.alloc(), Call::Cut, CUT);
 }
 
-// How many tokens of each pattern there are before the fault, and where the fault is, if there is one.
+// How many tokens of the first four patterns there are before the fault, and where the fault is, if there is one.
 fn counts(alloc: Global, items: Tokens<'_>) -> Result<String, AllocError> {
-    let mut counts = vec![in alloc; 0usize; 4]?;
-    let mut end = String::new(alloc);
+    let mut counts = [0usize; 4];
+    let mut at = None;
     for item in items {
         match item {
             Ok((index, _)) => {
@@ -106,11 +103,10 @@ fn counts(alloc: Global, items: Tokens<'_>) -> Result<String, AllocError> {
                     *count = count.wrapping_add(1);
                 }
             }
-            Err(fault) => end = format!(in alloc; "{fault}")?,
+            Err(fault) => at = Some(fault.at),
         }
     }
-    let counts = counts.as_slice();
-    format!(in alloc; "{counts:?} {end}")
+    format!(in alloc; "{counts:?} {at:?}")
 }
 
 fn counted_by(alloc: Global, words: &str, text: &str) -> Result<String, AllocError> {
@@ -118,42 +114,31 @@ fn counted_by(alloc: Global, words: &str, text: &str) -> Result<String, AllocErr
     counts(alloc, tokens_of(alloc, &lexer, text)?)
 }
 
-// For the patterns, and a text of `count` parts and an end.
-fn counted(
-    alloc: Global,
-    words: &str,
-    part: &str,
-    count: usize,
-    end: &str,
-) -> Result<String, AllocError> {
-    let mut text = part.repeat(alloc, count)?;
+// For the patterns, and a text of 40,000 parts and an end.
+fn counted(alloc: Global, words: &str, part: &str, end: &str) -> Result<String, AllocError> {
+    let mut text = part.repeat(alloc, 40_000)?;
     text.push_str(end)?;
     counted_by(alloc, words, &text)
 }
 
 // Patterns, a part of a text, its end, and the answer. Much is read in vain; where one run came to nothing, another goes on.
-const REPEATED: [(&str, &str, &str, &str); 5] = [
-    ("'a' a*b", "a", "b", "[0, 1, 0, 0] "),
-    (
-        "'a' a*b c",
-        "a",
-        "cc.",
-        "[40000, 0, 2, 0] no pattern matches at byte 40002",
-    ),
-    ("é é*😀", "é", "", "[40000, 0, 0, 0] "),
-    ("'a' 'b' a[ab]*c b[ab]*d", "ab", "d", "[1, 0, 0, 1] "),
+const REPEATED: &[(&str, &str, &str, &str)] = &[
+    ("'a' a*b", "a", "b", "[0, 1, 0, 0] None"),
+    ("'a' a*b c", "a", "cc.", "[40000, 0, 2, 0] Some(40002)"),
+    ("é é*😀", "é", "", "[40000, 0, 0, 0] None"),
+    ("'a' 'b' a[ab]*c b[ab]*d", "ab", "d", "[1, 0, 0, 1] None"),
     // A comment that is never closed.
     (
         r"'/' '*' 'x' /\*([^*]|\*+[^*/])*\*+/",
         "/*x",
         "",
-        "[40000, 40000, 40000, 0] ",
+        "[40000, 40000, 40000, 0] None",
     ),
 ];
 
 #[test]
 fn long_texts_are_cut_in_linear_time(rt: HostRuntime) {
     for (words, part, end, wanted) in REPEATED {
-        expect(&rt, counted(rt.alloc(), words, part, 40_000, end), wanted);
+        expect(&rt, counted(rt.alloc(), *words, *part, *end), *wanted);
     }
 }

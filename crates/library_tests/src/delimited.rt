@@ -1,6 +1,6 @@
 //! Tokens from a beginning up to the first end.
 
-use crate::built::{expect, halves};
+use crate::calls::{Call, expect_lines, halves};
 use crate::lookaheads::lexer_from;
 use lalrpop_lexer::Lexer;
 use lalrpop_lexer::lexer::dfa::Precedence;
@@ -29,7 +29,7 @@ fn lexer_of(alloc: Global, from: &str, to: &str) -> Result<Lexer, AllocError> {
     lexer_from(alloc, vec![in alloc; tree]?, vec![in alloc; Precedence(0)]?)
 }
 
-fn token(alloc: Global, row: &str) -> Result<String, AllocError> {
+pub(crate) fn token(alloc: Global, row: &str) -> Result<String, AllocError> {
     let (ends, text) = halves(row, " <- ");
     let (from, to) = halves(ends, " to ");
     let lexer = lexer_of(alloc, from, to)?;
@@ -41,8 +41,5 @@ fn token(alloc: Global, row: &str) -> Result<String, AllocError> {
 
 #[test]
 fn up_to_the_first_end(rt: HostRuntime) {
-    for row in TOKENS.trim_matches('\n').lines() {
-        let (question, wanted) = halves(row, " => ");
-        expect(&rt, token(rt.alloc(), question), wanted);
-    }
+    expect_lines(&rt, rt.alloc(), Call::Delimited, TOKENS);
 }

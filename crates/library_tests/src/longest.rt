@@ -1,11 +1,10 @@
 //! Longest matches, by lines of terminals and by trees that no text gives.
 
-use crate::built::expect;
+use crate::calls::expect;
 use lalrpop_lexer::lexer::dfa::Precedence;
 use lalrpop_lexer::lexer::re::{Class, ClassBytes, ClassBytesRange, Hir, Regex};
 use lalrpop_lexer::{Terminals, longest_match, read_terminals};
 use std::alloc::{AllocError, Global};
-use std::process::Abort;
 
 // What the trees find in the text: the index of the tree and the match. Any error is reported as out of memory.
 fn found(
@@ -34,80 +33,44 @@ fn found_by(alloc: Global, lines: &[u8], text: &str) -> Result<String, AllocErro
     }
 }
 
-// Rows of lines of terminals, a text, and what is found in it.
-fn expect_found(rt: &impl Abort, alloc: Global, rows: &[(&[u8], &str, &str)]) {
-    for (lines, text, wanted) in rows {
-        expect(rt, found_by(alloc, *lines, *text), *wanted);
-    }
-}
-
 const WORDS: &[u8] = b"1 r class\n0 r [a-zA-Z_][a-zA-Z0-9_]*\n0 r [0-9]+\n0 r  +\n0 r >>\n0 r >\n";
 
-#[test]
-fn keywords_names_and_signs(rt: HostRuntime) {
-    expect_found(
-        &rt,
-        rt.alloc(),
-        &[
-            (WORDS, "class Foo", "0 class"),
-            (WORDS, "classz Foo", "1 classz"),
-            (WORDS, ">>", "4 >>"),
-            (WORDS, ">a", "5 >"),
-            (WORDS, "é", "none"),
-        ],
-    );
-}
+// Lines of terminals, a text, and what is found in it.
+const FOUND: &[(&[u8], &str, &str)] = &[
+    (WORDS, "class Foo", "0 class"),
+    (WORDS, "classz Foo", "1 classz"),
+    (WORDS, ">>", "4 >>"),
+    (WORDS, ">a", "5 >"),
+    (WORDS, "é", "none"),
+    (b"0 r abc|abcd\n", "abcd", "0 abcd"),
+    (b"", "a", "none"),
+    (b"0 r a*\n", "b", "none"),
+    (b"0 r a*\n", "", "none"),
+    (b"1 r a*\n0 r b*\n", "b", "1 b"),
+    (b"0 r [a-j]\n1 r [a-u]\n3 r [f-h]\n2 r [f-p]\n", "i", "3 i"),
+    (b"0 r [a-j]\n1 r [a-u]\n3 r [f-h]\n2 r [f-p]\n", "g", "2 g"),
+    (b"0 r [a-j]\n1 r [a-u]\n3 r [f-h]\n2 r [f-p]\n", "q", "1 q"),
+    (b"0 r [^\\x{0}-\\x{10FFFF}]\n", "a", "none"),
+    (b"0 r [^\\x{0}-\\x{10FFFF}]\n", "", "none"),
+    (b"0 r (a(b))c\n", "abc", "0 abc"),
+    (b"0 l \0a\n", "\0ab", "0 \0a"),
+    (b"1 l ab\n0 l abc\n", "abcd", "1 abc"),
+    (b"0 r ((a*)*)*\n", "aab", "0 aa"),
+    (b"0 r (a+)+\n", "aab", "0 aa"),
+    (b"0 r (|a)+\n", "aab", "0 aa"),
+    (b"0 r (?:)*\n", "a", "none"),
+    (b"0 r (?i)k\n", "\u{212A}", "0 \u{212A}"),
+    (b"0 r a(?i)b|c\n", "C", "0 C"),
+    (b"0 r a(?i)b|c\n", "aB", "0 aB"),
+    (b"0 r a(?i)b|c\n", "A", "none"),
+    (b"0 r \\d\n", "\u{660}1", "0 \u{660}"),
+];
 
 #[test]
 fn longest_and_strongest(rt: HostRuntime) {
-    expect_found(
-        &rt,
-        rt.alloc(),
-        &[
-            (b"0 r abc|abcd\n", "abcd", "0 abcd"),
-            (b"", "a", "none"),
-            (b"0 r a*\n", "b", "none"),
-            (b"0 r a*\n", "", "none"),
-            (b"1 r a*\n0 r b*\n", "b", "1 b"),
-            (b"0 r [a-j]\n1 r [a-u]\n3 r [f-h]\n2 r [f-p]\n", "i", "3 i"),
-            (b"0 r [a-j]\n1 r [a-u]\n3 r [f-h]\n2 r [f-p]\n", "g", "2 g"),
-            (b"0 r [a-j]\n1 r [a-u]\n3 r [f-h]\n2 r [f-p]\n", "q", "1 q"),
-            (b"0 r [^\\x{0}-\\x{10FFFF}]\n", "a", "none"),
-            (b"0 r [^\\x{0}-\\x{10FFFF}]\n", "", "none"),
-            (b"0 r (a(b))c\n", "abc", "0 abc"),
-            (b"0 l \0a\n", "\0ab", "0 \0a"),
-            (b"1 l ab\n0 l abc\n", "abcd", "1 abc"),
-        ],
-    );
-}
-
-#[test]
-fn turns_that_take_nothing(rt: HostRuntime) {
-    expect_found(
-        &rt,
-        rt.alloc(),
-        &[
-            (b"0 r ((a*)*)*\n", "aab", "0 aa"),
-            (b"0 r (a+)+\n", "aab", "0 aa"),
-            (b"0 r (|a)+\n", "aab", "0 aa"),
-            (b"0 r (?:)*\n", "a", "none"),
-        ],
-    );
-}
-
-#[test]
-fn folded_and_named_sets(rt: HostRuntime) {
-    expect_found(
-        &rt,
-        rt.alloc(),
-        &[
-            (b"0 r (?i)k\n", "\u{212A}", "0 \u{212A}"),
-            (b"0 r a(?i)b|c\n", "C", "0 C"),
-            (b"0 r a(?i)b|c\n", "aB", "0 aB"),
-            (b"0 r a(?i)b|c\n", "A", "none"),
-            (b"0 r \\d\n", "\u{660}1", "0 \u{660}"),
-        ],
-    );
+    for (lines, text, wanted) in FOUND {
+        expect(&rt, found_by(rt.alloc(), *lines, *text), *wanted);
+    }
 }
 
 // A set of bytes, which no pattern from text can be.

@@ -1,6 +1,7 @@
 //! How many characters past a match leave it open.
 
-use crate::built::{expect, halves, trees_of};
+use crate::built::trees_of;
+use crate::calls::{Call, expect_lines, expect_rows};
 use lalrpop_lexer::Lexer;
 use lalrpop_lexer::lexer::dfa::Precedence;
 use lalrpop_lexer::lexer::re::Regex;
@@ -52,45 +53,30 @@ pub(crate) fn lexer_of(alloc: Global, words: &str) -> Result<Lexer, AllocError> 
     lexer_from(alloc, regexs, precedences)
 }
 
-fn of_lexer(alloc: Global, words: &str) -> Result<String, AllocError> {
+pub(crate) fn lookahead(alloc: Global, words: &str) -> Result<String, AllocError> {
     let lexer = lexer_of(alloc, words)?;
     let found = lexer.lookahead();
     format!(in alloc; "{found:?}")
 }
 
-#[test]
-fn characters_that_leave_a_match_open(rt: HostRuntime) {
-    for row in LOOKAHEADS.trim_matches('\n').lines() {
-        let (words, wanted) = halves(row, " => ");
-        expect(&rt, of_lexer(rt.alloc(), words), wanted);
-    }
-    expect(&rt, of_lexer(rt.alloc(), ""), "Some(0)");
-}
-
-fn open_of(alloc: Global, words: &str) -> Result<String, AllocError> {
+pub(crate) fn open_patterns(alloc: Global, words: &str) -> Result<String, AllocError> {
     let lexer = lexer_of(alloc, words)?;
     let open = lexer.unbounded_patterns(alloc)?;
     let open = open.as_slice();
     format!(in alloc; "{open:?}")
 }
 
+const OPEN: &[(&str, &str)] = &[
+    ("'a' a*b", "[true, false]"),
+    (r"x '/' /\*([^*]|\*+[^*/])*\*+/", "[false, true, false]"),
+    ("'if' [a-z]+ '.' '..'", "[false, false, false, false]"),
+    ("'m' ma*[a&&b] (/x*/)?", "[false, false, false]"),
+    ("", "[]"),
+];
+
 #[test]
-fn patterns_that_stay_open(rt: HostRuntime) {
-    expect(&rt, open_of(rt.alloc(), "'a' a*b"), "[true, false]");
-    expect(
-        &rt,
-        open_of(rt.alloc(), r"x '/' /\*([^*]|\*+[^*/])*\*+/"),
-        "[false, true, false]",
-    );
-    expect(
-        &rt,
-        open_of(rt.alloc(), "'if' [a-z]+ '.' '..'"),
-        "[false, false, false, false]",
-    );
-    expect(
-        &rt,
-        open_of(rt.alloc(), "'m' ma*[a&&b] (/x*/)?"),
-        "[false, false, false]",
-    );
-    expect(&rt, open_of(rt.alloc(), ""), "[]");
+fn characters_that_leave_a_match_open(rt: HostRuntime) {
+    expect_lines(&rt, rt.alloc(), Call::Lookahead, LOOKAHEADS);
+    expect_rows(&rt, rt.alloc(), Call::Lookahead, &[("", "Some(0)")]);
+    expect_rows(&rt, rt.alloc(), Call::Open, OPEN);
 }

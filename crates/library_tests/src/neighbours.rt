@@ -1,6 +1,6 @@
 //! Which tokens may stand side by side, and the texts of tokens with a separator where one is needed.
 
-use crate::built::{expect, halves};
+use crate::calls::{Call, expect_lines, expect_rows, halves};
 use crate::lookaheads::lexer_of;
 use lalrpop_lexer::lexer::dfa::NfaIndex;
 use lalrpop_lexer::{JoinError, Lexer, Neighbours, Token};
@@ -30,21 +30,20 @@ fn apart_of(alloc: Global, lexer: &Lexer) -> Result<String, AllocError> {
 }
 
 // The pairs of patterns whose tokens may not stand side by side.
-fn apart(alloc: Global, words: &str) -> Result<String, AllocError> {
+pub(crate) fn apart(alloc: Global, words: &str) -> Result<String, AllocError> {
     let lexer = lexer_of(alloc, words)?;
     apart_of(alloc, &lexer)
 }
 
-#[test]
-fn tokens_that_run_on_into_others(rt: HostRuntime) {
-    expect(&rt, apart(rt.alloc(), WORDS), "00 01 10 11 22 35 66 ");
+const APART: &[(&str, &str)] = &[
+    (WORDS, "00 01 10 11 22 35 66 "),
     // After `1` no match goes on with only a point, but one may begin so; a dead state waits for nothing.
-    expect(&rt, apart(rt.alloc(), r"[0-9]+(\.[0-9]+)? '.'"), "00 01 ");
-    expect(&rt, apart(rt.alloc(), "'m' ma*[a&&b] 'a'"), "");
-    expect(&rt, apart(rt.alloc(), "'a' 'aa'"), "00 01 ");
-    expect(&rt, apart(rt.alloc(), "é éàü à"), "02 ");
-    expect(&rt, apart(rt.alloc(), ""), "");
-}
+    (r"[0-9]+(\.[0-9]+)? '.'", "00 01 "),
+    ("'m' ma*[a&&b] 'a'", ""),
+    ("'a' 'aa'", "00 01 "),
+    ("é éàü à", "02 "),
+    ("", ""),
+];
 
 fn token_of(row: &str) -> Token<'_> {
     let (index, slice) = halves(row, " ");
@@ -87,7 +86,7 @@ fn row_by(alloc: Global, lexer: &Lexer, row: &str) -> Result<String, AllocError>
 }
 
 // The text of the tokens in `TOKENS / SEPARATOR`, or why there is none.
-fn joined(alloc: Global, row: &str) -> Result<String, AllocError> {
+pub(crate) fn joined(alloc: Global, row: &str) -> Result<String, AllocError> {
     let lexer = lexer_of(alloc, WORDS)?;
     row_by(alloc, &lexer, row)
 }
@@ -105,8 +104,6 @@ const JOINED: &str = r"
 
 #[test]
 fn tokens_with_what_keeps_them_apart(rt: HostRuntime) {
-    for row in JOINED.trim_matches('\n').lines() {
-        let (argument, wanted) = halves(row, " => ");
-        expect(&rt, joined(rt.alloc(), argument), wanted);
-    }
+    expect_rows(&rt, rt.alloc(), Call::Apart, APART);
+    expect_lines(&rt, rt.alloc(), Call::Joined, JOINED);
 }

@@ -1,37 +1,29 @@
 //! What patterns with parts are read as, and where and why others are refused.
 
-use crate::patterns::{expect_same, nested, shown};
+use crate::calls::{Call, expect, expect_rows};
+use crate::patterns::{nested, refusal, shown, told};
 use lalrpop_re::{Part, RegexError, parse_with};
 use std::alloc::{AllocError, Global};
-use std::process::Abort;
 
-// The place and the kind of a refusal.
-fn refusal(alloc: Global, error: RegexError) -> Result<String, AllocError> {
-    match error {
-        RegexError::Syntax { position, kind } => {
-            format!(in alloc; "refused {position} {kind:?}")
-        }
-        RegexError::OutOfMemory => Err(AllocError),
-    }
+/// Parts in turn, each with those before it.
+#[derive(Clone, Copy)]
+pub(crate) enum Parts {
+    None,
+    // `D` stands for its first tree.
+    Known,
+    // A part has a group with a name.
+    Named,
+    // As deep as can be, and a level less.
+    Deep,
 }
 
-// The tree that a pattern is read as with the parts, or its refusal.
-fn answer_with(alloc: Global, pattern: &str, parts: &[Part]) -> Result<String, AllocError> {
-    match parse_with(alloc, pattern, parts) {
-        Ok(tree) => shown(alloc, &tree),
-        Err(error) => refusal(alloc, error),
-    }
-}
+const KNOWN: &[(&str, &str)] = &[
+    ("D", "[0-9]"),
+    ("N", "{D}+(\\.{D}+)?"),
+    ("x_1", "x|y"),
+    ("D", "z"),
+];
 
-// The tree of a part, or the refusal of its text.
-fn answer_of_part(alloc: Global, name: &str, pattern: &str) -> Result<String, AllocError> {
-    match Part::parse(alloc, name, pattern, &[]) {
-        Ok(part) => shown(alloc, part.tree()),
-        Err(error) => refusal(alloc, error),
-    }
-}
-
-// Parts in turn, each of those before it.
 fn parts_of(alloc: Global, rows: &[(&str, &str)]) -> Result<Vec<Part>, RegexError> {
     let mut parts = Vec::new(alloc);
     for (name, pattern) in rows {
@@ -41,147 +33,130 @@ fn parts_of(alloc: Global, rows: &[(&str, &str)]) -> Result<Vec<Part>, RegexErro
     Ok(parts)
 }
 
-// `D` stands for its first tree.
-fn known(alloc: Global) -> Result<Vec<Part>, RegexError> {
-    parts_of(
-        alloc,
-        &[
-            ("D", "[0-9]"),
-            ("N", "{D}+(\\.{D}+)?"),
-            ("x_1", "x|y"),
-            ("D", "z"),
-        ],
-    )
-}
-
-// Rows of a pattern and its answer with the parts.
-fn expect_with(
-    rt: &impl Abort,
-    alloc: Global,
-    parts: &[Part],
-    rows: &[(&str, &str)],
-) -> Result<(), AllocError> {
-    for (pattern, wanted) in rows {
-        expect_same(rt, &answer_with(alloc, *pattern, parts)?, *wanted);
-    }
-    Ok(())
-}
-
-#[test]
-fn parts_stand_for_their_trees(rt: HostRuntime) -> Result<(), RegexError> {
-    let parts = known(rt.alloc())?;
-    let rows: &[(&str, &str)] = &[
-        ("{D}", "[0..9]"),
-        ("{D}??", "[0..9]{0,1}?"),
-        ("a{D}{2}b", "('a' [0..9]{2,2} 'b')"),
-        ("a{2}{D}", "('a'{2,2} [0..9])"),
-        ("{N}", "([0..9]{1,} <:('.' [0..9]{1,})>{0,1})"),
-        ("{x_1}b", "(('x'|'y') 'b')"),
-        ("\\b{start}{D}", "(WordStartUnicode [0..9])"),
-        ("(?i:a){D}", "([A a] [0..9])"),
-        ("(?i)(?-i)(?u){D}", "[0..9]"),
-    ];
-    expect_with(&rt, rt.alloc(), &parts, rows)?;
-    Ok(())
-}
-
-#[test]
-fn what_stands_in_brackets_or_behind_a_backslash_is_no_part(
-    rt: HostRuntime,
-) -> Result<(), RegexError> {
-    let parts = known(rt.alloc())?;
-    let rows: &[(&str, &str)] = &[
-        ("[{D}]", "[D { }]"),
-        ("\\{D}", "('{' 'D' '}')"),
-        ("D}", "('D' '}')"),
-    ];
-    expect_with(&rt, rt.alloc(), &parts, rows)?;
-    Ok(())
-}
-
-#[test]
-fn patterns_with_parts_are_refused(rt: HostRuntime) -> Result<(), RegexError> {
-    let parts = known(rt.alloc())?;
-    let rows: &[(&str, &str)] = &[
-        ("{E}", "refused 0 PartUnknown"),
-        ("é{E}", "refused 2 PartUnknown"),
-        ("({D}|a{d})", "refused 6 PartUnknown"),
-        ("(?i){D}", "refused 4 PartUnderFlag"),
-        ("a(?i:b{D})", "refused 6 PartUnderFlag"),
-        ("{D", "refused 0 RepetitionMissing"),
-        ("{2}", "refused 0 RepetitionMissing"),
-        ("a{D", "refused 2 RepetitionCount"),
-        ("a{ D}", "refused 3 RepetitionCount"),
-        ("a{2,D}", "refused 4 RepetitionCount"),
-        ("a{2x}", "refused 1 RepetitionCount"),
-    ];
-    expect_with(&rt, rt.alloc(), &parts, rows)?;
-    Ok(())
-}
-
-// Where the list of parts is empty, a name in braces is that of none.
-#[test]
-fn braces_where_there_are_no_parts(rt: HostRuntime) -> Result<(), AllocError> {
-    let rows: &[(&str, &str)] = &[
-        ("{D}", "refused 0 PartUnknown"),
-        ("a{D}", "refused 1 PartUnknown"),
-        ("é(b|{_9}+)", "refused 5 PartUnknown"),
-        ("{9}", "refused 0 RepetitionMissing"),
-        ("a{9x}", "refused 1 RepetitionCount"),
-        ("a{2}", "'a'{2,2}"),
-    ];
-    expect_with(&rt, rt.alloc(), &[], rows)?;
-    expect_same(
-        &rt,
-        &answer_of_part(rt.alloc(), "a", "b{D}")?,
-        "refused 1 PartUnknown",
-    );
-    Ok(())
-}
-
-#[test]
-fn names_of_parts(rt: HostRuntime) -> Result<(), AllocError> {
-    let alloc = rt.alloc();
-    expect_same(&rt, &answer_of_part(alloc, "_9z", "a")?, "'a'");
-    expect_same(&rt, &answer_of_part(alloc, "", "a")?, "refused 0 PartName");
-    expect_same(&rt, &answer_of_part(alloc, "9", "a")?, "refused 0 PartName");
-    expect_same(&rt, &answer_of_part(alloc, "é", "a")?, "refused 0 PartName");
-    expect_same(
-        &rt,
-        &answer_of_part(alloc, "a", "é(")?,
-        "refused 2 UnclosedGroup",
-    );
-    Ok(())
-}
-
 // A part is as deep as its text in a group.
-#[test]
-fn levels_of_parts(rt: HostRuntime) -> Result<(), RegexError> {
-    let alloc = rt.alloc();
+fn deep(alloc: Global) -> Result<Vec<Part>, RegexError> {
     let deep = nested(alloc, "(", "", ")", 249)?;
     let deepest = nested(alloc, "(", "", ")", 250)?;
-    let parts = parts_of(alloc, &[("P", &deep), ("Q", &deepest), ("R", "{P}")])?;
-    let rows: &[(&str, &str)] = &[
-        ("({P})", "refused 1 NestLimitExceeded"),
-        ("{P}*", "refused 3 NestLimitExceeded"),
-        ("a{Q}", "refused 1 NestLimitExceeded"),
-        ("{R}", "refused 0 NestLimitExceeded"),
-    ];
-    expect_with(&rt, alloc, &parts, rows)?;
-    assert!(rt; answer_with(alloc, "a{P}", &parts)?.starts_with("('a' <:<:"));
-    Ok(())
+    parts_of(alloc, &[("P", &deep), ("Q", &deepest), ("R", "{P}")])
 }
 
+fn made(alloc: Global, parts: Parts) -> Result<Vec<Part>, RegexError> {
+    match parts {
+        Parts::None => Ok(Vec::new(alloc)),
+        Parts::Known => parts_of(alloc, KNOWN),
+        Parts::Named => parts_of(alloc, &[("G", "(?<n>a)")]),
+        Parts::Deep => deep(alloc),
+    }
+}
+
+/// The tree that a pattern is read as with the parts, or its refusal.
+pub(crate) fn with(alloc: Global, parts: Parts, pattern: &str) -> Result<String, AllocError> {
+    match made(alloc, parts) {
+        Ok(parts) => told(alloc, parse_with(alloc, pattern, &parts)),
+        Err(_) => Err(AllocError),
+    }
+}
+
+// The tree of a part, or the refusal of its text.
+fn part(alloc: Global, name: &str, pattern: &str) -> Result<String, AllocError> {
+    match Part::parse(alloc, name, pattern, &[]) {
+        Ok(part) => shown(alloc, part.tree()),
+        Err(error) => refusal(alloc, error),
+    }
+}
+
+const TREES: &[(&str, &str)] = &[
+    ("{D}", "[0..9]"),
+    ("{D}??", "[0..9]{0,1}?"),
+    ("a{D}{2}b", "('a' [0..9]{2,2} 'b')"),
+    ("a{2}{D}", "('a'{2,2} [0..9])"),
+    ("{N}", "([0..9]{1,} <:('.' [0..9]{1,})>{0,1})"),
+    ("{x_1}b", "(('x'|'y') 'b')"),
+    ("\\b{start}{D}", "(WordStartUnicode [0..9])"),
+    ("(?i:a){D}", "([A a] [0..9])"),
+    ("(?i)(?-i)(?u){D}", "[0..9]"),
+];
+
+// In brackets and behind a backslash there is no part.
+const NO_PARTS: &[(&str, &str)] = &[
+    ("[{D}]", "[D { }]"),
+    ("\\{D}", "('{' 'D' '}')"),
+    ("D}", "('D' '}')"),
+];
+
+const REFUSED: &[(&str, &str)] = &[
+    ("{E}", "refused 0 PartUnknown"),
+    ("é{E}", "refused 2 PartUnknown"),
+    ("({D}|a{d})", "refused 6 PartUnknown"),
+    ("(?i){D}", "refused 4 PartUnderFlag"),
+    ("a(?i:b{D})", "refused 6 PartUnderFlag"),
+    ("{D", "refused 0 RepetitionMissing"),
+    ("{2}", "refused 0 RepetitionMissing"),
+    ("a{D", "refused 2 RepetitionCount"),
+    ("a{ D}", "refused 3 RepetitionCount"),
+    ("a{2,D}", "refused 4 RepetitionCount"),
+    ("a{2x}", "refused 1 RepetitionCount"),
+];
+
+// Where the list of parts is empty, a name in braces is that of none.
+const BRACES: &[(&str, &str)] = &[
+    ("{D}", "refused 0 PartUnknown"),
+    ("a{D}", "refused 1 PartUnknown"),
+    ("é(b|{_9}+)", "refused 5 PartUnknown"),
+    ("{9}", "refused 0 RepetitionMissing"),
+    ("a{9x}", "refused 1 RepetitionCount"),
+    ("a{2}", "'a'{2,2}"),
+];
+
+const LEVELS: &[(&str, &str)] = &[
+    ("({P})", "refused 1 NestLimitExceeded"),
+    ("{P}*", "refused 3 NestLimitExceeded"),
+    ("a{Q}", "refused 1 NestLimitExceeded"),
+    ("{R}", "refused 0 NestLimitExceeded"),
+];
+
 // Two groups of one name are refused, at the second group or the part that has it.
+const GROUPS: &[(&str, &str)] = &[
+    ("{G}", "<n:'a'>"),
+    ("{G}b{G}", "refused 4 GroupName"),
+    ("{G}(?<m>c)(?<m>d)", "refused 10 GroupName"),
+    ("(?<n>b){G}", "refused 7 GroupName"),
+];
+
 #[test]
-fn names_of_groups_in_parts(rt: HostRuntime) -> Result<(), RegexError> {
-    let parts = parts_of(rt.alloc(), &[("G", "(?<n>a)")])?;
-    let rows: &[(&str, &str)] = &[
-        ("{G}", "<n:'a'>"),
-        ("{G}b{G}", "refused 4 GroupName"),
-        ("{G}(?<m>c)(?<m>d)", "refused 10 GroupName"),
-        ("(?<n>b){G}", "refused 7 GroupName"),
-    ];
-    expect_with(&rt, rt.alloc(), &parts, rows)?;
-    Ok(())
+fn patterns_have_parts(rt: HostRuntime) {
+    expect_rows(&rt, rt.alloc(), Call::With(Parts::Known), TREES);
+    expect_rows(&rt, rt.alloc(), Call::With(Parts::Known), NO_PARTS);
+    expect_rows(&rt, rt.alloc(), Call::With(Parts::Known), REFUSED);
+    expect_rows(&rt, rt.alloc(), Call::With(Parts::None), BRACES);
+    expect_rows(&rt, rt.alloc(), Call::With(Parts::Deep), LEVELS);
+    expect_rows(&rt, rt.alloc(), Call::With(Parts::Named), GROUPS);
+}
+
+const NAMES: &[(&str, &str, &str)] = &[
+    ("a", "b{D}", "refused 1 PartUnknown"),
+    ("_9z", "a", "'a'"),
+    ("", "a", "refused 0 PartName"),
+    ("9", "a", "refused 0 PartName"),
+    ("é", "a", "refused 0 PartName"),
+    ("a", "é(", "refused 2 UnclosedGroup"),
+];
+
+#[test]
+fn parts_have_names(rt: HostRuntime) {
+    for (name, pattern, wanted) in NAMES {
+        expect(&rt, part(rt.alloc(), *name, *pattern), *wanted);
+    }
+}
+
+fn is_deep(alloc: Global) -> bool {
+    match with(alloc, Parts::Deep, "a{P}") {
+        Ok(tree) => tree.starts_with("('a' <:<:"),
+        Err(_) => false,
+    }
+}
+
+#[test]
+fn a_part_may_be_deep(rt: HostRuntime) {
+    assert!(rt; is_deep(rt.alloc()));
 }

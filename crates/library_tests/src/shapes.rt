@@ -1,6 +1,7 @@
 //! The states and edges that patterns are compiled to, and what is refused.
 
-use crate::built::{compiled, expect, halves, nfa_for, tree_of};
+use crate::built::{compiled, nfa_for, tree_of};
+use crate::calls::{Call, expect, expect_lines};
 use lalrpop_lexer::lexer::nfa::{
     ACCEPT, Edge, EdgeLabel, Nfa, NfaStateIndex, Noop, Other, REJECT, START, Test,
 };
@@ -43,17 +44,14 @@ fn told(alloc: Global, tree: &Hir) -> Result<String, AllocError> {
     }
 }
 
-fn outcome(alloc: Global, pattern: &str) -> Result<String, AllocError> {
+pub(crate) fn outcome(alloc: Global, pattern: &str) -> Result<String, AllocError> {
     let tree = tree_of(alloc, pattern)?;
     told(alloc, &tree)
 }
 
 #[test]
 fn patterns_have_so_many_states_or_a_fault(rt: HostRuntime) {
-    for row in OUTCOMES.trim().lines() {
-        let (pattern, wanted) = halves(row, " => ");
-        expect(&rt, outcome(rt.alloc(), pattern), wanted);
-    }
+    expect_lines(&rt, rt.alloc(), Call::Outcome, OUTCOMES);
 }
 
 // Patterns, and below each the edges of its automaton. Nfa0 accepts, Nfa1 rejects, and Nfa2 is the start. The state of a

@@ -1,6 +1,7 @@
 //! Which automata are run by a table: no clause says it.
 
-use crate::built::{built, built_from, built_with, expect, has_table};
+use crate::built::{built, built_from, built_with, has_table};
+use crate::calls::expect;
 use lalrpop_dense::{DenseDfa, TokenEnds};
 use lalrpop_lexer::lexer::dfa::{Dfa, Precedence};
 use lalrpop_lexer::lexer::nfa::Steps;

@@ -1,6 +1,6 @@
 //! What makes a lexer look ahead: a match, and characters after it that leave it open, by their code values.
 
-use crate::built::{expect, halves};
+use crate::calls::{Call, expect_lines};
 use crate::lookaheads::lexer_of;
 use lalrpop_lexer::lexer::dfa::Witness;
 use std::alloc::{AllocError, Global};
@@ -38,7 +38,7 @@ fn shown(alloc: Global, found: &Option<Witness>) -> Result<String, AllocError> {
 }
 
 // The row is the patterns and, after a blank, the number of characters.
-fn of_lexer(alloc: Global, row: &str) -> Result<String, AllocError> {
+pub(crate) fn witness(alloc: Global, row: &str) -> Result<String, AllocError> {
     let (words, count) = row.rsplit_once(' ').unwrap_or((row, ""));
     let lexer = lexer_of(alloc, words)?;
     let found = lexer.lookahead_witness(alloc, count.parse().unwrap_or(0))?;
@@ -47,9 +47,6 @@ fn of_lexer(alloc: Global, row: &str) -> Result<String, AllocError> {
 
 #[test]
 fn what_leaves_a_match_open(rt: HostRuntime) {
-    for row in WITNESSES.trim_matches('\n').lines() {
-        let (patterns, wanted) = halves(row, " => ");
-        expect(&rt, of_lexer(rt.alloc(), patterns), wanted);
-    }
-    expect(&rt, of_lexer(rt.alloc(), " 0"), "none");
+    expect_lines(&rt, rt.alloc(), Call::Witness, WITNESSES);
+    expect_lines(&rt, rt.alloc(), Call::Witness, " 0 => none");
 }

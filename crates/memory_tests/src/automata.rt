@@ -1,6 +1,6 @@
 //! Automata of one tree and of many: built, copied and run, and the partition of ranges.
 
-use crate::calls::{Call, add, at_last, expect, expect_answer, halves, number};
+use crate::calls::{Call, at_last, expect, halves, is_answer_at_last, number, part_from};
 use crate::trees::tree_of;
 use lalrpop_dense::DenseDfa;
 use lalrpop_hir::Hir;
@@ -89,9 +89,10 @@ fn cut(alloc: Global, set: &BTreeSet<Test>, counts: bool) -> Result<Vec<Test>, A
     }
 }
 
-fn add_part(alloc: Global, line: &mut String, part: &Test) -> Result<(), AllocError> {
+fn add_part(line: &mut String, part: &Test) -> Result<(), AllocError> {
     let (start, end) = (part.start(), part.end());
-    add(line, " ", format!(in alloc; "{start}-{end}")?.as_str())
+    part_from(line, " ")?;
+    write!(line, "{start}-{end}")
 }
 
 fn shown(alloc: Global, parts: &[Test]) -> Result<String, AllocError> {
@@ -100,7 +101,7 @@ fn shown(alloc: Global, parts: &[Test]) -> Result<String, AllocError> {
     }
     let mut line = String::new(alloc);
     for part in parts {
-        add_part(alloc, &mut line, part)?;
+        add_part(&mut line, part)?;
     }
     Ok(line)
 }
@@ -159,13 +160,14 @@ fn build_rows(alloc: Global, rows: &str) -> Result<Result<Dfa, DfaConstructionEr
 }
 
 // The number of the pattern that is found, and what it matches.
-fn token(alloc: Global, dfa: &Dfa, text: &str) -> Result<String, AllocError> {
+fn add_token(line: &mut String, dfa: &Dfa, text: &str) -> Result<(), AllocError> {
+    part_from(line, " / ")?;
     match interpret(dfa, text) {
         Some((index, matched)) => {
             let index = index.index();
-            format!(in alloc; "{index} {matched}")
+            write!(line, "{index} {matched}")
         }
-        None => String::from_str(alloc, "none"),
+        None => line.push_str("none"),
     }
 }
 
@@ -173,7 +175,7 @@ fn token(alloc: Global, dfa: &Dfa, text: &str) -> Result<String, AllocError> {
 fn tokens_of(alloc: Global, dfa: &Dfa, texts: &str) -> Result<String, AllocError> {
     let mut line = String::new(alloc);
     for text in texts.split(" / ") {
-        add(&mut line, " / ", token(alloc, dfa, text)?.as_str())?;
+        add_token(&mut line, dfa, text)?;
     }
     Ok(line)
 }
@@ -238,7 +240,7 @@ fn great_count_is_refused(alloc: Global) -> Result<bool, AllocError> {
 #[test]
 fn a_great_count_is_refused(rt: HostRuntime) {
     if !matches!(env::var(&rt, "REFUSE"), Err(VarError::NotPresent)) {
-        assert!(rt; at_last!(&rt; great_count_is_refused(rt.alloc())));
+        assert!(rt; at_last!(great_count_is_refused(rt.alloc())));
     }
 }
 
@@ -252,7 +254,7 @@ ab{2,4} / ab => none";
 fn one_tree_is_run(rt: HostRuntime) {
     for call in [Call::Run, Call::CountedRun] {
         expect(&rt, rt.alloc(), call, RUNS, 4);
-        expect_answer(&rt, rt.alloc(), call, ". / \n", "none");
+        assert!(rt; is_answer_at_last(rt.alloc(), call, ". / \n", "none"));
     }
 }
 
@@ -387,15 +389,14 @@ fn lexer_for(alloc: Global, rows: &str) -> Result<Lexer, AllocError> {
 }
 
 fn add_item(
-    alloc: Global,
     line: &mut String,
     item: &Result<(NfaIndex, &str), TokenFault>,
 ) -> Result<(), AllocError> {
-    let part = match item {
-        Ok(token) => format!(in alloc; "{}", token.0.index())?,
-        Err(fault) => format!(in alloc; "fault {}", fault.at)?,
-    };
-    add(line, " ", part.as_str())
+    part_from(line, " ")?;
+    match item {
+        Ok(token) => write!(line, "{}", token.0.index()),
+        Err(fault) => write!(line, "fault {}", fault.at),
+    }
 }
 
 fn cut_by<'text>(
@@ -405,7 +406,7 @@ fn cut_by<'text>(
 ) -> Result<String, AllocError> {
     let mut line = String::new(alloc);
     for item in lexer.tokens(alloc, text)? {
-        add_item(alloc, &mut line, &item)?;
+        add_item(&mut line, &item)?;
     }
     Ok(line)
 }

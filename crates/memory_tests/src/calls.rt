@@ -4,12 +4,12 @@ use crate::{automata, clashes, edits, modes, rules, trees, verdicts};
 use std::alloc::{AllocError, Global};
 use std::process::Abort;
 
-// What a call returns, made again if memory was refused: only one request is refused in a run.
+// Whether a call holds, made again if memory was refused: only one request is refused in a run.
 macro_rules! at_last {
-    ($rt:expr; $call:expr) => {
+    ($call:expr) => {
         match $call {
-            Ok(value) => value,
-            Err(AllocError) => $call.expect($rt, "memory is there again"),
+            Ok(holds) => holds,
+            Err(AllocError) => matches!($call, Ok(true)),
         }
     };
 }
@@ -109,24 +109,28 @@ pub(crate) fn number(digits: &str) -> u32 {
     digits.parse().unwrap_or(0)
 }
 
+// Appends what separates two parts, unless the line is empty.
+pub(crate) fn part_from(line: &mut String, between: &str) -> Result<(), AllocError> {
+    if line.is_empty() {
+        Ok(())
+    } else {
+        line.push_str(between)
+    }
+}
+
 // Appends a part to the line, after what separates two parts.
 pub(crate) fn add(line: &mut String, between: &str, part: &str) -> Result<(), AllocError> {
-    if !line.is_empty() {
-        line.push_str(between)?;
-    }
+    part_from(line, between)?;
     line.push_str(part)
 }
 
-// The call has this answer, or is refused memory and has it when it is made again.
-pub(crate) fn expect_answer(
-    rt: &impl Abort,
-    alloc: Global,
-    call: Call,
-    argument: &str,
-    wanted: &str,
-) {
-    let found = at_last!(rt; answer(alloc, call, argument));
-    assert!(rt; found.as_str() == wanted, "{argument}: {found}");
+fn is_answer(alloc: Global, call: Call, argument: &str, wanted: &str) -> Result<bool, AllocError> {
+    Ok(answer(alloc, call, argument)?.as_str() == wanted)
+}
+
+// Whether the call has this answer, or is refused memory and has it when it is made again.
+pub(crate) fn is_answer_at_last(alloc: Global, call: Call, argument: &str, wanted: &str) -> bool {
+    at_last!(is_answer(alloc, call, argument, wanted))
 }
 
 // Each row of the table holds, and there are `rows` of them.
@@ -134,6 +138,6 @@ pub(crate) fn expect(rt: &impl Abort, alloc: Global, call: Call, table: &str, ro
     assert!(rt; table.lines().count() == rows);
     for row in table.lines() {
         let (argument, wanted) = halves(row, " => ");
-        expect_answer(rt, alloc, call, argument, wanted);
+        assert!(rt; is_answer_at_last(alloc, call, argument, wanted), "{row}");
     }
 }

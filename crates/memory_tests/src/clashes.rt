@@ -1,7 +1,7 @@
 //! All clashes of many trees.
 
 use crate::automata::{precedences_of, told, trees_of};
-use crate::calls::{Call, add, expect};
+use crate::calls::{Call, expect, part_from};
 use lalrpop_hir::Hir;
 use lalrpop_lexer::lexer::dfa::{Clash, DfaConstructionError, Precedence, clashes};
 use std::alloc::{AllocError, Global};
@@ -19,13 +19,10 @@ fn list(
 }
 
 // Both places, and the values of the word in hexadecimal.
-fn add_clash(alloc: Global, line: &mut String, clash: &Clash) -> Result<(), AllocError> {
+fn add_clash(line: &mut String, clash: &Clash) -> Result<(), AllocError> {
     let (match0, match1) = (clash.match0.index(), clash.match1.index());
-    add(
-        line,
-        " / ",
-        format!(in alloc; "{match0} {match1}")?.as_str(),
-    )?;
+    part_from(line, " / ")?;
+    write!(line, "{match0} {match1}")?;
     for value in &clash.word {
         let value = *value;
         write!(line, " {value:x}")?;
@@ -39,7 +36,7 @@ fn shown(alloc: Global, found: &[Clash]) -> Result<String, AllocError> {
     }
     let mut line = String::new(alloc);
     for clash in found {
-        add_clash(alloc, &mut line, clash)?;
+        add_clash(&mut line, clash)?;
     }
     Ok(line)
 }

@@ -22,6 +22,19 @@ fn slices(alloc: Global, lexed: &Document<'_>) -> Result<String, AllocError> {
     Ok(line)
 }
 
+// A refusal, if the text and its pieces are the old ones.
+fn refused(
+    alloc: Global,
+    lexed: &Document<'_>,
+    text: &str,
+    before: &str,
+) -> Result<String, AllocError> {
+    if lexed.text() == text && slices(alloc, lexed)?.as_str() == before {
+        return Err(AllocError);
+    }
+    String::from_str(alloc, "the text or the pieces changed")
+}
+
 // Puts `new` after the byte in the middle. If that is refused, the text and its pieces are the old ones.
 fn edit_once(
     alloc: Global,
@@ -33,13 +46,7 @@ fn edit_once(
     let middle = text.len() / 2;
     match lexed.edit(alloc, middle..middle, new) {
         Ok(_) => slices(alloc, lexed),
-        Err(EditError::OutOfMemory) if lexed.text() == text => {
-            let behind = slices(alloc, lexed)?;
-            if behind.as_str() == before.as_str() {
-                return Err(AllocError);
-            }
-            String::from_str(alloc, "the pieces changed")
-        }
+        Err(EditError::OutOfMemory) => refused(alloc, lexed, text, before.as_str()),
         Err(error) => format!(in alloc; "{error}"),
     }
 }

@@ -103,24 +103,31 @@ fn goes_so<K: OfNumber>(
     }
 }
 
-// Each step is made again if it was refused memory.
+const STEPS: &[Step] = &[
+    Step::Add(7, 0),
+    Step::Add(9, 1),
+    Step::Add(7, 0),
+    Step::Take(Some(7)),
+    Step::Take(Some(9)),
+    Step::Take(None),
+    Step::Add(3, 2),
+    Step::Take(Some(3)),
+    Step::Take(None),
+];
+
+// A step is made again if it was refused memory.
+fn goes_so_at_last<K: OfNumber>(alloc: Global, set: &mut KernelSet<K>, step: Step) -> bool
+    requires { ClonesEqual K.cmp K.is_clone }
+{
+    at_last!(goes_so(alloc, set, step))
+}
+
 fn goes_on<K: OfNumber>(rt: &impl Abort, alloc: Global)
     requires { ClonesEqual K.cmp K.is_clone }
 {
-    use Step::{Add, Take};
     let mut set: KernelSet<K> = KernelSet::new(alloc);
-    for step in [
-        Add(7, 0),
-        Add(9, 1),
-        Add(7, 0),
-        Take(Some(7)),
-        Take(Some(9)),
-        Take(None),
-        Add(3, 2),
-        Take(Some(3)),
-        Take(None),
-    ] {
-        assert!(rt; at_last!(rt; goes_so(alloc, &mut set, step)));
+    for step in STEPS {
+        assert!(rt; goes_so_at_last(alloc, &mut set, *step));
     }
 }
 

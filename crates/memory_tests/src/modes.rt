@@ -1,6 +1,6 @@
 //! Texts that are cut by rules with modes, and lexers of such rules in numbers.
 
-use crate::calls::{Call, add, expect, halves};
+use crate::calls::{Call, add, expect, halves, part_from};
 use crate::edits::lexer_of;
 use lalrpop_emit::{ByteCutter, LexerNumbers, NumberedPiece, c_source, rust_source};
 use lalrpop_rules::RuleLexer;
@@ -44,12 +44,19 @@ A mode B = 'a';[B];C = 'a' <-  => ";
     expect(&rt, rt.alloc(), Call::Modes, table, 2);
 }
 
-fn add_piece(alloc: Global, piece: NumberedPiece, line: &mut String) -> Result<(), AllocError> {
-    let part = match piece.kind {
-        Some(kind) => format!(in alloc; "{kind}:{}", piece.length)?,
-        None => format!(in alloc; "!:{}", piece.length)?,
-    };
-    add(line, " ", part.as_str())
+fn add_piece(line: &mut String, piece: NumberedPiece) -> Result<(), AllocError> {
+    part_from(line, " ")?;
+    match piece.kind {
+        Some(kind) => write!(line, "{kind}:{}", piece.length),
+        None => write!(line, "!:{}", piece.length),
+    }
+}
+
+fn add_pieces(line: &mut String, pieces: &[NumberedPiece]) -> Result<(), AllocError> {
+    for piece in pieces {
+        add_piece(line, *piece)?;
+    }
+    Ok(())
 }
 
 fn add_sources(alloc: Global, numbers: &LexerNumbers, line: &mut String) -> Result<(), AllocError> {
@@ -79,9 +86,7 @@ pub(crate) fn by_numbers(alloc: Global, argument: &str) -> Result<String, AllocE
     let numbers = numbers_of(alloc, lines)?;
     let cut = numbers.pieces(alloc, text.as_bytes())?;
     let mut line = String::new(alloc);
-    for piece in &cut.pieces {
-        add_piece(alloc, *piece, &mut line)?;
-    }
+    add_pieces(&mut line, &cut.pieces)?;
     add_sources(alloc, &numbers, &mut line)?;
     Ok(line)
 }
@@ -98,7 +103,7 @@ fn cut_on(alloc: Global, numbers: &LexerNumbers, text: &[u8]) -> Result<String, 
     let mut cutter = ByteCutter::new(alloc, numbers, text.len())?;
     let mut line = String::new(alloc);
     'pieces: while let Ok(Some(piece)) = cutter.next_piece(numbers, text) {
-        add_piece(alloc, piece, &mut line)?;
+        add_piece(&mut line, piece)?;
     }
     Ok(line)
 }

@@ -116,6 +116,11 @@ fn holds(alloc: Global, all: bool, row: &str) -> Result<bool, AllocError> {
     Ok(runs_so(alloc, all, &input, text, &line, status))
 }
 
+// Whether it does, also if memory is refused first.
+fn holds_at_last(alloc: Global, all: bool, row: &str) -> bool {
+    at_last!(holds(alloc, all, row))
+}
+
 #[test]
 fn a_line_or_nothing(rt: HostRuntime) {
     let table = "\
@@ -132,7 +137,7 @@ x l a; / a => line 0;, 3
 0 l \u{ff}; / a => line 0;, 3";
     assert!(rt; table.lines().count() == 11);
     for row in table.lines() {
-        assert!(rt; at_last!(&rt; holds(rt.alloc(), false, row)), "{row}");
+        assert!(rt; holds_at_last(rt.alloc(), false, row), "{row}");
     }
 }
 
@@ -150,6 +155,6 @@ fn all_lines_or_nothing(rt: HostRuntime) {
 x l a; / a => line 0;, 3";
     assert!(rt; table.lines().count() == 9);
     for row in table.lines() {
-        assert!(rt; at_last!(&rt; holds(rt.alloc(), true, row)), "{row}");
+        assert!(rt; holds_at_last(rt.alloc(), true, row), "{row}");
     }
 }

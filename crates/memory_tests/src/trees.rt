@@ -1,18 +1,23 @@
 //! Literals, classes, patterns from text and copies of trees.
 
-use crate::calls::{Call, add, at_last, expect, halves, number};
+use crate::calls::{Call, add, at_last, expect, halves, number, part_from};
 use lalrpop_hir::{
     Class, ClassBytes, ClassBytesRange, ClassUnicode, ClassUnicodeRange, Hir, HirKind,
 };
 use lalrpop_re::{RegexError, escape, parse_any_case, parse_literal, parse_regex, unescape};
 use std::alloc::{AllocError, Global};
 
+fn add_run(line: &mut String, range: &ClassUnicodeRange) -> Result<(), AllocError> {
+    let (start, end) = (range.start(), range.end());
+    part_from(line, " ")?;
+    write!(line, "{start}-{end}")
+}
+
 // The first and the last character of each run, as `a-z`.
 fn runs(alloc: Global, class: &ClassUnicode) -> Result<String, AllocError> {
     let mut line = String::new(alloc);
     for range in class.ranges() {
-        let (start, end) = (range.start(), range.end());
-        add(&mut line, " ", format!(in alloc; "{start}-{end}")?.as_str())?;
+        add_run(&mut line, range)?;
     }
     Ok(line)
 }
@@ -220,7 +225,7 @@ fn bytes_are_joined(alloc: Global) -> Result<bool, AllocError> {
 
 #[test]
 fn classes_of_bytes(rt: HostRuntime) {
-    assert!(rt; at_last!(&rt; bytes_are_joined(rt.alloc())));
+    assert!(rt; at_last!(bytes_are_joined(rt.alloc())));
 }
 
 #[test]

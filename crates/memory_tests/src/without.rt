@@ -37,7 +37,7 @@ fn literal_is_shown(alloc: Global) -> Result<bool, AllocError> {
 
 #[test]
 fn literals(rt: HostRuntime) {
-    assert!(rt; at_last!(&rt; literal_is_shown(rt.alloc())));
+    assert!(rt; at_last!(literal_is_shown(rt.alloc())));
 }
 
 fn holds_a_to_z(class: &ClassUnicode) -> bool {
@@ -62,7 +62,7 @@ fn class_is_shown(alloc: Global) -> Result<bool, AllocError> {
 
 #[test]
 fn classes(rt: HostRuntime) {
-    assert!(rt; at_last!(&rt; class_is_shown(rt.alloc())));
+    assert!(rt; at_last!(class_is_shown(rt.alloc())));
 }
 
 fn holds_two_to_nine(class: &ClassBytes) -> bool {
@@ -80,7 +80,7 @@ fn class_of_bytes_is_shown(alloc: Global) -> Result<bool, AllocError> {
 
 #[test]
 fn classes_of_bytes(rt: HostRuntime) {
-    assert!(rt; at_last!(&rt; class_of_bytes_is_shown(rt.alloc())));
+    assert!(rt; at_last!(class_of_bytes_is_shown(rt.alloc())));
 }
 
 fn is_named_group(tree: Hir) -> bool {
@@ -101,7 +101,7 @@ fn group_is_shown(alloc: Global) -> Result<bool, AllocError> {
 
 #[test]
 fn groups(rt: HostRuntime) {
-    assert!(rt; at_last!(&rt; group_is_shown(rt.alloc())));
+    assert!(rt; at_last!(group_is_shown(rt.alloc())));
 }
 
 fn is_two_to_four_turns(tree: Hir) -> bool {
@@ -124,7 +124,7 @@ fn repetition_is_shown(alloc: Global) -> Result<bool, AllocError> {
 
 #[test]
 fn repetitions(rt: HostRuntime) {
-    assert!(rt; at_last!(&rt; repetition_is_shown(rt.alloc())));
+    assert!(rt; at_last!(repetition_is_shown(rt.alloc())));
 }
 
 fn is_empty(tree: Hir) -> bool {
@@ -234,7 +234,7 @@ fn one_tree_is_shown(alloc: Global) -> Result<bool, AllocError> {
 
 #[test]
 fn one_tree(rt: HostRuntime) {
-    assert!(rt; at_last!(&rt; one_tree_is_shown(rt.alloc())));
+    assert!(rt; at_last!(one_tree_is_shown(rt.alloc())));
 }
 
 fn finds_class(dfa: &Dfa, text: &str) -> bool {
@@ -307,7 +307,7 @@ fn many_trees_are_shown(alloc: Global) -> Result<bool, AllocError> {
 
 #[test]
 fn many_trees(rt: HostRuntime) {
-    assert!(rt; at_last!(&rt; many_trees_are_shown(rt.alloc())));
+    assert!(rt; at_last!(many_trees_are_shown(rt.alloc())));
 }
 
 fn is_word(word: Word, values: &[u32]) -> bool {
@@ -322,7 +322,7 @@ fn word_is_shown(alloc: Global) -> Result<bool, AllocError> {
 
 #[test]
 fn words_of_clashes(rt: HostRuntime) {
-    assert!(rt; at_last!(&rt; word_is_shown(rt.alloc())));
+    assert!(rt; at_last!(word_is_shown(rt.alloc())));
 }
 
 fn ends_at_once(mut set: KernelSet<Plain>) -> bool {
@@ -348,5 +348,5 @@ fn the_program_is_shown(alloc: Global) -> Result<bool, AllocError> {
 
 #[test]
 fn the_program(rt: HostRuntime) {
-    assert!(rt; at_last!(&rt; the_program_is_shown(rt.alloc())));
+    assert!(rt; at_last!(the_program_is_shown(rt.alloc())));
 }

@@ -1,29 +1,30 @@
-//! Texts that named rules cut, what is written for them and how cutting ends, a reader that gives them bit by bit, and a writer
-//! that fails.
+//! What named rules cut, what is written for it and how cutting ends, a reader that gives bytes bit by bit, and a writer that fails.
 
 use lalrpop_lexer::Position;
 use lexdfa_lib::RunError;
 use std::alloc::Global;
 use std::io;
 use std::io::{Read, Write};
-use std::process::Abort;
 use tokens_lib::{
-    Console, CutEnd, Found, Layout, LineForm, Markup, ModeAction, ModeRule, OpenMode, Reader, Rule,
-    RuleLexer, Sink, Source, System, write_items, write_page,
+    Console, CutEnd, Found, Layout, LineForm, Markup, OpenMode, Reader, RuleLexer, Sink, Source,
+    System, write_items, write_page,
 };
 
 /// More bytes than any text here has.
 pub(crate) const ALL: usize = 1000;
 
+/// How many bytes a read gives.
+pub(crate) const SIZES: &[usize] = &[1, 2, 3, 5, ALL];
+
 /// Gives some of its bytes a call, then ends or fails, and counts its calls.
 #[derive(Drop)]
 pub(crate) struct Fed<'a> {
-    pub(crate) left: &'a [u8],
+    left: &'a [u8],
     // How many bytes a call gives at most.
     pub(crate) at_once: usize,
-    // How a call fails that has no bytes left; if it doesn't, the bytes end.
-    pub(crate) failure: Option<io::ErrorKind>,
-    pub(crate) calls: usize,
+    // Whether a call fails that has no bytes left; if it doesn't, the bytes end.
+    fails: bool,
+    calls: usize,
 }
 
 impl<'a> Fed<'a> {
@@ -32,7 +33,7 @@ impl<'a> Fed<'a> {
         Fed {
             left,
             at_once,
-            failure: None,
+            fails: false,
             calls: 0,
         }
     }
@@ -42,7 +43,7 @@ impl<'a> Fed<'a> {
         Fed {
             left,
             at_once,
-            failure: Some(io::ErrorKind::Other),
+            fails: true,
             calls: 0,
         }
     }
@@ -51,24 +52,22 @@ impl<'a> Fed<'a> {
 impl<'a> Read for Fed<'a> {
     fn read(&mut self, buf: &mut [u8]) -> io::Result<usize> {
         self.calls = self.calls.saturating_add(1);
-        match self.failure {
-            Some(kind) if self.left.is_empty() => Err(io::Error::from(kind)),
-            _ => {
-                let most = self.at_once.min(buf.len());
-                self.left.read(&mut buf[..most])
-            }
+        if self.fails && self.left.is_empty() {
+            return Err(io::Error::from(io::ErrorKind::Other));
         }
+        let most = self.at_once.min(buf.len());
+        self.left.read(&mut buf[..most])
     }
 }
 
 /// Takes one byte a call while it has room, then fails, and counts its calls.
 #[derive(Drop)]
-pub(crate) struct Full {
-    pub(crate) taken: Vec<u8>,
-    pub(crate) room: usize,
+struct Full {
+    taken: Vec<u8>,
+    room: usize,
     // How a call fails that finds no room; if it doesn't, it takes nothing.
-    pub(crate) failure: Option<io::ErrorKind>,
-    pub(crate) calls: usize,
+    failure: Option<io::ErrorKind>,
+    calls: usize,
 }
 
 impl Write for Full {
@@ -86,55 +85,23 @@ impl Write for Full {
     }
 }
 
-// The rule in the first mode, without actions.
-fn plain<'text>(rule: Rule<'text>) -> ModeRule<'text> {
-    ModeRule {
-        rule,
-        modes: &[0],
-        actions: &[],
-    }
-}
-
 /// A keyword, names of ASCII letters, and spaces and line feeds, which are skipped.
-pub(crate) fn lexer_of_rules(rt: &impl Abort, alloc: Global) -> RuleLexer {
-    let rules = [
-        plain(Rule::literal("IF", "if")),
-        plain(Rule::pattern("NAME", "[a-z]+")),
-        plain(Rule::pattern("SPACE", "[ \n]+").skipped()),
-    ];
-    RuleLexer::from_rules(alloc, &rules, 1).expect(rt, "a lexer")
-}
+pub(crate) const PLAIN_RULES: &[u8] = b"IF = 'if'\nNAME = /[a-z]+/\nSPACE skip = /[ \\n]+/";
 
 /// Words of characters of one, two, three and four bytes, and spaces, which are skipped.
-pub(crate) fn lexer_of_words(rt: &impl Abort, alloc: Global) -> RuleLexer {
-    let rules = [
-        plain(Rule::pattern("WORD", "[a-z\u{e9}\u{20ac}\u{1f600}]+")),
-        plain(Rule::pattern("SPACE", " ").skipped()),
-    ];
-    RuleLexer::from_rules(alloc, &rules, 1).expect(rt, "a lexer")
-}
+pub(crate) const WORD_RULES: &[u8] =
+    b"WORD = /[a-z\xc3\xa9\xe2\x82\xac\xf0\x9f\x98\x80]+/\nSPACE skip = / /";
 
 /// Names, and comments in comments.
-pub(crate) fn lexer_of_comments(rt: &impl Abort, alloc: Global) -> RuleLexer {
-    let rules = [
-        plain(Rule::pattern("NAME", "[a-z]+")),
-        ModeRule {
-            rule: Rule::literal("OPEN", "/*"),
-            modes: &[0, 1],
-            actions: &[ModeAction::Push(1)],
-        },
-        ModeRule {
-            rule: Rule::literal("CLOSE", "*/"),
-            modes: &[1],
-            actions: &[ModeAction::Pop],
-        },
-        ModeRule {
-            rule: Rule::pattern("REST", "[a-z]").skipped(),
-            modes: &[1],
-            actions: &[],
-        },
-    ];
-    RuleLexer::from_rules(alloc, &rules, 2).expect(rt, "a lexer")
+pub(crate) const COMMENT_RULES: &[u8] =
+    b"NAME = /[a-z]+/\n[INITIAL COMMENT]\nOPEN push COMMENT = '/*'\n[COMMENT]\nCLOSE pop = '*/'\nREST skip = /[a-z]/";
+
+/// The lexer of a file of rules.
+pub(crate) fn lexer_of(alloc: Global, rules: &[u8]) -> Option<RuleLexer> {
+    match RuleLexer::from_file(alloc, rules) {
+        Ok(lexer) => Some(lexer),
+        Err(_) => None,
+    }
 }
 
 /// How cutting a text ends.
@@ -149,6 +116,10 @@ pub(crate) enum Ended {
         found: Found,
     },
     Unread,
+    // A write failed.
+    Unwritten,
+    // There was no memory.
+    Refused,
 }
 
 /// The text was cut to its end, and is in order.
@@ -163,99 +134,60 @@ pub(crate) const FAULTY: Ended = Ended::Whole {
     inside: None,
 };
 
-fn ended_so(end: &CutEnd) -> Ended {
+fn end_of(end: &Result<CutEnd, RunError>) -> Ended {
     match end {
-        CutEnd::Whole { has_fault, inside } => Ended::Whole {
+        Ok(CutEnd::Whole { has_fault, inside }) => Ended::Whole {
             has_fault: *has_fault,
             inside: *inside,
         },
-        CutEnd::Stopped { place, found } => Ended::Stopped {
+        Ok(CutEnd::Stopped { place, found }) => Ended::Stopped {
             place: *place,
             found: *found,
         },
-        CutEnd::Unread => Ended::Unread,
+        Ok(CutEnd::Unread) => Ended::Unread,
+        Err(RunError::Write) => Ended::Unwritten,
+        Err(_) => Ended::Refused,
     }
 }
 
-/// Whether cutting ended so, and no call failed but those of the reader.
-pub(crate) fn is_end(found: &Result<CutEnd, RunError>, wanted: Ended) -> bool {
-    match found {
-        Ok(end) => ended_so(end) == wanted,
-        Err(_) => false,
-    }
-}
-
-/// Which lines are written.
-#[derive(Clone, Copy)]
-pub(crate) struct Lines {
-    form: LineForm,
-    recovers: bool,
-    file: Option<&'static str>,
-}
-
-/// What is written.
+/// What is written: lines, with those of faults too where they have a file; or a page.
 #[derive(Clone, Copy)]
 pub(crate) enum Shape {
-    Lines(Lines),
+    Lines(LineForm, Option<&'static str>),
     Page(Markup),
 }
 
 /// Plain lines, up to the first fault.
-pub(crate) const PLAIN: Lines = Lines {
-    form: LineForm::Plain,
-    recovers: false,
-    file: None,
-};
+pub(crate) const PLAIN: Shape = Shape::Lines(LineForm::Plain, None);
 
 /// Plain lines of a file, and of its faults too.
-pub(crate) const RECOVERING: Lines = Lines {
-    form: LineForm::Plain,
-    recovers: true,
-    file: Some("f"),
-};
+pub(crate) const RECOVERING: Shape = Shape::Lines(LineForm::Plain, Some("f"));
 
 /// Lines of JSON, up to the first fault.
-pub(crate) const JSON: Lines = Lines {
-    form: LineForm::Json,
-    recovers: false,
-    file: None,
-};
+pub(crate) const JSON: Shape = Shape::Lines(LineForm::Json, None);
 
 /// Lines of JSON of a file, and of its faults too.
-pub(crate) const RECOVERING_JSON: Lines = Lines {
-    form: LineForm::Json,
-    recovers: true,
-    file: Some("\"f\""),
-};
+pub(crate) const RECOVERING_JSON: Shape = Shape::Lines(LineForm::Json, Some("\"f\""));
 
-/// The lines of what is read, by rules whose modes have no names.
-pub(crate) fn write_lines<S: Source, O: Sink>(
+// The lines or the page of what is read, by rules whose modes have no names.
+fn write_shape<S: Source, O: Sink>(
     alloc: Global,
     lexer: &RuleLexer,
-    lines: Lines,
+    shape: Shape,
     reader: &mut Reader<S>,
     console: &mut Console<O, Vec<u8>>,
-) -> Result<CutEnd, RunError> {
-    let layout = Layout {
-        form: lines.form,
-        recovers: lines.recovers,
-        file: lines.file,
-        modes: &[],
-    };
-    write_items(alloc, lexer, &layout, reader, console)
-}
-
-/// The lines or the page of what is read.
-pub(crate) fn write_shape<S: Source, O: Sink>(
-    alloc: Global,
-    lexer: &RuleLexer,
-    shape: &Shape,
-    reader: &mut Reader<S>,
-    console: &mut Console<O, Vec<u8>>,
-) -> Result<CutEnd, RunError> {
+) -> Ended {
     match shape {
-        Shape::Lines(lines) => write_lines(alloc, lexer, *lines, reader, console),
-        Shape::Page(markup) => write_page(alloc, lexer, *markup, reader, console),
+        Shape::Lines(form, file) => {
+            let layout = Layout {
+                form,
+                recovers: file.is_some(),
+                file,
+                modes: &[],
+            };
+            end_of(&write_items(alloc, lexer, &layout, reader, console))
+        }
+        Shape::Page(markup) => end_of(&write_page(alloc, lexer, markup, reader, console)),
     }
 }
 
@@ -263,12 +195,12 @@ pub(crate) fn write_shape<S: Source, O: Sink>(
 #[derive(Drop)]
 pub(crate) struct Answer {
     pub(crate) written: Vec<u8>,
-    pub(crate) end: Result<CutEnd, RunError>,
+    pub(crate) end: Ended,
     pub(crate) calls: usize,
 }
 
 /// Cuts what a reader gives.
-pub(crate) fn cut(alloc: Global, lexer: &RuleLexer, shape: &Shape, reader: Fed<'_>) -> Answer {
+pub(crate) fn cut(alloc: Global, lexer: &RuleLexer, shape: Shape, reader: Fed<'_>) -> Answer {
     let mut reader = Reader::new(System(reader));
     let mut console = Console::new(Vec::new(alloc), Vec::new(alloc));
     let end = write_shape(alloc, lexer, shape, &mut reader, &mut console);
@@ -281,93 +213,34 @@ pub(crate) fn cut(alloc: Global, lexer: &RuleLexer, shape: &Shape, reader: Fed<'
     }
 }
 
-/// A text, what is written for it, and how cutting ends.
+/// A writer that fails once it has these bytes, or finds no room after them.
 #[derive(Clone, Copy)]
-pub(crate) struct Job {
-    pub(crate) shape: Shape,
-    pub(crate) text: &'static str,
+pub(crate) struct Room {
     pub(crate) written: &'static [u8],
-    pub(crate) end: Ended,
+    pub(crate) failure: Option<io::ErrorKind>,
 }
 
-/// By the rules of `lexer_of_rules`.
-pub(crate) const JOBS: [Job; 12] = [
-    Job {
-        shape: Shape::Lines(PLAIN),
-        text: "if\n iffy",
-        written: b"1:1 IF \"if\"\n2:2 NAME \"iffy\"\n",
-        end: CLEAN,
-    },
-    Job {
-        shape: Shape::Lines(PLAIN),
-        text: "a 1 b",
-        written: b"1:1 NAME \"a\"\n",
-        end: Ended::Stopped {
-            place: Position { line: 1, column: 3 },
-            found: Found::Character('1'),
-        },
-    },
-    Job {
-        shape: Shape::Lines(RECOVERING),
-        text: "é1 b\"",
-        written: b"f:1:1 ! \"\xc3\xa91\"\nf:1:4 NAME \"b\"\nf:1:5 ! \"\\\"\"\n",
-        end: FAULTY,
-    },
-    Job {
-        shape: Shape::Lines(JSON),
-        text: " a",
-        written: b"{\"line\":1,\"column\":2,\"start\":1,\"end\":2,\"rule\":\"NAME\",\"text\":\"a\"}\n",
-        end: CLEAN,
-    },
-    Job {
-        shape: Shape::Lines(JSON),
-        text: "!",
-        written: b"",
-        end: Ended::Stopped {
-            place: Position { line: 1, column: 1 },
-            found: Found::Character('!'),
-        },
-    },
-    Job {
-        shape: Shape::Lines(RECOVERING_JSON),
-        text: "\n\"\x01",
-        written: b"{\"file\":\"\\\"f\\\"\",\"line\":2,\"column\":1,\"start\":1,\"end\":3,\"rule\":null,\"text\":\"\\\"\\u0001\"}\n",
-        end: FAULTY,
-    },
-    Job {
-        shape: Shape::Lines(RECOVERING),
-        text: "",
-        written: b"",
-        end: CLEAN,
-    },
-    Job {
-        shape: Shape::Page(Markup::Html),
-        text: "if\n a",
-        written: b"<span class=\"IF\">if</span>\n <span class=\"NAME\">a</span>",
-        end: CLEAN,
-    },
-    Job {
-        shape: Shape::Page(Markup::Html),
-        text: "a <\"b>",
-        written: b"<span class=\"NAME\">a</span> <mark>&lt;&quot;</mark><span class=\"NAME\">b</span><mark>&gt;</mark>",
-        end: FAULTY,
-    },
-    Job {
-        shape: Shape::Page(Markup::Ansi),
-        text: "if\n a",
-        written: b"\x1b[31mif\x1b[0m\n \x1b[32ma\x1b[0m",
-        end: CLEAN,
-    },
-    Job {
-        shape: Shape::Page(Markup::Ansi),
-        text: "\x1b1a2",
-        written: b"\x1b[41m\x1b[7m^[\x1b[27m1\x1b[0m\x1b[32ma\x1b[0m\x1b[41m2\x1b[0m",
-        end: FAULTY,
-    },
-    Job {
-        shape: Shape::Page(Markup::Html),
-        text: "",
-        written: b"",
-        end: CLEAN,
-    },
-];
+/// How often the reader is called, if the writer gets these bytes, fails, isn't called again, and the failure is told.
+pub(crate) fn reads_until_full(
+    alloc: Global,
+    lexer: &RuleLexer,
+    shape: Shape,
+    reader: Fed<'_>,
+    room: Room,
+) -> Option<usize> {
+    let mut reader = Reader::new(System(reader));
+    let writer = Full {
+        taken: Vec::new(alloc),
+        room: room.written.len(),
+        failure: room.failure,
+        calls: 0,
+    };
+    let mut console = Console::new(System(writer), Vec::new(alloc));
+    let end = write_shape(alloc, lexer, shape, &mut reader, &mut console);
+    let (System(writer), _) = console.into_sinks();
+    let System(source) = reader.into_source();
+    let stops = end == Ended::Unwritten
+        && writer.taken.as_slice() == room.written
+        && writer.calls == room.written.len().saturating_add(1);
+    if stops { Some(source.calls) } else { None }
+}
