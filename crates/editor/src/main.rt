@@ -151,29 +151,50 @@ fn check_chunks(alloc: Global, text: &Document<'_>) -> Result<()> {
     Ok(())
 }
 
+// The text of a file.
+fn read(rt: &HostRuntime, name: &str) -> Result<String> {
+    fs::read_to_string(rt, name).context(format_args!("{name:?}"))
+}
+
+// The lexer of a file of rules.
+fn lexer_of(rt: &HostRuntime, name: &str) -> Result<RuleLexer> {
+    let rules = read(rt, name)?;
+    let made = RuleLexer::from_file(rt.alloc(), rules.as_bytes());
+    made.context(format_args!("{name:?}"))
+}
+
+// Does the edit of a line, and shows it.
+fn apply(
+    rt: &impl Print,
+    alloc: Global,
+    text: &mut Document<'_>,
+    line: &str,
+    is_checked: bool,
+) -> Result<()> {
+    let edit = edit_of(alloc, text, line)?;
+    let change = text.edit(alloc, edit.range, &edit.new)?;
+    if is_checked {
+        check(alloc, text)?;
+        check_chunks(alloc, text)?;
+    }
+    show(rt, alloc, text, &change)
+}
+
 /// Reads the files, and does the edits.
 fn main(rt: HostRuntime) -> Result<()> {
     let alloc = rt.alloc();
     let mut words = env::args(&rt)?;
     // The first word is the name of the program.
     words.next();
-    let (Some(rules_name), Some(text_name)) = (words.next(), words.next()) else {
+    let (Some(rules), Some(start)) = (words.next(), words.next()) else {
         bail!("usage: editor RULES TEXT [--check] < EDITS");
     };
     let is_checked = words.next().is_some_and(|word| word.as_str() == "--check");
-    let bytes = fs::read_to_string(&rt, &rules_name).context(format_args!("{rules_name:?}"))?;
-    let made = RuleLexer::from_file(alloc, bytes.as_bytes());
-    let lexer = made.context(format_args!("{rules_name:?}"))?;
-    let start = fs::read_to_string(&rt, &text_name).context(format_args!("{text_name:?}"))?;
+    let lexer = lexer_of(&rt, &rules)?;
+    let start = read(&rt, &start)?;
     let mut text = Document::new(alloc, &lexer, &start)?;
     for line in io::read_to_string(alloc, rt.reader())?.lines() {
-        let edit = edit_of(alloc, &text, line)?;
-        let change = text.edit(alloc, edit.range, &edit.new)?;
-        if is_checked {
-            check(alloc, &text)?;
-            check_chunks(alloc, &text)?;
-        }
-        show(&rt, alloc, &text, &change)?;
+        apply(&rt, alloc, &mut text, line, is_checked)?;
     }
     Ok(())
 }

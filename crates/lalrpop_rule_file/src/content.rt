@@ -14,7 +14,7 @@ use bajofeki_rules::Position;
 use std::alloc::Global;
 
 /// What a line of a file says, and its text without the carriage return at its end.
-#[derive(Debug, Drop)]
+#[derive(Drop)]
 pub(crate) struct FileLine<'text> {
     pub content: &'text str,
     pub said: Said<'text>,

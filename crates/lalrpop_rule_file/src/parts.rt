@@ -93,7 +93,7 @@ fn part_line<'text>(number: usize, content: &'text str, part: &LinePart<'text>) 
 }
 
 /// The parts of a file, and how they are written, in the order of their lines.
-#[derive(Debug, Drop)]
+#[derive(Drop)]
 pub(crate) struct FileParts<'text> {
     pub(crate) parts: Vec<Part>,
     pub(crate) lines: Vec<PartLine<'text>>,

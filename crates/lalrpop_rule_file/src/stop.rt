@@ -6,14 +6,14 @@ use crate::error::LineFault;
 use std::alloc::{AllocError, AllocFailed};
 
 /// Where a line stops being a section or a rule: before `rest`, with which it ends.
-#[derive(Clone, Copy, Debug)]
+#[derive(Clone, Copy)]
 pub(crate) struct Stop<'text> {
     pub fault: LineFault,
     pub rest: &'text str,
 }
 
 /// Why a line isn't read: it stops being a section or a rule, or a request for memory was refused.
-#[derive(Debug, Drop)]
+#[derive(Drop)]
 pub(crate) enum Unread<'text> {
     Stopped(Stop<'text>),
     OutOfMemory,

@@ -1,7 +1,7 @@
 //! What stands in a line, as it is written.
 
 /// The word that the name of a mode follows.
-#[derive(Clone, Copy, Debug, PartialEq, Eq)]
+#[derive(Clone, Copy, PartialEq, Eq)]
 pub(crate) enum Entry {
     /// `mode`
     Mode,
@@ -10,7 +10,7 @@ pub(crate) enum Entry {
 }
 
 /// An action.
-#[derive(Clone, Copy, Debug)]
+#[derive(Clone, Copy)]
 pub(crate) enum WrittenAction<'text> {
     /// It leads into the mode with this name. `here` is the line from the name on.
     Enter {
@@ -23,14 +23,14 @@ pub(crate) enum WrittenAction<'text> {
 }
 
 /// The name with which a line begins. `here` is the line from the name on.
-#[derive(Clone, Copy, Debug)]
+#[derive(Clone, Copy)]
 pub(crate) struct LineName<'text> {
     pub name: &'text str,
     pub here: &'text str,
 }
 
 /// What stands left of the `=` of a rule.
-#[derive(Debug, Drop)]
+#[derive(Drop)]
 pub(crate) struct LineHead<'text> {
     pub name: &'text str,
     pub is_skipped: bool,
@@ -38,7 +38,7 @@ pub(crate) struct LineHead<'text> {
 }
 
 /// What stands between delimiters.
-#[derive(Clone, Copy, Debug)]
+#[derive(Clone, Copy)]
 pub(crate) enum Form {
     /// `'LITERAL'`
     Literal,
@@ -49,7 +49,7 @@ pub(crate) enum Form {
 }
 
 /// The text of a rule, without its delimiters.
-#[derive(Clone, Copy, Debug)]
+#[derive(Clone, Copy)]
 pub(crate) enum WrittenText<'text> {
     /// `'LITERAL'`, `"LITERAL"` or `/PATTERN/`
     Quoted(Form, &'text str),
@@ -60,14 +60,14 @@ pub(crate) enum WrittenText<'text> {
 }
 
 /// The text of a rule, and the line from where it begins, after the first delimiter.
-#[derive(Clone, Copy, Debug)]
+#[derive(Clone, Copy)]
 pub(crate) struct LineText<'text> {
     pub text: WrittenText<'text>,
     pub here: &'text str,
 }
 
 /// A rule.
-#[derive(Debug, Drop)]
+#[derive(Drop)]
 pub(crate) struct LineRule<'text> {
     pub head: LineHead<'text>,
     pub precedence: usize,
@@ -75,7 +75,7 @@ pub(crate) struct LineRule<'text> {
 }
 
 /// A part: its name, its pattern, and the line from where the pattern begins, after its first slash.
-#[derive(Clone, Copy, Debug)]
+#[derive(Clone, Copy)]
 pub(crate) struct LinePart<'text> {
     pub name: LineName<'text>,
     pub pattern: &'text str,
@@ -83,7 +83,7 @@ pub(crate) struct LinePart<'text> {
 }
 
 /// The modes of a section.
-#[derive(Debug, Drop)]
+#[derive(Drop)]
 pub(crate) enum Section<'text> {
     /// The modes with these names.
     These(Vec<&'text str>),
@@ -92,7 +92,7 @@ pub(crate) enum Section<'text> {
 }
 
 /// What a line says.
-#[derive(Debug, Drop)]
+#[derive(Drop)]
 pub(crate) enum Said<'text> {
     /// It is blank or a comment.
     Nothing,
