@@ -22,7 +22,7 @@ use crate::error::EditError;
 use crate::kept::Kept;
 use crate::meet::{Cut, Edit, Old, Spot, cut_to_meet};
 use crate::place::{Place, pass};
-use lalrpop_nfa::Steps;
+use lalrpop_hir::Steps;
 use lalrpop_rules::{ModeStack, RuleLexer};
 use std::alloc::{AllocError, Global};
 

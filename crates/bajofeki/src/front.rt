@@ -17,8 +17,8 @@ use crate::memo::Memo;
 use crate::run::longest_settled;
 use crate::walker::Walker;
 use lalrpop_dfa::NfaIndex;
+use lalrpop_hir::Steps;
 use lalrpop_lexer::Lexer;
-use lalrpop_nfa::Steps;
 
 // The piece at the front of a text: its rule, none in a fault; how many bytes it has; and how many bytes from its beginning on
 // it depends on.

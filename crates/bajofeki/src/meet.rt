@@ -16,7 +16,7 @@ use crate::cutter::Cutter;
 use crate::error::EditError;
 use crate::kept::Kept;
 use crate::place::{Place, cut_piece, pass};
-use lalrpop_nfa::Steps;
+use lalrpop_hir::Steps;
 use lalrpop_rules::RuleLexer;
 use std::alloc::AllocError;
 

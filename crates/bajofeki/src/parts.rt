@@ -14,9 +14,9 @@ use crate::front::front_piece;
 use crate::memo::Memo;
 use crate::text_front::front_of;
 use crate::walker::Walker;
+use lalrpop_hir::Steps;
 use lalrpop_lexer::Lexer;
 use lalrpop_lexer::lexer::dfa::NfaIndex;
-use lalrpop_nfa::Steps;
 use lalrpop_rules::RuleLexer;
 use std::alloc::Global;
 

@@ -13,7 +13,7 @@ use crate::error::EditError;
 use crate::front::{front_piece, kept_of};
 use crate::kept::{FAULT, Kept};
 use lalrpop_dfa::NfaIndex;
-use lalrpop_nfa::Steps;
+use lalrpop_hir::Steps;
 use lalrpop_rules::{ModeStack, RuleLexer};
 use std::alloc::AllocError;
 

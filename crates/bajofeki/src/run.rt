@@ -19,7 +19,7 @@ ghost use Rattle.bajofeki.specs.Internal.Paying.{AreDistinct, AreUnknown, IsNew,
 use crate::memo::{Memo, STRIDE};
 use crate::walker::Walker;
 use lalrpop_dfa::{Kind, NfaIndex};
-use lalrpop_nfa::Steps;
+use lalrpop_hir::Steps;
 
 /// The longest match at the front of a text.
 #[derive(Clone, Copy, Debug)]

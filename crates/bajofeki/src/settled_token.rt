@@ -15,8 +15,8 @@ ghost use Rattle.bajofeki.specs.Internal.Walking.{IsRight, IsWalkerOf};
 use crate::memo::Memo;
 use crate::run::{Settled, longest_settled};
 use crate::walker::Walker;
+use lalrpop_hir::Steps;
 use lalrpop_lexer::{Lexer, Token};
-use lalrpop_nfa::Steps;
 use std::alloc::Global;
 
 /// The token at the front of a text, and how far the run that found it looked.

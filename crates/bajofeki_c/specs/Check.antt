@@ -3,11 +3,11 @@
 use Rattle.std.specs.Prelude.{◌≡◌, ◌⊎◌, ◌++◌, ℕ, Bool, true, false, List, length}
 use Rattle.std.specs.Str.{IsUtf8}
 use Rattle.reports_lib.specs.Answer.{Answer}
-use Rattle.reports_lib.specs.declared.layout.LineForm.{LineForm}
-use Rattle.reports_lib.specs.declared.layout.LineForm.TheVariants.{Plain, Json}
-use Rattle.tokens_lib.specs.Checked.{CheckAnswer, finding}
-use Rattle.tokens_lib.specs.NamedRules.{RulesTold}
-use Rattle.tokens_lib.specs.declared.command.Verbosity.TheVariants.{Warnings}
+use Rattle.lexdfa_lib.specs.declared.layout.LineForm.{LineForm}
+use Rattle.lexdfa_lib.specs.declared.layout.LineForm.TheVariants.{Plain, Json}
+use Rattle.reviews_lib.specs.Checked.{CheckAnswer, finding}
+use Rattle.reports_lib.specs.NamedRules.{RulesTold}
+use Rattle.lexdfa_lib.specs.declared.command.Verbosity.TheVariants.{Warnings}
 use Rattle.bajofeki_c.specs.Rules.{IsWritten}
 use Rattle.bajofeki_c.specs.declared.check.Checked.{Checked}
 

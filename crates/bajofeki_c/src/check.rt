@@ -3,9 +3,9 @@ ghost use Rattle.std.specs.Prelude.{◌≡◌, ◌++◌, IfOk, OnErr};
 ghost use Rattle.bajofeki_c.specs.Check.{IsChecked, IsFound, form_of};
 
 use crate::rules::write_to;
+use reviews_lib::{LineForm, Reply, check_answer};
 use std::alloc::{AllocError, Global};
 use std::str;
-use tokens_lib::{LineForm, Reply, check_answer};
 
 /// What a check of rules writes: a line for each thing that was found and for each automaton, and then what is said: why there are no
 /// rules, or, unless lines are JSON, the warnings.

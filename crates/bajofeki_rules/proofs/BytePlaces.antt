@@ -11,10 +11,10 @@ use Rattle.std.proofs.lemmas.Str.{chars_from_encodes, IsUtf8-take}
 use Rattle.bajofeki_rules.specs.Position.{byte_place, byte_place_of, is_line_feed, moved, place_behind, position_of}
 use Rattle.bajofeki_rules.specs.declared.position.Position.{Position}
 use Rattle.bajofeki_rules.specs.Internal.Places.{next_place, place_after_byte}
-use Rattle.bajofeki_rules.specs.Starts.{is_start}
+use Rattle.lalrpop_hir.specs.Starts.{is_start}
 use Rattle.bajofeki_rules.proofs.Places.{count_by-push, length-after_last, place_more, same_place, suffix_len-push}
 use Rattle.bajofeki_rules.proofs.PlaceLaws.{at, moved_step}
-use Rattle.bajofeki_rules.proofs.StartLaws.{begins, begins_low, encode_one, encode_two, encode_three, encode_four, follows}
+use Rattle.lalrpop_hir.proofs.StartLaws.{begins, begins_low, encode_one, encode_two, encode_three, encode_four, follows}
 
 -- ---- one byte further
 

@@ -2,7 +2,7 @@ mod Cases
 -- places
 pub mod Places
 pub mod InLine
-pub mod StartLaws
+pub use Rattle.lalrpop_hir.proofs.StartLaws
 pub mod PlaceLaws
 pub mod BytePlaces
 -- lines

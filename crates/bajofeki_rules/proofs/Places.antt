@@ -4,10 +4,11 @@ use Rattle.std.specs.Prelude.{not}
 use Rattle.std.specs.List.{count_by, after_last, prefix_len, suffix_len}
 use Rattle.std.specs.Str.{chars, IsUtf8, IsCharBoundary}
 use Rattle.std.specs.Char.{encode_utf8}
-use Rattle.std.proofs.lemmas.Str.{IsUtf8-take, IsUtf8-past_char, chars-append, chars-nil, chars_past_char, encodes-chars, length-le-encodes}
+use Rattle.std.proofs.lemmas.Str.{IsUtf8-take, IsUtf8-past_char, chars-append, chars-nil, chars_past_char}
 use Rattle.std.proofs.Math.Seq.{take-add}
 use Rattle.std.proofs.lemmas.List.{reverse-append, nil_from_length}
 use Rattle.std.proofs.lemmas.List.Sums.{suffix_len-le-length, count_by-le-length, sum_by-append}
+pub use Rattle.lalrpop_hir.proofs.StartLaws.{few_chars}
 use Rattle.bajofeki_rules.specs.Position.{is_line_feed, place_behind, position_of}
 use Rattle.bajofeki_rules.specs.Internal.Places.{next_place}
 use Rattle.bajofeki_rules.specs.declared.position.Position.{Position}
@@ -91,10 +92,6 @@ walk_more text i j read left after p q c w e next =
           w.whole ∙ ap (λ cs. (seen ++ read) ++ cs) (chars_past_char left after c w.utf8 e)
           ∙ sym (append_assoc (seen ++ read) (c ∷ []) (chars after)) ∙ ap (λ cs. cs ++ chars after) onto;
     }
-
--- a text has no more characters than bytes
-pub few_chars : (text : List ℕ) → IsUtf8 text → length (chars text) ≤ length text
-few_chars text u = omega (arith, length-le-encodes (chars text), ap length (encodes-chars text u))
 
 -- both numbers are at most one more than the length of the text
 pub walk_room : (text : List ℕ) (i j : ℕ) (read left : List ℕ) (p : Position) → IsUtf8 text → IsCharBoundary text j → IsWalk text i j read left p

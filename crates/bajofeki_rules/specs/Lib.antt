@@ -4,7 +4,7 @@ pub mod Precedence
 pub mod Stack
 pub mod EnteredModes
 -- texts: characters, lines, places, and how a slice is shown
-pub mod Starts
+pub use Rattle.lalrpop_hir.specs.Starts
 pub mod Lines
 pub mod Position
 pub mod Quoted

@@ -3,7 +3,7 @@
 use Rattle.std.specs.Prelude.{◌≡◌, ℕ, ◌+◌, ◌-◌, ◌<◌, ◌^◌, ◌⊎◌, Bool, ◌==◌, if◌then◌else◌, List, length, take}
 use Rattle.std.specs.List.{count_by, after_last}
 use Rattle.std.specs.Str.{chars}
-use Rattle.bajofeki_rules.specs.Starts.{is_start}
+use Rattle.lalrpop_hir.specs.Starts.{is_start}
 use Rattle.bajofeki_rules.specs.declared.position.Position.{Position}
 
 abbrev pub is_line_feed : ℕ → Bool

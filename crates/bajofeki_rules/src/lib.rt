@@ -4,7 +4,6 @@
 #![tactic(auto)]
 
 mod action;
-mod characters;
 mod entered;
 mod lines;
 mod mode_rule;
@@ -15,8 +14,8 @@ mod rule_text;
 mod runs;
 
 pub use action::Action;
-pub use characters::char_count;
 pub use entered::entered_modes;
+pub use lalrpop_hir::char_count;
 pub use lines::split_line;
 pub use mode_rule::ModeRule;
 pub use position::{Position, Positions};

@@ -6,8 +6,8 @@ ghost use Rattle.bajofeki_rules.specs.Position.{Fits, byte_place, moved, place_a
 ghost use Rattle.bajofeki_rules.specs.Internal.ByteRuns.{IsInLine};
 ghost use Rattle.bajofeki_rules.specs.Internal.Places.{next_place, place_after_byte};
 
-use crate::characters::is_start;
 use crate::runs::{LANES, line_run};
+use lalrpop_hir::is_start;
 use std::marker::Model;
 
 /// A place in a text: its line and its column, both from 1. A line feed ends its line.

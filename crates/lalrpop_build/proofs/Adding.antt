@@ -12,13 +12,12 @@ use Rattle.std.proofs.lemmas.Map.Keys.{any_passes_from_place}
 use Rattle.std.proofs.lemmas.Map.Lookups.{CmpEqualImpliesEq}
 use Rattle.std.proofs.lemmas.Option.{slice_get_within}
 use Rattle.lalrpop_nfa.specs.Graph.{Graph}
-use Rattle.lalrpop_dfa.specs.Automata.{Item}
+use Rattle.lalrpop_dfa.specs.Ascending.{Item, item_cmp}
 use Rattle.lalrpop_dfa.specs.Kernels.{Kernels, IsNumberOf, added}
 use Rattle.lalrpop_hir.proofs.Pushed.{pushed_cases, pushed_keeps, pushed_last}
-use Rattle.lalrpop_nfa.specs.Compiled.{start_state}
+use Rattle.lalrpop_hir.specs.States.{start_state}
 use Rattle.lalrpop_build.specs.Internal.Subsets.{starts_from, no_graph}
 use Rattle.std.specs.Cmp.Lexicographic.{slice_cmp}
-use Rattle.lalrpop_dfa.specs.Ascending.{item_cmp}
 use Rattle.lalrpop_build.specs.Internal.Transitions.{transition_cmp}
 use Rattle.lalrpop_build.specs.Internal.ClassTransitions.{transitions_cmp}
 use Rattle.lalrpop_build.specs.declared.transitions.Transition.{Transition}

@@ -9,8 +9,8 @@ use Rattle.lalrpop_hir.specs.Tree.{Tree}
 use Rattle.lalrpop_nfa.specs.Graph.{Graph}
 use Rattle.lalrpop_hir.specs.Clash.{NoClash}
 use Rattle.lalrpop_hir.specs.Clashes.{Entry, AreTied, AreClashes}
-use Rattle.lalrpop_dfa.specs.Automata.{Item, AreCompiled}
-use Rattle.lalrpop_dfa.specs.Ascending.{AreAscendingItems}
+use Rattle.lalrpop_nfa.specs.Automata.{AreCompiled}
+use Rattle.lalrpop_dfa.specs.Ascending.{Item, AreAscendingItems}
 use Rattle.lalrpop_build.specs.Internal.Given.{AreItemsOf}
 use Rattle.lalrpop_build.proofs.Builds.{nth_holds}
 use Rattle.lalrpop_dfa.specs.Dfa.{Row}

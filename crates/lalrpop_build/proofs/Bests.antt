@@ -11,10 +11,9 @@ use Rattle.std.proofs.lemmas.List.{take_more, take_all, length-take-le, get_or-t
 use Rattle.std.proofs.lemmas.List.Elements.{Contains-append_left, Contains-push, Contains-push_cases}
 use Rattle.std.proofs.lemmas.Map.Keys.{Less-from_sorted}
 use Rattle.lalrpop_nfa.specs.Graph.{Graph}
-use Rattle.lalrpop_dfa.specs.Automata.{Item}
-use Rattle.lalrpop_dfa.specs.Ascending.{item_cmp, AreAscendingItems}
+use Rattle.lalrpop_dfa.specs.Ascending.{Item, item_cmp, AreAscendingItems}
 use Rattle.lalrpop_build.specs.Internal.Given.{IsItemOf, AreAutomata, AreItemsOf}
-use Rattle.lalrpop_nfa.specs.Compiled.{accept_state}
+use Rattle.lalrpop_hir.specs.States.{accept_state}
 use Rattle.lalrpop_build.specs.Internal.Subsets.{is_dead}
 use Rattle.lalrpop_build.specs.Internal.Best.{accepts, accepts_with, IsStrong, IsBestOf, IsBest, raised}
 use Rattle.std.proofs.lemmas.Option.{slice_get_within, slice_get-get_or, get_or_from_slice_get}

@@ -14,7 +14,7 @@ use Rattle.lalrpop_nfa.proofs.Cells.{BlocksBelow, IsBoundary, parts_none, parts_
 use Rattle.lalrpop_nfa.proofs.Partition.{IsPartition-from_parts}
 use Rattle.lalrpop_build.specs.Internal.Alphabet.{AreCells, IsInCell, IsFirstOf}
 use Rattle.lalrpop_build.specs.declared.alphabet.Cell.{Cell}
-use Rattle.lalrpop_dfa.specs.Automata.{Item}
+use Rattle.lalrpop_dfa.specs.Ascending.{Item}
 use Rattle.lalrpop_build.specs.Items.{IsLeaving}
 use Rattle.lalrpop_build.specs.Internal.Scratch.{IsTaken, AreTaken}
 use Rattle.lalrpop_build.specs.Internal.ClassTransitions.{AreBelow, IsLaidOut}

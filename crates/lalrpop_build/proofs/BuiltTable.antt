@@ -9,9 +9,9 @@ use Rattle.lalrpop_nfa.specs.Graph.{Graph}
 use Rattle.lalrpop_nfa.specs.Partition.{IsCovered, AreAscending, IsPartition}
 use Rattle.lalrpop_hir.specs.Clash.{NoClash}
 use Rattle.lalrpop_dfa.specs.Dfa.{Row, edge_target, step, run, after as state_after, IsRightKind, IsReject, RecognizesAll, AreAscendingTests, IsWellFormed}
-use Rattle.lalrpop_dfa.specs.Automata.{Item, AreCompiled}
+use Rattle.lalrpop_nfa.specs.Automata.{AreCompiled}
+use Rattle.lalrpop_dfa.specs.Ascending.{Item, AreAscendingItems}
 use Rattle.lalrpop_build.specs.Items.{IsReached, IsLeaving, HoldsItems, OthersReject, IsInWordOrder}
-use Rattle.lalrpop_dfa.specs.Ascending.{AreAscendingItems}
 use Rattle.lalrpop_build.specs.Internal.Subsets.{first_set_of, move, is_dead}
 use Rattle.lalrpop_build.specs.Internal.BreadthFirst.{IsBreadthFirst, nth, value_of, after, word}
 use Rattle.lalrpop_build.specs.Internal.Built.{subset_automaton, IsKindOf, IsRowOf}

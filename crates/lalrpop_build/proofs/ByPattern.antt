@@ -7,8 +7,7 @@ use Rattle.std.proofs.lemmas.Bool.{cases_lt}
 use Rattle.std.proofs.lemmas.Bool.Decides.{nat_tests}
 use Rattle.std.proofs.lemmas.Option.{slice_get_within}
 use Rattle.lalrpop_nfa.specs.Graph.{Graph}
-use Rattle.lalrpop_dfa.specs.Automata.{Item}
-use Rattle.lalrpop_dfa.specs.Ascending.{item_cmp, AreByPattern}
+use Rattle.lalrpop_dfa.specs.Ascending.{Item, item_cmp, AreByPattern}
 use Rattle.lalrpop_dfa.proofs.FullSets.{less_place}
 use Rattle.lalrpop_build.specs.Internal.Given.{AreItemsOf}
 use Rattle.lalrpop_build.specs.Internal.Subsets.{closed, starts_from}

@@ -6,7 +6,7 @@ use Rattle.lalrpop_hir.specs.Tree.{Tree}
 use Rattle.lalrpop_nfa.specs.Graph.{Graph}
 use Rattle.lalrpop_hir.specs.Fault.{fault}
 use Rattle.lalrpop_nfa.specs.Compiled.{IsCompiled}
-use Rattle.lalrpop_dfa.specs.Automata.{AreCompiled}
+use Rattle.lalrpop_nfa.specs.Automata.{AreCompiled}
 use Rattle.lalrpop_hir.specs.Report.{NoFault, IsFaultOf}
 use Rattle.lalrpop_build.specs.Internal.Given.{AreFixed}
 use Rattle.lalrpop_build.specs.Internal.Expansion.{IsRefusalOf, NoFaultBefore, IsCompiledAt}

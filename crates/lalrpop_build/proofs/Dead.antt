@@ -6,9 +6,11 @@ use Rattle.lalrpop_hir.specs.Tree.{Tree}
 use Rattle.lalrpop_nfa.specs.Graph.{Graph}
 use Rattle.lalrpop_nfa.specs.Path.{test, other}
 use Rattle.lalrpop_nfa.specs.Internal.Reads.{Reads}
-use Rattle.lalrpop_nfa.specs.Compiled.{IsCompiled, reject_state}
+use Rattle.lalrpop_hir.specs.States.{reject_state}
+use Rattle.lalrpop_nfa.specs.Compiled.{IsCompiled}
 use Rattle.lalrpop_nfa.specs.Partition.{IsCovered, Alike}
-use Rattle.lalrpop_dfa.specs.Automata.{Item, AreCompiled}
+use Rattle.lalrpop_nfa.specs.Automata.{AreCompiled}
+use Rattle.lalrpop_dfa.specs.Ascending.{Item}
 use Rattle.lalrpop_build.specs.Items.{IsLeaving}
 use Rattle.lalrpop_build.specs.Internal.Given.{AreAutomata}
 use Rattle.lalrpop_build.specs.Internal.Transitions.{AreTransitions}

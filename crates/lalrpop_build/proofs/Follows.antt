@@ -6,7 +6,7 @@ use Rattle.lalrpop_hir.specs.Tree.{Tree}
 use Rattle.lalrpop_nfa.specs.Graph.{Graph}
 use Rattle.lalrpop_nfa.specs.Path.{Path}
 use Rattle.lalrpop_nfa.specs.Compiled.{IsCompiled}
-use Rattle.lalrpop_dfa.specs.Automata.{Item}
+use Rattle.lalrpop_dfa.specs.Ascending.{Item}
 use Rattle.lalrpop_build.specs.Internal.Subsets.{graph_at, is_epsilon_path, follows_by_epsilon}
 use Rattle.lalrpop_build.proofs.Epsilon.{epsilon_path, path_epsilon}
 use Rattle.lalrpop_build.proofs.Targets.{graph_is}

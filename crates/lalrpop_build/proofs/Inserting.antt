@@ -6,8 +6,7 @@ use Rattle.std.specs.BTreeSet.{BTreeSet, contains, Updates, IsOrdered}
 use Rattle.std.proofs.lemmas.Map.Views.{btree_set_contains_iff}
 use Rattle.std.proofs.lemmas.List.Elements.{Contains-append_left, Contains-append_right, Contains-append_cases, Contains-push, Contains-push_cases}
 use Rattle.lalrpop_hir.proofs.Orders.{set_come, set_has, set_kept}
-use Rattle.lalrpop_dfa.specs.Automata.{Item}
-use Rattle.lalrpop_dfa.specs.Ascending.{item_cmp}
+use Rattle.lalrpop_dfa.specs.Ascending.{Item, item_cmp}
 use Rattle.lalrpop_dfa.specs.Internal.OrderLaws.{item_total}
 use Rattle.lalrpop_nfa.specs.Graph.{Graph}
 use Rattle.lalrpop_dfa.proofs.ItemTies.{item_exact}

@@ -10,7 +10,7 @@ use Rattle.lalrpop_build.specs.declared.alphabet.Group.{Group}
 use Rattle.lalrpop_build.specs.declared.alphabet.EdgeGroup.{EdgeGroup}
 use Rattle.lalrpop_build.specs.declared.alphabet.NfaEdgeGroups.{NfaEdgeGroups}
 use Rattle.lalrpop_build.specs.declared.alphabet.StateEdgeGroups.{StateEdgeGroups}
-use Rattle.lalrpop_dfa.specs.Automata.{Item}
+use Rattle.lalrpop_dfa.specs.Ascending.{Item}
 use Rattle.lalrpop_build.specs.Internal.ClassTransitions.{HaveNoEdges, Gained, AreGathered, AreBoundariesOf}
 use Rattle.lalrpop_build.specs.declared.transitions.Transition.{Transition}
 use Rattle.lalrpop_build.specs.declared.build.scratch.Transitions.{Transitions}

@@ -6,12 +6,11 @@ use Rattle.std.proofs.lemmas.List.Kept.{IsStrictlySortedBy-filter}
 use Rattle.lalrpop_hir.specs.Range.{Range}
 use Rattle.lalrpop_nfa.specs.Graph.{Graph}
 use Rattle.lalrpop_nfa.specs.Path.{test}
-use Rattle.lalrpop_nfa.specs.Compiled.{accept_state, reject_state}
+use Rattle.lalrpop_hir.specs.States.{accept_state, reject_state}
 use Rattle.lalrpop_nfa.specs.Partition.{IsPartition}
 use Rattle.lalrpop_nfa.proofs.BlockCover.{partition_like}
-use Rattle.lalrpop_dfa.specs.Automata.{Item}
+use Rattle.lalrpop_dfa.specs.Ascending.{Item, item_cmp, AreAscendingItems}
 use Rattle.lalrpop_build.specs.Internal.Given.{AreAutomata, IsItemOf, AreItemsOf}
-use Rattle.lalrpop_dfa.specs.Ascending.{item_cmp, AreAscendingItems}
 use Rattle.lalrpop_dfa.specs.LiveItems.{is_live, live_of}
 use Rattle.lalrpop_build.specs.Internal.Subsets.{is_dead}
 use Rattle.lalrpop_build.specs.Internal.Transitions.{AreTransitions}

@@ -13,9 +13,8 @@ use Rattle.lalrpop_nfa.specs.Graph.{Graph}
 use Rattle.lalrpop_nfa.specs.Path.{test, other}
 use Rattle.lalrpop_nfa.specs.Internal.Reads.{Reads}
 use Rattle.lalrpop_nfa.specs.Walk.{leaves}
-use Rattle.lalrpop_nfa.specs.Compiled.{reject_state}
-use Rattle.lalrpop_dfa.specs.Automata.{Item}
-use Rattle.lalrpop_dfa.specs.Ascending.{item_cmp, AreAscendingItems}
+use Rattle.lalrpop_hir.specs.States.{reject_state}
+use Rattle.lalrpop_dfa.specs.Ascending.{Item, item_cmp, AreAscendingItems}
 use Rattle.lalrpop_build.specs.Internal.Given.{IsItemOf, AreAutomata, AreItemsOf}
 use Rattle.lalrpop_dfa.specs.LiveItems.{is_live, live_of}
 use Rattle.lalrpop_dfa.specs.Split.{full, still_live, AreWithin, AreLivePatterns, IsSplit}

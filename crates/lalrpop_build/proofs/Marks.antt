@@ -6,8 +6,7 @@ use Rattle.std.proofs.Math.ListN.{set, replicate, drop_of_length-le}
 use Rattle.std.proofs.lemmas.Bool.{cases_Bool, cases_lt}
 use Rattle.std.proofs.lemmas.Bool.Decides.{nat_tests}
 use Rattle.std.proofs.lemmas.List.{get_or-set_same, get_or-set_other, get_or-replicate, get_or_past, get_or_default, length-replicate}
-use Rattle.lalrpop_dfa.specs.Automata.{Item}
-use Rattle.lalrpop_dfa.specs.Ascending.{item_cmp, AreAscendingItems}
+use Rattle.lalrpop_dfa.specs.Ascending.{Item, item_cmp, AreAscendingItems}
 use Rattle.lalrpop_build.specs.Internal.Worklist.{IsAdded, marked_from, marked}
 use Rattle.lalrpop_hir.proofs.Members.{Has, has_from, contains_from}
 use Rattle.lalrpop_hir.proofs.SortedLists.{sorted_nil, sorted_cons}

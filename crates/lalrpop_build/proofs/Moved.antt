@@ -5,8 +5,9 @@ use Rattle.lalrpop_hir.specs.Tree.{Tree}
 use Rattle.lalrpop_nfa.specs.Graph.{Graph}
 use Rattle.lalrpop_nfa.specs.Path.{Path, here, epsilon, read, otherwise, noop}
 use Rattle.lalrpop_nfa.specs.Internal.Reads.{Reads}
-use Rattle.lalrpop_nfa.specs.Compiled.{IsCompiled, reject_state}
-use Rattle.lalrpop_dfa.specs.Automata.{Item}
+use Rattle.lalrpop_hir.specs.States.{reject_state}
+use Rattle.lalrpop_nfa.specs.Compiled.{IsCompiled}
+use Rattle.lalrpop_dfa.specs.Ascending.{Item}
 use Rattle.lalrpop_build.specs.Internal.Given.{IsItemOf}
 use Rattle.lalrpop_build.specs.Internal.Subsets.{follows_by_epsilon, item_targets, move, is_dead}
 use Rattle.lalrpop_hir.proofs.Members.{Has, has_from, contains_from, all_has, all_from_has}

@@ -5,10 +5,11 @@ use Rattle.lalrpop_hir.specs.Tree.{Tree}
 use Rattle.lalrpop_nfa.specs.Graph.{Graph}
 use Rattle.lalrpop_nfa.specs.Path.{Path}
 use Rattle.lalrpop_nfa.specs.Internal.Reads.{Reads}
-use Rattle.lalrpop_nfa.specs.Compiled.{IsCompiled, start_state}
-use Rattle.lalrpop_dfa.specs.Automata.{Item, AreCompiled}
+use Rattle.lalrpop_hir.specs.States.{start_state}
+use Rattle.lalrpop_nfa.specs.Compiled.{IsCompiled}
+use Rattle.lalrpop_nfa.specs.Automata.{AreCompiled}
+use Rattle.lalrpop_dfa.specs.Ascending.{Item, AreAscendingItems}
 use Rattle.lalrpop_build.specs.Items.{IsReached}
-use Rattle.lalrpop_dfa.specs.Ascending.{AreAscendingItems}
 use Rattle.lalrpop_build.specs.Internal.Given.{IsItemOf}
 use Rattle.lalrpop_build.specs.Internal.Subsets.{follows_by_epsilon, item_targets, move, starts_from, first_set_of}
 use Rattle.lalrpop_build.specs.Internal.BreadthFirst.{after}

@@ -9,7 +9,8 @@ use Rattle.lalrpop_hir.specs.Tree.{Tree}
 use Rattle.lalrpop_nfa.specs.Graph.{Graph}
 use Rattle.lalrpop_nfa.specs.Partition.{AreAscending, IsPartition}
 use Rattle.lalrpop_nfa.proofs.PartitionUnique.{ascends_later}
-use Rattle.lalrpop_dfa.specs.Automata.{Item, AreCompiled}
+use Rattle.lalrpop_nfa.specs.Automata.{AreCompiled}
+use Rattle.lalrpop_dfa.specs.Ascending.{Item}
 use Rattle.lalrpop_build.specs.Items.{IsLeaving}
 use Rattle.lalrpop_build.specs.Internal.Subsets.{move, is_dead}
 use Rattle.lalrpop_build.specs.Internal.BreadthFirst.{Automaton, IsBreadthFirst, Added, nth}

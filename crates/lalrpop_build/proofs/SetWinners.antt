@@ -3,10 +3,12 @@ use Rattle.std.proofs.Common.{◌≡◌, ℕ, ◌↔◌, List, refl, ap, sym, su
 use Rattle.std.specs.List.{Contains, slice_get}
 use Rattle.lalrpop_hir.specs.Tree.{Tree}
 use Rattle.lalrpop_nfa.specs.Graph.{Graph}
-use Rattle.lalrpop_nfa.specs.Compiled.{IsCompiled, accept_state, reject_state}
+use Rattle.lalrpop_hir.specs.States.{accept_state, reject_state}
+use Rattle.lalrpop_nfa.specs.Compiled.{IsCompiled}
 use Rattle.lalrpop_hir.specs.Winners.{TreeMatches, IsStrongest, Ambiguous}
 use Rattle.lalrpop_dfa.specs.Dfa.{IsRightKind}
-use Rattle.lalrpop_dfa.specs.Automata.{Item, AreCompiled}
+use Rattle.lalrpop_nfa.specs.Automata.{AreCompiled}
+use Rattle.lalrpop_dfa.specs.Ascending.{Item}
 use Rattle.lalrpop_build.specs.Items.{IsReached}
 use Rattle.lalrpop_build.specs.Internal.Subsets.{first_set_of, is_dead}
 use Rattle.lalrpop_build.specs.Internal.BreadthFirst.{after}

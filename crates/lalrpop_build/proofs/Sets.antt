@@ -8,9 +8,8 @@ use Rattle.std.proofs.lemmas.Bool.{lt-ltb, le-ltb, eq-eqb, cases_lt}
 use Rattle.std.proofs.lemmas.Cmp.{nat_cmp_total, on_total, then_total}
 use Rattle.std.proofs.lemmas.List.Kept.{IsStrictlySortedBy-filter}
 use Rattle.lalrpop_nfa.specs.Graph.{Graph}
-use Rattle.lalrpop_dfa.specs.Automata.{Item}
+use Rattle.lalrpop_dfa.specs.Ascending.{Item, item_cmp, AreAscendingItems}
 use Rattle.lalrpop_dfa.proofs.FullSets.{less_place}
-use Rattle.lalrpop_dfa.specs.Ascending.{item_cmp, AreAscendingItems}
 use Rattle.lalrpop_build.specs.Internal.Given.{IsItemOf}
 use Rattle.lalrpop_build.specs.Internal.Subsets.{items_below, items_from, all_items, follows_by_epsilon, closed, item_targets, move, starts_from, first_set_of}
 use Rattle.lalrpop_hir.proofs.Members.{Has, has_from, contains_from, has_left, has_right, has_cases, has_filter, filter_has, any_from_has, has_from_any, has_flat_map, flat_map_has}

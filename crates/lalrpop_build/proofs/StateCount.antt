@@ -11,8 +11,8 @@ use Rattle.lalrpop_hir.specs.Tree.{Tree}
 use Rattle.lalrpop_hir.specs.Size.{size}
 use Rattle.lalrpop_nfa.specs.Graph.{Graph}
 use Rattle.lalrpop_nfa.specs.Compiled.{IsCompiled}
-use Rattle.lalrpop_dfa.specs.Automata.{Item, AreCompiled}
-use Rattle.lalrpop_dfa.specs.Ascending.{AreAscendingItems}
+use Rattle.lalrpop_nfa.specs.Automata.{AreCompiled}
+use Rattle.lalrpop_dfa.specs.Ascending.{Item, AreAscendingItems}
 use Rattle.lalrpop_build.specs.Internal.Given.{IsItemOf}
 use Rattle.lalrpop_build.specs.Internal.Subsets.{items_below, items_from, all_items, first_set_of}
 use Rattle.lalrpop_build.specs.Internal.BreadthFirst.{IsBreadthFirst, after, word}

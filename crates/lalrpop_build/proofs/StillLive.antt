@@ -8,9 +8,8 @@ use Rattle.std.specs.declared.cmp.Ordering.TheVariants.{Less}
 use Rattle.std.proofs.lemmas.Bool.{cases_lt}
 use Rattle.std.proofs.lemmas.Map.Keys.{Less-from_sorted, below_from_sorted}
 use Rattle.std.proofs.lemmas.Option.{slice_get-get_or, slice_get_read, slice_get_within, get_or_from_slice_get, same_Some}
-use Rattle.lalrpop_nfa.specs.Compiled.{reject_state}
-use Rattle.lalrpop_dfa.specs.Automata.{Item}
-use Rattle.lalrpop_dfa.specs.Ascending.{item_cmp, AreAscendingItems}
+use Rattle.lalrpop_hir.specs.States.{reject_state}
+use Rattle.lalrpop_dfa.specs.Ascending.{Item, item_cmp, AreAscendingItems}
 use Rattle.lalrpop_dfa.specs.ItemOrder.{item_eq}
 use Rattle.lalrpop_dfa.specs.Internal.OrderLaws.{item_total, item_equiv}
 use Rattle.lalrpop_dfa.specs.Split.{still_live, AreBefore}

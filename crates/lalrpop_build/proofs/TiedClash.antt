@@ -5,11 +5,12 @@ use Rattle.std.proofs.lemmas.Bool.{and_parts, and_from}
 use Rattle.std.proofs.lemmas.Option.{slice_get_cases}
 use Rattle.lalrpop_hir.specs.Tree.{Tree}
 use Rattle.lalrpop_nfa.specs.Graph.{Graph}
-use Rattle.lalrpop_nfa.specs.Compiled.{accept_state}
+use Rattle.lalrpop_hir.specs.States.{accept_state}
 use Rattle.lalrpop_hir.specs.Winners.{IsStrongest}
 use Rattle.lalrpop_hir.specs.Clash.{IsClash}
 use Rattle.lalrpop_dfa.specs.Dfa.{Row}
-use Rattle.lalrpop_dfa.specs.Automata.{Item, AreCompiled}
+use Rattle.lalrpop_nfa.specs.Automata.{AreCompiled}
+use Rattle.lalrpop_dfa.specs.Ascending.{Item}
 use Rattle.lalrpop_build.specs.Internal.Subsets.{first_set_of, is_dead}
 use Rattle.lalrpop_build.specs.Internal.BreadthFirst.{IsBreadthFirst, IsLeast, nth, after, word, value_of}
 use Rattle.lalrpop_build.specs.Internal.Built.{subset_automaton, IsStrongestIn, IsKindOf, IsTied, IsRowOf}

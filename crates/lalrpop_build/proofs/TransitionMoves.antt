@@ -5,7 +5,7 @@ use Rattle.std.specs.List.Sorted.{IsPermutation}
 use Rattle.std.proofs.lemmas.List.Sorted.{Contains-permutation, IsPermutation-sym}
 use Rattle.lalrpop_nfa.specs.Graph.{Graph}
 use Rattle.lalrpop_nfa.specs.Path.{test}
-use Rattle.lalrpop_dfa.specs.Automata.{Item}
+use Rattle.lalrpop_dfa.specs.Ascending.{Item}
 use Rattle.lalrpop_build.specs.Internal.Subsets.{move}
 use Rattle.lalrpop_build.specs.Internal.Transitions.{IsTransition, AreTransitions}
 use Rattle.lalrpop_build.specs.declared.transitions.Transition.{Transition}

@@ -4,9 +4,8 @@ use Rattle.std.specs.List.{Contains, list_any, filter}
 use Rattle.std.proofs.lemmas.Bool.{or_cases, and_parts, and_from, eq-eqb, eqb-true}
 use Rattle.std.proofs.lemmas.List.Elements.{Contains-append_left, Contains-push_cases, Contains-push}
 use Rattle.lalrpop_nfa.specs.Graph.{Graph}
-use Rattle.lalrpop_dfa.specs.Automata.{Item}
+use Rattle.lalrpop_dfa.specs.Ascending.{Item, item_cmp, AreAscendingItems}
 use Rattle.lalrpop_nfa.specs.Walk.{leaves}
-use Rattle.lalrpop_dfa.specs.Ascending.{item_cmp, AreAscendingItems}
 use Rattle.lalrpop_build.specs.Internal.Given.{IsItemOf, AreAutomata, AreItemsOf}
 use Rattle.lalrpop_nfa.specs.Path.{noop}
 use Rattle.lalrpop_build.specs.Internal.Subsets.{graph_at, has_noop, joins, is_epsilon_path, follows_by_epsilon, closed, all_items}

@@ -5,11 +5,12 @@ use Rattle.std.specs.List.{Contains}
 use Rattle.lalrpop_hir.specs.Word.{IsWord, Shortlex}
 use Rattle.lalrpop_nfa.specs.Graph.{Graph}
 use Rattle.lalrpop_nfa.specs.Path.{Path, test}
-use Rattle.lalrpop_nfa.specs.Compiled.{start_state, reject_state}
+use Rattle.lalrpop_hir.specs.States.{start_state, reject_state}
 use Rattle.lalrpop_nfa.specs.Partition.{Ranges, IsPartition}
 use Rattle.lalrpop_dfa.specs.Dfa.{Row, after}
 use Rattle.lalrpop_dfa.specs.declared.Kind.TheVariants.{Reject}
-pub use Rattle.lalrpop_dfa.specs.Automata.{Item, AreCompiled}
+pub use Rattle.lalrpop_nfa.specs.Automata.{AreCompiled}
+pub use Rattle.lalrpop_dfa.specs.Ascending.{Item}
 
 -- steps lead from START to the item's state and read the word
 abbrev pub IsReached : List Graph → List ℕ → Item → Type 0

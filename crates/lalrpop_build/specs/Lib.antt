@@ -10,8 +10,10 @@ pub use Rattle.lalrpop_hir.specs.Clash
 pub use Rattle.lalrpop_hir.specs.Clashes
 pub use Rattle.lalrpop_hir.specs.Report
 -- from the crates below: what this crate's contracts name
+pub use Rattle.lalrpop_hir.specs.States
+pub use Rattle.lalrpop_nfa.specs.Automata
 pub use Rattle.lalrpop_dfa.specs.Kernels
-pub use Rattle.lalrpop_dfa.specs.Automata
+pub use Rattle.lalrpop_dfa.specs.Ascending
 pub use Rattle.lalrpop_dfa.specs.Dfa
 pub use Rattle.lalrpop_dfa.specs.Counts
 pub use Rattle.lalrpop_dfa.specs.Lookahead

@@ -1,7 +1,7 @@
 //! All clashes of a list of patterns.
 ghost use Rattle.std.specs.Prelude.{◌≡◌, ℕ, ◌↔◌, [], List, Some, map, length, slice_get, IfOk, IfErr};
 ghost use Rattle.lalrpop_hir.specs.Tree.{Tree};
-ghost use Rattle.lalrpop_dfa.specs.Automata.{AreCompiled};
+ghost use Rattle.lalrpop_nfa.specs.Automata.{AreCompiled};
 ghost use Rattle.lalrpop_build.specs.Internal.Given.{AreAutomata};
 ghost use Rattle.lalrpop_hir.specs.Clash.{IsClash, NoClash};
 ghost use Rattle.lalrpop_hir.specs.Clashes.{AreClashes, Entry};

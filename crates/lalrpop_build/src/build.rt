@@ -11,7 +11,7 @@ ghost use Rattle.lalrpop_dfa.specs.Kernels.{moved};
 ghost use Rattle.lalrpop_nfa.specs.Graph.{Graph};
 ghost use Rattle.lalrpop_dfa.specs.Ascending.{AreAscendingItems};
 ghost use Rattle.lalrpop_build.specs.Internal.Given.{AreAutomata, AreItemsOf};
-ghost use Rattle.lalrpop_dfa.specs.Automata.{AreCompiled};
+ghost use Rattle.lalrpop_nfa.specs.Automata.{AreCompiled};
 ghost use Rattle.lalrpop_dfa.specs.Counts.{state_bound};
 ghost use Rattle.lalrpop_dfa.specs.Dfa.{Recognizes, RecognizesAll};
 ghost use Rattle.lalrpop_hir.specs.Clash.{NoClash};

@@ -2,7 +2,7 @@
 
 ghost use Rattle.std.specs.Prelude.{◌≡◌, ◌<◌, ◌∷◌, List, [], length, replicate, false, IfOk, OnOk};
 ghost use Rattle.std.specs.List.{Contains};
-ghost use Rattle.lalrpop_dfa.specs.Automata.{Item};
+ghost use Rattle.lalrpop_dfa.specs.Ascending.{Item};
 ghost use Rattle.lalrpop_build.specs.Internal.Given.{IsItemOf, AreAutomata, AreItemsOf};
 ghost use Rattle.lalrpop_build.specs.Internal.Subsets.{closed};
 ghost use Rattle.lalrpop_build.specs.Internal.Worklist.{IsAdded, IsInserted, epsilon_targets, marked};

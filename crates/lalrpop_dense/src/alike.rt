@@ -9,7 +9,7 @@ ghost use Rattle.lalrpop_dfa.specs.Stored.{EndBefore};
 ghost use Rattle.lalrpop_dense.specs.Internal.Alikes.{AreAlikes, IsAlike, SameEnd};
 
 use lalrpop_dfa::{Dfa, DfaStateIndex};
-use lalrpop_nfa::Test;
+use lalrpop_hir::Test;
 use std::alloc::{AllocError, Global};
 
 /// A state beside an earlier one, or beside itself.

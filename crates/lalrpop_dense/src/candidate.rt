@@ -4,7 +4,7 @@
 use crate::alike::Alike;
 use crate::table::Layout;
 use lalrpop_dfa::{Dfa, DfaStateIndex, Kind};
-use lalrpop_nfa::Test;
+use lalrpop_hir::Test;
 use std::alloc::{AllocError, Global};
 use std::collections::BTreeMap;
 

@@ -11,7 +11,7 @@ ghost use Rattle.lalrpop_dense.specs.Internal.Alikes.{AreAlikes, IsAlike};
 use crate::alike::Alike;
 use crate::table::Layout;
 use lalrpop_dfa::{Dfa, DfaStateIndex, Kind};
-use lalrpop_nfa::Test;
+use lalrpop_hir::Test;
 use std::alloc::{AllocError, Global};
 
 // All characters are below this.

@@ -25,7 +25,7 @@ use crate::run::{BoundedMatch, longest_by, longest_within_by};
 use crate::table::{Layout, StoredCells, Table, stored};
 use lalrpop_dfa::interpret::interpret_counted;
 use lalrpop_dfa::{Dfa, NfaIndex};
-use lalrpop_nfa::Steps;
+use lalrpop_hir::Steps;
 use std::alloc::{AllocError, Global};
 use std::marker::Model;
 

@@ -10,7 +10,7 @@ ghost use Rattle.lalrpop_dense.specs.Internal.Marks.{ends_of};
 use crate::mark::{Engine, Mark, mark_ends, name_patterns};
 use crate::table::{Rows, StoredCells};
 use lalrpop_dfa::NfaIndex;
-use lalrpop_nfa::Steps;
+use lalrpop_hir::Steps;
 use std::marker::Model;
 
 // The most ends that are kept.

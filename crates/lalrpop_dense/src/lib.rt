@@ -4,22 +4,34 @@
 //! automaton, so whatever holds of the automaton holds of the table.
 #![tactic(auto)]
 
+mod ahead;
 mod alike;
 mod candidate;
 mod check;
+mod counting;
+mod cut;
+mod cutting;
 mod dense;
 mod dense_table;
+mod dfa_matches;
 mod ends;
 mod fused;
 mod fusing;
+mod linear_matches;
 mod mark;
 mod matcher;
+mod matches;
+mod remembering;
 mod run;
 mod self_loop;
 mod table;
+mod visited_pairs;
 
+pub use cut::{linear_tokens, table_tokens, tokens};
+pub use cutting::Tokens;
 pub use dense::DenseDfa;
 pub use dense_table::{DenseTable, TableCells};
 pub use ends::{TokenEnd, TokenEnds};
+pub use linear_matches::LinearMatches;
 pub use matcher::Matcher;
 pub use run::BoundedMatch;

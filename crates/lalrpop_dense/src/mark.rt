@@ -11,7 +11,7 @@ use crate::fused::Fused;
 use crate::run::read_class;
 use crate::table::{Layout, Rows, StoredCells};
 use lalrpop_dfa::Dfa;
-use lalrpop_nfa::Steps;
+use lalrpop_hir::Steps;
 use std::simd::prelude::*;
 
 // How many bytes are marked at once at most, and on to the end of the last character.

@@ -12,7 +12,7 @@ ghost use Rattle.lalrpop_hir.specs.Longest.{IsLongest};
 use crate::dense::DenseDfa;
 use lalrpop_dfa::interpret::interpret_counted;
 use lalrpop_dfa::{Dfa, NfaIndex};
-use lalrpop_nfa::Steps;
+use lalrpop_hir::Steps;
 
 /// What finds the longest match at the start of a text by an automaton.
 ///

@@ -14,7 +14,7 @@ ghost use Rattle.lalrpop_dense.specs.Internal.Reading.{ReadsChar, IsPlace, PaysP
 
 use crate::table::{Cells, Layout};
 use lalrpop_dfa::{Dfa, NfaIndex};
-use lalrpop_nfa::Steps;
+use lalrpop_hir::Steps;
 
 // The character at the place.
 #[inline(always)]

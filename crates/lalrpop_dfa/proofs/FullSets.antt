@@ -8,9 +8,8 @@ use Rattle.std.proofs.lemmas.Bool.{cases_Bool, and_parts, and_from}
 use Rattle.std.proofs.lemmas.Bool.Decides.{nat_tests}
 use Rattle.std.proofs.lemmas.List.Kept.{IsStrictlySortedBy-filter}
 use Rattle.std.proofs.lemmas.Map.Keys.{sorted_tail}
-use Rattle.lalrpop_nfa.specs.Compiled.{accept_state, reject_state}
-use Rattle.lalrpop_dfa.specs.Automata.{Item}
-use Rattle.lalrpop_dfa.specs.Ascending.{item_cmp, AreAscendingItems}
+use Rattle.lalrpop_hir.specs.States.{accept_state, reject_state}
+use Rattle.lalrpop_dfa.specs.Ascending.{Item, item_cmp, AreAscendingItems}
 use Rattle.lalrpop_dfa.specs.Internal.OrderLaws.{item_total}
 use Rattle.lalrpop_dfa.specs.LiveItems.{is_live, live_of, rejects_of}
 use Rattle.lalrpop_dfa.specs.Split.{reject_of, items_of, full, IsSplit}

@@ -3,8 +3,7 @@ use Rattle.std.proofs.Common.{◌≡◌, ℕ, refl}
 use Rattle.std.proofs.lemmas.Map.Lookups.{CmpEqualImpliesEq}
 use Rattle.std.specs.Ordering.{nat_cmp}
 use Rattle.lalrpop_hir.proofs.Orders.{then_equal, nat_exact}
-use Rattle.lalrpop_dfa.specs.Automata.{Item}
-use Rattle.lalrpop_dfa.specs.Ascending.{item_cmp}
+use Rattle.lalrpop_dfa.specs.Ascending.{Item, item_cmp}
 
 pair_same : (a b p q : ℕ) → a ≡ b → p ≡ q → let x : Item = (a, p) in let y : Item = (b, q) in x ≡ y
 pair_same a b p q e f = rw (e, f) refl

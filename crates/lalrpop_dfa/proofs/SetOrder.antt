@@ -12,9 +12,8 @@ use Rattle.std.proofs.lemmas.Bool.Decides.{nat_tests}
 use Rattle.std.proofs.lemmas.Cmp.{nat_cmp_total, tied_itself}
 use Rattle.std.proofs.lemmas.List.{get_or-take, get_or_default}
 use Rattle.std.proofs.lemmas.Map.Keys.{sorted_tail, Less-from_sorted}
-use Rattle.lalrpop_nfa.specs.Compiled.{reject_state}
-use Rattle.lalrpop_dfa.specs.Automata.{Item}
-use Rattle.lalrpop_dfa.specs.Ascending.{item_cmp, AreAscendingItems}
+use Rattle.lalrpop_hir.specs.States.{reject_state}
+use Rattle.lalrpop_dfa.specs.Ascending.{Item, item_cmp, AreAscendingItems}
 use Rattle.lalrpop_dfa.specs.Internal.OrderLaws.{item_total, rejects_total}
 use Rattle.lalrpop_dfa.specs.ItemOrder.{rejects_cmp, hash_of, items_cmp, set_cmp}
 use Rattle.lalrpop_dfa.specs.LiveItems.{live_of, rejects_of}

@@ -1,11 +1,14 @@
 -- cases: proofs/Cases/Ascending.antt
--- The order of items, and lists that keep it.
-use Rattle.std.specs.Prelude.{List, ◌≤◌, [], ◌∷◌}
+-- Items, their order, and lists that keep it.
+use Rattle.std.specs.Prelude.{ℕ, List, ◌≤◌, [], ◌∷◌}
 use Rattle.std.specs.Ordering.{nat_cmp, ordering_then}
 use Rattle.std.specs.List.Sorted.{IsStrictlySortedBy}
 use Rattle.std.specs.declared.cmp.Ordering.{Ordering}
-use Rattle.lalrpop_dfa.specs.Automata.{Item}
 use Rattle.std.specs.List.{Contains}
+
+-- the index of an automaton in a list, and a state of that automaton
+abbrev pub Item : Type 0
+Item = ℕ × ℕ
 
 -- first by the automaton, then by the state
 abbrev pub item_cmp : Item → Item → Ordering

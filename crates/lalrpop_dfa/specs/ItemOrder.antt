@@ -5,8 +5,7 @@ use Rattle.std.specs.List.{fold}
 use Rattle.std.specs.Cmp.Lexicographic.{slice_cmp}
 use Rattle.std.specs.Ordering.{nat_cmp, ordering_then, is_eq}
 use Rattle.std.specs.declared.cmp.Ordering.{Ordering}
-use Rattle.lalrpop_dfa.specs.Automata.{Item}
-use Rattle.lalrpop_dfa.specs.Ascending.{item_cmp}
+use Rattle.lalrpop_dfa.specs.Ascending.{Item, item_cmp}
 use Rattle.lalrpop_dfa.specs.LiveItems.{live_of, rejects_of}
 
 abbrev pub item_eq : Item → Item → Bool

@@ -6,8 +6,6 @@ pub use Rattle.lalrpop_hir.specs.Winners
 pub use Rattle.lalrpop_hir.specs.Longest
 -- numbered lists of distinct kernels
 pub mod Kernels
--- the automata of some trees
-pub mod Automata
 -- the automaton of a list of patterns
 pub mod Dfa
 pub mod Counts
@@ -16,6 +14,7 @@ pub mod Follow
 pub mod Witness
 pub mod SameAutomata
 -- the sets of items that a builder keeps, in order, and how states are stored
+pub use Rattle.lalrpop_hir.specs.States
 pub mod Ascending
 pub mod ItemOrder
 pub mod LiveItems

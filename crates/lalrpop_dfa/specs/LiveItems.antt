@@ -2,8 +2,8 @@
 -- The live items of a set, and the patterns that have failed in it.
 use Rattle.std.specs.Prelude.{ℕ, Bool, not, ◌==◌, List, map}
 use Rattle.std.specs.List.{filter}
-use Rattle.lalrpop_nfa.specs.Compiled.{reject_state}
-use Rattle.lalrpop_dfa.specs.Automata.{Item}
+use Rattle.lalrpop_hir.specs.States.{reject_state}
+use Rattle.lalrpop_dfa.specs.Ascending.{Item}
 
 -- the item is not a REJECT state
 abbrev pub is_live : Item → Bool

@@ -4,9 +4,8 @@ use Rattle.std.specs.List.{Contains, filter, list_any}
 use Rattle.std.specs.List.Sorted.{IsStrictlySortedBy}
 use Rattle.std.specs.Ordering.{nat_cmp}
 use Rattle.std.specs.declared.cmp.Ordering.TheVariants.{Less}
-use Rattle.lalrpop_nfa.specs.Compiled.{accept_state, reject_state}
-use Rattle.lalrpop_dfa.specs.Automata.{Item}
-use Rattle.lalrpop_dfa.specs.Ascending.{item_cmp, AreAscendingItems}
+use Rattle.lalrpop_hir.specs.States.{accept_state, reject_state}
+use Rattle.lalrpop_dfa.specs.Ascending.{Item, item_cmp, AreAscendingItems}
 use Rattle.lalrpop_dfa.specs.ItemOrder.{hash_of}
 
 -- the REJECT item of pattern i, unless the pattern is live

@@ -11,7 +11,7 @@ ghost use Rattle.lalrpop_dfa.specs.Internal.Marks.{AreMarked, IsAcceptingAs, Lea
 use super::{Dfa, DfaStateIndex, Kind, NfaIndex, START};
 use crate::lookahead::mark;
 use crate::reach::{leading_states, live_states, reached_states};
-use lalrpop_nfa::Test;
+use lalrpop_hir::Test;
 use std::alloc::{AllocError, Global};
 
 // Whether a state of this kind accepts the pattern.

@@ -11,7 +11,7 @@ ghost use Rattle.lalrpop_hir.specs.Tree.{Tree};
 ghost use Rattle.lalrpop_hir.specs.Prefix.{IsPrefix};
 
 use super::{Dfa, Kind, NfaIndex, START};
-use lalrpop_nfa::Steps;
+use lalrpop_hir::Steps;
 
 /// The longest nonempty prefix of the text that some pattern matches, with the strongest pattern that matches it.
 /// `None` if no pattern matches one. For every automaton, the slice is a nonempty prefix of the text.

@@ -6,7 +6,7 @@ ghost use Rattle.std.specs.Cmp;
 ghost use Rattle.lalrpop_dfa.specs.Ascending.{item_cmp};
 ghost use Rattle.lalrpop_dfa.specs.ItemOrder.{item_eq, rejects_cmp, item_hash, hash_of, items_cmp, set_cmp, set_eq};
 ghost use Rattle.lalrpop_dfa.specs.Internal.OrderLaws.{item_total, item_equiv, item_ties, set_total, set_equiv, set_ties};
-ghost use Rattle.lalrpop_nfa.specs.Compiled.{reject_state};
+ghost use Rattle.lalrpop_hir.specs.States.{reject_state};
 ghost use Rattle.std.specs.List.Sorted.{IsStrictlySortedBy};
 ghost use Rattle.std.specs.Ordering.{nat_cmp};
 ghost use Rattle.lalrpop_dfa.specs.Split.{AreAlikeBelow, IsSplit, full};
@@ -14,8 +14,7 @@ ghost use Rattle.lalrpop_dfa.specs.LiveItems.{live_of};
 
 use crate::index::DfaStateIndex;
 use crate::kernel_set::Kernel;
-use lalrpop_hir::NfaIndex;
-use lalrpop_nfa::{Nfa, NfaStateIndex};
+use lalrpop_hir::{NfaIndex, NfaStateIndex};
 use std::alloc::AllocError;
 use std::cmp::Ordering;
 use std::marker::Model;
@@ -88,8 +87,8 @@ impl Item {
         }
     }
 
-    /// The automaton of the item's pattern.
-    pub fn nfa<'nfa>(self, nfas: &'nfa [Nfa]) -> &'nfa Nfa
+    /// The automaton of the item's pattern, in a list of one for each.
+    pub fn nfa<'nfa, N>(self, nfas: &'nfa [N]) -> &'nfa N
         requires { self.0 < length nfas.now }
         ensures { slice_get nfas.now self.0 ≡ Some result.now }
     {

@@ -23,8 +23,8 @@ ghost use Rattle.std.specs.Prelude.{◌≡◌, ◌<◌, length, slice_get, Some,
 
 pub use index::{DfaStateIndex, START};
 pub use items::{Item, ItemSet};
+use lalrpop_hir::Test;
 pub use lalrpop_hir::{NfaIndex, Precedence};
-use lalrpop_nfa::Test;
 pub use rows::{RowWriter, Rows};
 use search::LISTED;
 use std::marker::Model;

@@ -6,7 +6,7 @@ ghost use Rattle.lalrpop_dfa.specs.Stored.{IsRejecting};
 
 use super::{DfaStateIndex, Kind, State};
 use crate::ItemSet;
-use lalrpop_nfa::Test;
+use lalrpop_hir::Test;
 use std::alloc::{AllocError, Global};
 use std::marker::Model;
 

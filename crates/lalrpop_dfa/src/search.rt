@@ -9,7 +9,7 @@ ghost use Rattle.lalrpop_dfa.specs.Stored.{AreSteps, EndBefore};
 
 use super::rows::Rows;
 use super::{Dfa, DfaStateIndex};
-use lalrpop_nfa::{Steps, Test};
+use lalrpop_hir::{Steps, Test};
 use std::alloc::{AllocError, Global};
 
 /// The number of values whose targets a state's list has: those of ASCII.

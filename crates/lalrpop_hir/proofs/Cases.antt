@@ -1,6 +1,7 @@
 -- Small cases of the definitions in specs/: Cases/X.antt has those of specs/X.antt, Cases/Depth.antt those of specs/Internal/Depth.antt.
 mod Word
 mod Range
+mod Meet
 mod Language
 mod Fault
 mod Prefix

@@ -9,6 +9,8 @@ pub mod Words
 -- texts, and how a walk along one divides it
 pub mod TextWords
 pub mod Cuts
+-- how many characters a text has
+pub mod StartLaws
 -- what the definitions mean: there is one clash, and one longest match
 pub mod ClashLaws
 pub mod Longests
@@ -16,6 +18,8 @@ pub mod Strongest
 -- pieces one after another
 pub mod Chains
 pub mod LastFaults
+-- ranges
+pub mod Meeting
 -- the words of trees
 pub mod Languages
 pub mod Powers

@@ -1,10 +1,10 @@
 -- The words of texts.
-use Rattle.std.proofs.Common.{◌≡◌, ℕ, ◌<◌, ◌≤◌, true, List, [], ◌∷◌, ◌++◌, arith}
+use Rattle.std.proofs.Common.{◌≡◌, ℕ, ◌<◌, ◌≤◌, true, List, [], ◌∷◌, ◌++◌, length, arith}
 use Rattle.std.specs.Char.{IsScalar}
 use Rattle.std.specs.Str.{chars, IsUtf8, all_scalars}
 use Rattle.std.proofs.lemmas.Bool.{and_parts}
 use Rattle.std.proofs.lemmas.Bool.Decides.{nat_tests}
-use Rattle.std.proofs.lemmas.Str.{scalars-chars}
+use Rattle.std.proofs.lemmas.Str.{chars-nil, scalars-chars}
 use Rattle.lalrpop_hir.specs.Word.{IsWord}
 
 pub IsWord-append : (v w : List ℕ) → IsWord v → IsWord w → IsWord (v ++ w)
@@ -21,3 +21,8 @@ characters_are_word (c ∷ cs) scalars = let parts = and_parts _ (all_scalars cs
 -- the characters of a text are a word
 pub text_word : (text : List ℕ) → IsUtf8 text → IsWord (chars text)
 text_word text utf8 = characters_are_word (chars text) (scalars-chars text utf8)
+
+-- a text without bytes has no characters
+pub chars-none : (bs : List ℕ) → length bs ≡ 0 → chars bs ≡ []
+chars-none [] h = chars-nil
+chars-none (b ∷ bs) h = cc

@@ -1,6 +1,8 @@
 -- what a lexer has to do, in reading order: words, trees, and the words that a tree matches
 pub mod Word
 pub mod Range
+pub mod Meet
+pub mod States
 pub mod Tree
 pub mod Language
 pub mod Fault
@@ -19,5 +21,7 @@ pub mod Counts
 pub mod Parts
 pub mod Size
 pub mod Level
+-- texts: the bytes with which characters begin
+pub mod Starts
 -- used by proofs only: trees as lists of numbers, and their depth
 pub mod Internal

@@ -13,11 +13,11 @@ use Rattle.lalrpop_hir.specs.Winners.{IsOnlyStrongest}
 use Rattle.lalrpop_hir.specs.Tokens.{IsToken, AreTokens}
 use Rattle.lalrpop_hir.specs.declared.token.Token.{Token}
 use Rattle.lalrpop_hir.proofs.Longests.{longest-unique}
-use Rattle.lalrpop_lexer.specs.Neighbours.{CanFollow, IsParted, text_of, IsWhole, CanPart, CanPartAll, placed}
+use Rattle.lalrpop_dense.specs.Neighbours.{CanFollow, IsParted, text_of, IsWhole, CanPart, CanPartAll, placed}
 use Rattle.lalrpop_lexer.specs.Joined.{plain, IsJoined, CanJoin, IsJoinError}
 use Rattle.lalrpop_lexer.specs.declared.join_error.JoinError.TheVariants.{Inseparable}
 use Rattle.lalrpop_lexer.specs.Internal.Joining.{IsBetween, IsJoinedUpTo}
-use Rattle.lalrpop_lexer.proofs.NeighbourLaws.{parted_cut_back}
+use Rattle.lalrpop_dense.proofs.NeighbourLaws.{parted_cut_back}
 
 -- ---- whether a token is what is cut from its text
 

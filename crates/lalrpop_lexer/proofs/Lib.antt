@@ -1,10 +1,9 @@
 pub mod Cases
 -- what the calls that cut a text return
-pub mod Cuttings
-pub mod LexerCuttings
-pub mod Costs
-pub mod Founds
-pub mod LexerCosts
+pub use Rattle.lalrpop_dense.proofs.Cuttings
+pub use Rattle.lalrpop_dense.proofs.LexerCuttings
+pub use Rattle.lalrpop_dense.proofs.TextWalks
+pub use Rattle.lalrpop_dense.proofs.Standings
 -- what lines say
 pub mod LineParts
 pub mod TerminalLemmas
@@ -24,26 +23,18 @@ pub use Rattle.lalrpop_build.proofs.AfterLaws
 pub use Rattle.lalrpop_dfa.proofs.Recognized
 pub use Rattle.lalrpop_dfa.proofs.WitnessLaws
 -- how many characters a text has, and the place after it
-pub use Rattle.bajofeki_rules.proofs.StartLaws
+pub use Rattle.lalrpop_hir.proofs.StartLaws
 pub use Rattle.bajofeki_rules.proofs.PlaceLaws
--- states from which no match comes, and what a run knows of those that are noted
-pub mod Hopes
-pub mod Kept
-pub mod Walks
 -- the words that the patterns match
 pub mod MatchedWords
--- the memory, and how far the matches have been found, ahead or not
-pub mod Marks
-pub mod Standings
-pub mod Blocks
 -- laws for callers: the tokens of a text, the same rules under other numbers, and a rule more
-pub mod Decided
-pub mod UniqueTokens
-pub mod RenumberLaws
-pub mod MoreRules
-pub mod TextPrefixes
-pub mod Locality
-pub mod NeighbourLaws
+pub use Rattle.lalrpop_dense.proofs.Decided
+pub use Rattle.lalrpop_dense.proofs.UniqueTokens
+pub use Rattle.lalrpop_dense.proofs.RenumberLaws
+pub use Rattle.lalrpop_dense.proofs.MoreRules
+pub use Rattle.lalrpop_dense.proofs.TextPrefixes
+pub use Rattle.lalrpop_dense.proofs.Locality
+pub use Rattle.lalrpop_dense.proofs.NeighbourLaws
 -- the table of tokens that run on into others
 pub mod RunningOn
 -- texts of tokens

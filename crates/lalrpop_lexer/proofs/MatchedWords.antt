@@ -6,8 +6,9 @@ use Rattle.lalrpop_hir.specs.Winners.{Matched}
 use Rattle.lalrpop_hir.specs.Word.{IsWord}
 use Rattle.lalrpop_nfa.specs.Graph.{Graph}
 use Rattle.lalrpop_nfa.specs.Path.{Path, here, epsilon, read, otherwise, noop, test, other}
-use Rattle.lalrpop_nfa.specs.Compiled.{IsCompiled, accept_state, reject_state, start_state}
-use Rattle.lalrpop_dfa.specs.Automata.{AreCompiled}
+use Rattle.lalrpop_hir.specs.States.{accept_state, reject_state, start_state}
+use Rattle.lalrpop_nfa.specs.Compiled.{IsCompiled}
+use Rattle.lalrpop_nfa.specs.Automata.{AreCompiled}
 use Rattle.lalrpop_dfa.specs.Lookahead.{LeavesOpen}
 use Rattle.lalrpop_dfa.specs.Witness.{IsOpenMatch}
 use Rattle.lalrpop_build.proofs.Targets.{compiled_of}

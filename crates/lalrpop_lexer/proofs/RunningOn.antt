@@ -12,10 +12,10 @@ use Rattle.lalrpop_dfa.specs.Dfa.{Row}
 use Rattle.lalrpop_dfa.specs.Follow.{RunsOn}
 use Rattle.lalrpop_dfa.specs.Lookahead.{Accepted, AcceptedAs}
 use Rattle.lalrpop_dfa.proofs.Recognized.{recognized_by, recognized_words}
-use Rattle.lalrpop_lexer.specs.Neighbours.{WordsOf, CanFollow}
-use Rattle.lalrpop_lexer.specs.Rules.{Rules, IsBuiltFrom}
+use Rattle.lalrpop_dense.specs.Neighbours.{WordsOf, CanFollow}
+use Rattle.lalrpop_dense.specs.Rules.{Rules, IsBuiltFrom}
 use Rattle.lalrpop_lexer.specs.Internal.RunningOn.{AreRunningOn, IsTableUpTo}
-use Rattle.lalrpop_lexer.proofs.Decided.{matches_inside}
+use Rattle.lalrpop_dense.proofs.Decided.{matches_inside}
 
 -- in greater sets of words it is still so
 runs_on_more : (L M N P Q R : Words) → ((w : List ℕ) → L w → P w) → ((w : List ℕ) → M w → Q w) → ((w : List ℕ) → N w → R w) → RunsOn L M N → RunsOn P Q R

@@ -5,7 +5,7 @@ use Rattle.std.specs.List.{All}
 use Rattle.lalrpop_hir.specs.Tree.{Tree}
 use Rattle.lalrpop_hir.specs.Tokens.{AreTokens}
 use Rattle.lalrpop_hir.specs.declared.token.Token.{Token}
-use Rattle.lalrpop_lexer.specs.Neighbours.{CanFollow, IsParted, text_of, IsWhole, CanPart, CanPartAll, placed}
+use Rattle.lalrpop_dense.specs.Neighbours.{CanFollow, IsParted, text_of, IsWhole, CanPart, CanPartAll, placed}
 use Rattle.lalrpop_lexer.specs.declared.join_error.JoinError.{JoinError}
 use Rattle.lalrpop_lexer.specs.declared.join_error.JoinError.TheVariants.{NotAToken, NotASeparator, Inseparable, OutOfMemory}
 

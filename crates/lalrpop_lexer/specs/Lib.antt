@@ -1,17 +1,10 @@
-pub mod Matching
-pub mod Cutting
-pub mod LeadingTokens
 pub use Rattle.bajofeki_rules.specs.Position
 pub use Rattle.bajofeki_rules.specs.Quoted
-pub mod Rules
 pub mod LexerErrors
 pub mod Spelled
 pub use Rattle.bajofeki_rules.specs.Lines
 pub mod Line
 pub mod Terminals
-pub mod SameTokens
-pub mod Renumbered
-pub mod Neighbours
 pub mod Joined
 -- what the public contracts of the crates below name: from the book,
 pub use Rattle.lalrpop_hir.specs.Word
@@ -47,11 +40,13 @@ pub use Rattle.lalrpop_re.specs.Pattern
 pub use Rattle.lalrpop_re.specs.Escaped
 pub use Rattle.lalrpop_re.specs.Refusal
 -- from ranges and the automaton of one pattern,
-pub use Rattle.lalrpop_nfa.specs.Meet
+pub use Rattle.lalrpop_hir.specs.Meet
 pub use Rattle.lalrpop_nfa.specs.Partition
 pub use Rattle.lalrpop_nfa.specs.Graph
 pub use Rattle.lalrpop_nfa.specs.Path
+pub use Rattle.lalrpop_hir.specs.States
 pub use Rattle.lalrpop_nfa.specs.Compiled
+pub use Rattle.lalrpop_nfa.specs.Automata
 pub use Rattle.lalrpop_nfa.specs.Walk
 pub use Rattle.lalrpop_nfa.specs.Firsts
 pub use Rattle.lalrpop_nfa.specs.StateView
@@ -59,7 +54,7 @@ pub use Rattle.lalrpop_nfa.specs.Lending
 pub use Rattle.lalrpop_nfa.specs.Contiguous
 -- and from the automaton of a list of patterns; the name `Counts` is taken by the one for trees
 pub use Rattle.lalrpop_dfa.specs.Kernels
-pub use Rattle.lalrpop_dfa.specs.Automata
+pub use Rattle.lalrpop_dfa.specs.Ascending
 pub use Rattle.lalrpop_dfa.specs.Dfa
 pub use Rattle.lalrpop_dfa.specs.Counts as StateCounts
 pub use Rattle.lalrpop_dfa.specs.Lookahead
@@ -68,6 +63,13 @@ pub use Rattle.lalrpop_dfa.specs.Witness
 pub use Rattle.lalrpop_dfa.specs.SameAutomata
 pub use Rattle.lalrpop_dense.specs.DenseTable
 pub use Rattle.lalrpop_dense.specs.Leading
+pub use Rattle.lalrpop_dense.specs.Matching
+pub use Rattle.lalrpop_dense.specs.Cutting
+pub use Rattle.lalrpop_dense.specs.Rules
+pub use Rattle.lalrpop_dense.specs.LeadingTokens
+pub use Rattle.lalrpop_dense.specs.SameTokens
+pub use Rattle.lalrpop_dense.specs.Renumbered
+pub use Rattle.lalrpop_dense.specs.Neighbours
 pub use Rattle.lalrpop_build.specs.Items
 pub use Rattle.lalrpop_build.specs.Agree
 -- used by proofs only

@@ -10,21 +10,18 @@ ghost use Rattle.lalrpop_hir.specs.Winners.{IsOnlyStrongest, Matched};
 ghost use Rattle.lalrpop_dfa.specs.Lookahead.{IsLookahead, LeavesOpen, StaysOpenEver, IsTrim};
 ghost use Rattle.lalrpop_hir.specs.Word.{IsWord};
 ghost use Rattle.lalrpop_dfa.specs.Witness.{IsOpenMatch, IsWitness};
-ghost use Rattle.lalrpop_lexer.specs.Matching.{open_states};
-ghost use Rattle.lalrpop_lexer.specs.Cutting.{Cutting, start_of, rest_of, GivesItem, with_places, most_steps};
+ghost use Rattle.lalrpop_dense.specs.Matching.{open_states};
+ghost use Rattle.lalrpop_dense.specs.Cutting.{Cutting, start_of, rest_of, GivesItem, with_places, most_steps};
 ghost use Rattle.lalrpop_hir.specs.Tokens.{Item, slices, IsToken, AreTokens};
-ghost use Rattle.lalrpop_lexer.specs.Rules.{IsBuiltFrom};
+ghost use Rattle.lalrpop_dense.specs.Rules.{IsBuiltFrom};
 
 pub mod dfa;
 pub mod nfa;
 pub mod re;
 
-use crate::cutting::{Finder, Tokens};
-use crate::linear_matches::LinearMatches;
-use crate::matches::Matches;
 use crate::neighbours::Neighbours;
 use lalrpop_build::{DfaConstructionError, Precedence, build_dfa};
-use lalrpop_dense::DenseDfa;
+use lalrpop_dense::{DenseDfa, LinearMatches, Tokens, linear_tokens, table_tokens};
 use lalrpop_dfa::lookahead::{lookahead, unbounded_patterns};
 use lalrpop_dfa::{Witness, lookahead_witness};
 use lalrpop_hir::Token;
@@ -58,7 +55,7 @@ impl Model for Lexer {
     ghost use Rattle.lalrpop_hir.specs.Winners.{Matched};
     ghost use Rattle.lalrpop_hir.specs.Word.{IsWord};
     ghost use Rattle.lalrpop_dfa.specs.Lookahead.{IsLookahead, IsTrim};
-    ghost use Rattle.lalrpop_lexer.specs.Rules.{Rules, IsBuiltFrom};
+    ghost use Rattle.lalrpop_dense.specs.Rules.{Rules, IsBuiltFrom};
     ghost use Rattle.lalrpop_lexer.specs.Internal.Code.{rules_code};
 
     ghost Value = { Rules };
@@ -186,11 +183,10 @@ impl Lexer {
         ensures no_clash { NoClash self.now.trees self.now.precedences }
     {
         if self.lookahead.is_some() {
-            let plain = Matches::new(&self.dense, text);
-            return Ok(Tokens::new(text, Finder::Plain(plain)));
+            return Ok(table_tokens(&self.dense, text));
         }
-        let matches = self.matches(alloc, text)?;
-        Ok(Tokens::new(text, Finder::Remembering(matches)))
+        let tokens = linear_tokens(alloc, &self.dense, text)?;
+        Ok(tokens)
     }
 
     /// The longest matches of the text, one after another, for a caller that goes on where nothing matches. It starts with all

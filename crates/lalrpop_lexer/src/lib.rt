@@ -5,38 +5,27 @@
 //! The crates below are re-exported.
 #![tactic(auto)]
 
-mod ahead;
-mod counting;
-mod cut;
-mod cutting;
-mod dfa_matches;
 mod error;
 mod form;
 mod join_error;
 pub mod lexer;
 mod line;
-mod linear_matches;
 mod longest;
-mod matches;
 mod neighbours;
 mod patterns;
-mod remembering;
 mod terminal_line;
 mod terminals;
-mod visited_pairs;
 
 pub use bajofeki_rules::{
     Position, Positions, ShownWord, is_unseen, push_escaped_char, push_quoted, quoted,
 };
-pub use cut::tokens;
-pub use cutting::Tokens;
 pub use error::LexerError;
 pub use form::Form;
 pub use join_error::JoinError;
+pub use lalrpop_dense::{LinearMatches, Tokens, tokens};
 pub use lalrpop_dfa::kernel_set;
 pub use lalrpop_hir::{Token, TokenFault};
 pub use lexer::Lexer;
-pub use linear_matches::LinearMatches;
 pub use longest::longest_match;
 pub use neighbours::Neighbours;
 pub use terminals::{Terminals, read_terminals};

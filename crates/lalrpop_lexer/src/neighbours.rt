@@ -1,6 +1,6 @@
 //! Which tokens may stand side by side in a text.
 ghost use Rattle.std.specs.Prelude.{◌≡◌, ◌↔◌, IfOk, IsTrue};
-ghost use Rattle.lalrpop_lexer.specs.Rules.{IsBuiltFrom};
+ghost use Rattle.lalrpop_dense.specs.Rules.{IsBuiltFrom};
 ghost use Rattle.lalrpop_lexer.specs.Internal.RunningOn.{AreRunningOn};
 
 use crate::join_error::JoinError;
@@ -36,7 +36,7 @@ pub struct Neighbours<'lexer> {
 
 impl<'lexer> Model for Neighbours<'lexer> {
     ghost use Rattle.std.specs.Prelude.{length, map};
-    ghost use Rattle.lalrpop_lexer.specs.Rules.{Rules};
+    ghost use Rattle.lalrpop_dense.specs.Rules.{Rules};
     ghost use Rattle.lalrpop_lexer.specs.Internal.Code.{rules_code};
     ghost use Rattle.lalrpop_lexer.specs.Internal.RunningOn.{IsTableUpTo};
 
@@ -66,7 +66,7 @@ fn marks_of(
 impl<'lexer> Neighbours<'lexer> {
     ghost use Rattle.std.specs.Prelude.{IfErr, IfNone, IfSome, OnOk, map};
     ghost use Rattle.std.specs.String.{string_bytes};
-    ghost use Rattle.lalrpop_lexer.specs.Neighbours.{CanFollow, CanPart, IsWhole};
+    ghost use Rattle.lalrpop_dense.specs.Neighbours.{CanFollow, CanPart, IsWhole};
     ghost use Rattle.lalrpop_lexer.specs.Joined.{CanJoin, IsJoinError, IsJoined, plain};
     ghost use Rattle.lalrpop_lexer.specs.Internal.Joining.{IsBetween};
 

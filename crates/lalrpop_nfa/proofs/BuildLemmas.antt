@@ -18,7 +18,8 @@ use Rattle.lalrpop_nfa.specs.Graph.{Graph, Lists}
 use Rattle.lalrpop_nfa.specs.Walk.{leaves}
 use Rattle.lalrpop_nfa.specs.Path.{noop, other}
 use Rattle.lalrpop_nfa.specs.Internal.Fragment.{Fragment, Construction, no_edges, fragment_of, joined, noops_to, before, one_of, optional_expr, star_expr, plus_expr, repeat_expr, copies, optional_copies, alternation_expr, branches, extended, fresh_graph, compiled}
-use Rattle.lalrpop_nfa.specs.Compiled.{accept_state, start_state, edges_from}
+use Rattle.lalrpop_hir.specs.States.{accept_state, start_state}
+use Rattle.lalrpop_nfa.specs.Compiled.{edges_from}
 use Rattle.lalrpop_hir.specs.declared.error.NfaConstructionError.{NfaConstructionError}
 use Rattle.lalrpop_hir.specs.Fault.{Fault, fault, first_fault, last_fault}
 use Rattle.lalrpop_nfa.specs.Internal.Valid.{IsValid, AreValid}

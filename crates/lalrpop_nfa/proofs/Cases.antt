@@ -5,5 +5,4 @@ mod Contiguous
 mod Path
 mod Reads
 mod Compiled
-mod Meet
 mod Partition

@@ -17,8 +17,3 @@ module _ (bs rest : List ℕ) (c : ℕ) (is : bs ≡ rest ++ encode_utf8 c) (sca
 
   pub chars-last : chars bs ≡ chars rest ++ c ∷ []
   chars-last = ap chars is ∙ (chars-append rest (encode_utf8 c) IsUtf8-front ∙ ap (λ cs. chars rest ++ cs) one)
-
--- a text without bytes has no characters
-pub chars-none : (bs : List ℕ) → length bs ≡ 0 → chars bs ≡ []
-chars-none [] h = chars-nil
-chars-none (b ∷ bs) h = cc

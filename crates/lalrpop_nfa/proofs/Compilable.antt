@@ -7,7 +7,7 @@ use Rattle.lalrpop_hir.specs.Range.{Range}
 use Rattle.lalrpop_hir.specs.Runs.{IsScalar, IsByte, next_scalar, AreApart, HaveEndsIn}
 use Rattle.lalrpop_hir.specs.Tree.{Class, unicode, bytes, Tree, empty, literal, class, look, repetition, capture, concat, alternation, Trees, none, also}
 use Rattle.lalrpop_hir.proofs.Canons.{head-holds, tail-apart}
-use Rattle.lalrpop_nfa.specs.Meet.{Meet}
+use Rattle.lalrpop_hir.specs.Meet.{Meet}
 use Rattle.lalrpop_hir.specs.Fault.{fault, last_fault, first_fault}
 use Rattle.lalrpop_nfa.specs.Compiled.{IsLabel, IsLabelOfSome}
 use Rattle.lalrpop_nfa.specs.Internal.Valid.{IsValid, AreValid, AreCodeValues}

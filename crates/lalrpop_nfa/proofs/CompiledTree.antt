@@ -18,7 +18,8 @@ use Rattle.lalrpop_nfa.specs.Walk.{leaves}
 use Rattle.lalrpop_nfa.specs.Path.{noop, test, other, Path, here, epsilon, read, otherwise}
 use Rattle.lalrpop_hir.specs.Fault.{fault}
 use Rattle.lalrpop_nfa.specs.Internal.Valid.{IsValid}
-use Rattle.lalrpop_nfa.specs.Compiled.{accept_state, reject_state, start_state, IsLabel, ReadsWordsOf, IsCompiled, HasFixedEdges}
+use Rattle.lalrpop_hir.specs.States.{accept_state, reject_state, start_state}
+use Rattle.lalrpop_nfa.specs.Compiled.{IsLabel, ReadsWordsOf, IsCompiled, HasFixedEdges}
 use Rattle.lalrpop_nfa.specs.Internal.Fragment.{fragment_of, noops_to, joined, fresh_graph, compiled}
 use Rattle.lalrpop_hir.proofs.Contained.{contains_none, contains_cases, contains_only, contains_first, contains_later}
 use Rattle.lalrpop_nfa.proofs.Compilable.{IsCompilableWithin, plain}

@@ -12,7 +12,7 @@ use Rattle.lalrpop_nfa.specs.declared.edge.Noop.{Noop}
 use Rattle.lalrpop_nfa.specs.declared.edge.Other.{Other}
 use Rattle.lalrpop_nfa.specs.Graph.{Lists}
 use Rattle.lalrpop_nfa.specs.Path.{noop, test, other, Path}
-use Rattle.lalrpop_nfa.specs.Compiled.{accept_state, reject_state}
+use Rattle.lalrpop_hir.specs.States.{accept_state, reject_state}
 use Rattle.lalrpop_nfa.specs.Internal.Fragment.{Construction, noops_to, joined, nothing, before, one_of, literal_expr, copies, optional_expr, optional_copies, star_expr, plus_expr, repeat_expr, Branches, alternation_expr, class_construction, fragment_of, concat_expr, branches}
 use Rattle.lalrpop_hir.proofs.Contained.{contains_none, contains_only, contains_map, contains_from_map}
 use Rattle.lalrpop_nfa.proofs.Compilable.{IsCompilableWithin, AreCompilableWithin, only}

@@ -6,7 +6,7 @@ use Rattle.std.proofs.lemmas.List.Elements.{Contains-append_cases}
 use Rattle.lalrpop_hir.specs.Range.{Range}
 use Rattle.lalrpop_hir.specs.Tree.{Class, unicode, bytes, Tree, empty, literal, class, look, repetition, capture, concat, alternation, Trees, none, also}
 use Rattle.lalrpop_nfa.specs.declared.edge.Edge.{Edge}
-use Rattle.lalrpop_nfa.specs.Meet.{Meet}
+use Rattle.lalrpop_hir.specs.Meet.{Meet}
 use Rattle.lalrpop_nfa.specs.Path.{test}
 use Rattle.lalrpop_nfa.specs.Internal.Fragment.{Construction, before, one_of, literal_expr, copies, optional_expr, optional_copies, star_expr, repeat_expr, class_construction, fragment_of, concat_expr, branches}
 use Rattle.lalrpop_hir.proofs.Contained.{contains_none, contains_only, contains_first, contains_later, contains_from_map}

@@ -10,7 +10,7 @@ use Rattle.lalrpop_nfa.specs.declared.edge.Noop.{Noop}
 use Rattle.lalrpop_nfa.specs.declared.edge.Other.{Other}
 use Rattle.lalrpop_nfa.specs.Graph.{Lists}
 use Rattle.lalrpop_nfa.specs.Path.{noop, test, other}
-use Rattle.lalrpop_nfa.specs.Compiled.{reject_state}
+use Rattle.lalrpop_hir.specs.States.{reject_state}
 use Rattle.lalrpop_nfa.specs.Internal.Fragment.{Construction, no_edges, noops_to, joined, nothing, before, one_of, literal_expr, copies, optional_expr, optional_copies, star_expr, plus_expr, repeat_expr, Branches, alternation_expr, class_construction, fragment_of, concat_expr, branches}
 use Rattle.lalrpop_hir.proofs.Contained.{contains_none, contains_cases, contains_only, contains_from_map}
 

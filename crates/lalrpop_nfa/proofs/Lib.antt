@@ -15,7 +15,6 @@ pub mod PrefixLemmas
 pub mod StateSetLemmas
 pub mod Runs
 -- the partition of ranges
-pub mod Meeting
 pub mod Cells
 pub mod Partition
 pub mod Sweep

@@ -6,7 +6,8 @@ use Rattle.lalrpop_hir.specs.Tree.{Tree}
 use Rattle.lalrpop_nfa.specs.Graph.{Graph, Lists}
 use Rattle.lalrpop_nfa.specs.Path.{Path, here, epsilon, read, otherwise, noop, test, other, IsUntested}
 use Rattle.lalrpop_nfa.specs.Internal.Reads.{Reads}
-use Rattle.lalrpop_nfa.specs.Compiled.{IsCompiled, reject_state}
+use Rattle.lalrpop_hir.specs.States.{reject_state}
+use Rattle.lalrpop_nfa.specs.Compiled.{IsCompiled}
 
 -- one path after another
 pub path_join : (e : Lists) (q r : ℕ) (v : List ℕ) → Path e q r v → (p : ℕ) (u : List ℕ) → Path e r p u → Path e q p (u ++ v)

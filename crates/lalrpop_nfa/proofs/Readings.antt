@@ -8,7 +8,7 @@ use Rattle.lalrpop_hir.proofs.Joining.{covering}
 use Rattle.lalrpop_hir.proofs.Powers.{Optional, Star}
 use Rattle.lalrpop_nfa.specs.Graph.{Lists}
 use Rattle.lalrpop_nfa.specs.Path.{noop, test, other, Path, here, epsilon, read, otherwise}
-use Rattle.lalrpop_nfa.specs.Compiled.{accept_state, reject_state}
+use Rattle.lalrpop_hir.specs.States.{accept_state, reject_state}
 use Rattle.lalrpop_hir.proofs.Contained.{contains_none, contains_cases, contains_first, contains_later, contains_only}
 
 -- the number of edges of a path

@@ -9,7 +9,8 @@ use Rattle.std.proofs.lemmas.Str.{chars-nil, IsCharBoundary-from_take}
 use Rattle.lalrpop_hir.specs.Tree.{Tree}
 use Rattle.lalrpop_hir.specs.Language.{Matches}
 use Rattle.lalrpop_nfa.specs.Graph.{Graph}
-use Rattle.lalrpop_nfa.specs.Compiled.{IsCompiled, start_state}
+use Rattle.lalrpop_hir.specs.States.{start_state}
+use Rattle.lalrpop_nfa.specs.Compiled.{IsCompiled}
 use Rattle.lalrpop_hir.specs.Prefix.{IsPrefix}
 use Rattle.lalrpop_nfa.specs.Internal.StateSets.{Visited, IsClosure, IsMove, IsIfAccepted, only}
 use Rattle.lalrpop_nfa.proofs.StateSetLemmas.{IsAfterWord, after_none, after_next, matched_if, only_if_matched}

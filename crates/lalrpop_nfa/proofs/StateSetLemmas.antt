@@ -12,7 +12,8 @@ use Rattle.lalrpop_hir.specs.Language.{Matches}
 use Rattle.lalrpop_nfa.specs.Graph.{Graph, Lists}
 use Rattle.lalrpop_nfa.specs.Path.{Path, here, epsilon, read, otherwise, noop, test, other, IsUntested}
 use Rattle.lalrpop_nfa.specs.Internal.Reads.{Tests, Reads}
-use Rattle.lalrpop_nfa.specs.Compiled.{IsCompiled, start_state, accept_state, reject_state}
+use Rattle.lalrpop_hir.specs.States.{start_state, accept_state, reject_state}
+use Rattle.lalrpop_nfa.specs.Compiled.{IsCompiled}
 use Rattle.lalrpop_nfa.specs.Internal.StateSets.{StateList, only, IsStateSet, IsGrown, IsEpsilonEdge, IsClosed, IsClosure, IsMove, Accepts, Rejects}
 use Rattle.lalrpop_nfa.specs.declared.edge.Edge.{Edge}
 use Rattle.lalrpop_nfa.proofs.PathLemmas.{path_join}

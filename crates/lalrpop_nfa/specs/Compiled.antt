@@ -6,24 +6,15 @@ use Rattle.lalrpop_hir.specs.Range.{Range}
 use Rattle.lalrpop_hir.specs.Tree.{Tree, Class, unicode, bytes, empty, literal, class, look, repetition, capture, concat, alternation, Trees, none, also}
 use Rattle.lalrpop_hir.specs.Size.{size}
 use Rattle.lalrpop_hir.specs.Language.{Matches}
+use Rattle.lalrpop_hir.specs.States.{accept_state, reject_state, start_state}
 use Rattle.lalrpop_nfa.specs.Graph.{Graph, Lists}
-use Rattle.lalrpop_nfa.specs.Meet.{Meet}
+use Rattle.lalrpop_hir.specs.Meet.{Meet}
 use Rattle.lalrpop_nfa.specs.Path.{noop, other, Path}
 use Rattle.lalrpop_nfa.specs.Walk.{leaves}
 use Rattle.lalrpop_nfa.specs.declared.edge.Edge.{Edge}
 use Rattle.lalrpop_nfa.specs.declared.edge.Noop.{Noop}
 use Rattle.lalrpop_nfa.specs.declared.edge.Other.{Other}
 use Rattle.lalrpop_nfa.specs.declared.edge.StateKind.TheVariants.{Accept, Reject}
-
--- the numbers of the three states that every automaton has
-abbrev pub accept_state : ℕ
-accept_state = 0
-
-abbrev pub reject_state : ℕ
-reject_state = 1
-
-abbrev pub start_state : ℕ
-start_state = 2
 
 -- the range is one of the class
 abbrev pub IsClassLabel : Class → Range → Type 0

@@ -56,7 +56,7 @@ impl Nfa {
             first_test_edge: None,
             first_other_edge: None,
         })?;
-        Ok(NfaStateIndex(index))
+        Ok(NfaStateIndex::new(index))
     }
 
     // Pushes a `Noop` edge to each target, from a state that has none.

@@ -6,52 +6,9 @@ ghost use Rattle.lalrpop_nfa.specs.Internal.FirstSet.{first_set};
 ghost use Rattle.lalrpop_nfa.specs.Walk.{leaves};
 ghost use Rattle.lalrpop_nfa.specs.Contiguous.{walk, walk_at, IsAt};
 
-use crate::Test;
+use crate::{NfaStateIndex, Test};
 use std::fmt;
 use std::marker::Model;
-
-/// The number of a state of an automaton, from 0.
-///
-/// ```
-/// use lalrpop_lexer::lexer::nfa::{NfaStateIndex, START};
-///
-/// let is_start = NfaStateIndex::new(2) == START; // true
-/// ```
-#[derive(Copy, Clone, PartialEq, Eq, PartialOrd, Ord, Hash)]
-pub struct NfaStateIndex(pub(super) usize);
-
-impl Model for NfaStateIndex {
-    ghost use Rattle.std.specs.Prelude.{ℕ};
-
-    ghost Value = { ℕ };
-
-    ghost view = { λ i. i.0 };
-
-    ghost inverse = { λ n. record { 0 = n } };
-}
-
-impl NfaStateIndex {
-    /// The state with this number.
-    pub fn new(number: usize) -> NfaStateIndex
-        ensures value { result ≡ number }
-    {
-        NfaStateIndex(number)
-    }
-
-    /// The state's number.
-    pub fn index(self) -> usize
-        ensures value { result ≡ self }
-    {
-        self.0
-    }
-}
-
-impl fmt::Debug for NfaStateIndex {
-    fn fmt<W: fmt::Write>(&self, f: &mut fmt::Formatter<W>) -> fmt::Result {
-        let number = self.0;
-        write!(f, "Nfa{number}")
-    }
-}
 
 /// The label of an edge that reads nothing.
 ///

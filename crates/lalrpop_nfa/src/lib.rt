@@ -6,32 +6,17 @@ mod edge;
 pub mod interpret;
 pub mod overlap;
 mod state_set;
-mod steps;
-mod test;
 
 ghost use Rattle.std.specs.Prelude.{◌≡◌, ◌≢◌, ◌↔◌, ◌<◌, ◌++◌, ◌∷◌, [], Some, None, IfOk, IfErr, IsTrue};
 ghost use Rattle.std.specs.List.{filter};
 ghost use Rattle.lalrpop_hir.specs.Fault.{fault};
 
 use edge::set_first;
-pub use edge::{
-    Edge, EdgeIterator, EdgeLabel, Edges, NfaStateIndex, Noop, Other, State, StateKind,
-};
-pub use lalrpop_hir::NfaConstructionError;
+pub use edge::{Edge, EdgeIterator, EdgeLabel, Edges, Noop, Other, State, StateKind};
 use lalrpop_hir::Regex;
+pub use lalrpop_hir::{ACCEPT, NfaConstructionError, NfaStateIndex, REJECT, START, Steps, Test};
 use std::alloc::{AllocError, Global};
 use std::marker::Model;
-pub use steps::Steps;
-pub use test::Test;
-
-/// The state in which a word matches.
-pub const ACCEPT: NfaStateIndex = NfaStateIndex(0);
-
-/// The state from which no continuation of the word matches.
-pub const REJECT: NfaStateIndex = NfaStateIndex(1);
-
-/// The state in which each run begins.
-pub const START: NfaStateIndex = NfaStateIndex(2);
 
 /// The automaton of one pattern: states, and edges that read nothing, a value of a range, or any other value.
 ///
@@ -73,10 +58,11 @@ impl Nfa {
         requires is_state { from < length self.now.kinds }
         ensures edges { result ≡ filter (leaves from) (L.list self.now.edges) }
     {
+        let place = from.index();
         EdgeIterator {
             edges: L::vec(&self.edges).as_slice(),
             from,
-            index: *L::first(&self.states[from.0]),
+            index: *L::first(&self.states[place]),
         }
     }
 
@@ -95,10 +81,11 @@ impl Nfa {
             (L.list self.old.edges ++ record { from = from; label = label; to = to } ∷ []))) }
         ensures refused { OnErr result (self.new ≡ self.old) }
     {
+        let place = from.index();
         let list = L::vec_mut(&mut self.edges);
         let edge_index = list.len();
         list.push(Edge { from, label, to })?;
-        set_first::<L>(&mut self.states[from.0], edge_index);
+        set_first::<L>(&mut self.states[place], edge_index);
         Ok(())
     }
 
@@ -133,7 +120,7 @@ impl Nfa {
         requires is_state { from < length self.now.kinds }
         ensures kind { slice_get self.now.kinds from ≡ Some result }
     {
-        self.states[from.0].kind
+        self.states[from.index()].kind
     }
 
     /// Whether a word that leads to the state matches.
@@ -156,7 +143,7 @@ impl Nfa {
     pub fn contains_state(&self, index: NfaStateIndex) -> bool
         ensures answer { IsTrue result ↔ (index < length self.now.kinds) }
     {
-        index.0 < self.states.len()
+        index.index() < self.states.len()
     }
 
     /// The number of states.

@@ -50,9 +50,10 @@ impl StateSet {
         ensures grown { OnOk result (IsGrown self.old self.new (λ q. q ≡ state)) }
         ensures refused { OnErr result (self.new ≡ self.old) }
     {
-        if state.0 < self.marks.len() && !self.marks[state.0] {
+        let place = state.index();
+        if place < self.marks.len() && !self.marks[place] {
             self.states.push(state)?;
-            self.marks[state.0] = true;
+            self.marks[place] = true;
         }
         Ok(())
     }

@@ -5,7 +5,7 @@ ghost use Rattle.lalrpop_dfa.specs.Stored.{EndBefore};
 ghost use Rattle.lalrpop_verdicts.specs.Internal.Pairs.{ArePairs, ends_at, is_character, number_of, AreEdges, AreMet, IsAdded, IsLastCharacter, IsNextCharacter, IsTaken, IsTurn};
 
 use lalrpop_dfa::{Dfa, DfaStateIndex, Kind, START};
-use lalrpop_nfa::Test;
+use lalrpop_hir::Test;
 use std::alloc::{AllocError, Global};
 use std::collections::HashSet;
 

@@ -5,7 +5,7 @@ ghost use Rattle.lalrpop_verdicts.specs.Internal.Targets.{with_new};
 ghost use Rattle.lalrpop_verdicts.specs.Picture.{accepting_line, as_itself, code_text, dot, edge_line, edges_from, is_coded, is_live, is_live_at, label, name_character, name_text, range_text, ranges_to, row_edges, shortened, state_line, states_from, targets, title_line, value_text};
 
 use lalrpop_dfa::{Dfa, DfaStateIndex, Kind};
-use lalrpop_nfa::Test;
+use lalrpop_hir::Test;
 use std::alloc::{AllocError, Global};
 use std::fmt::Write;
 

@@ -9,7 +9,7 @@ ghost use Rattle.lalrpop_verdicts.specs.Internal.ClassRows.{AreClassRows, AreJoi
 
 use crate::classes::classes;
 use lalrpop_dfa::{Dfa, DfaStateIndex, ItemSet, Kind, RowWriter, Rows, START};
-use lalrpop_nfa::Test;
+use lalrpop_hir::Test;
 use std::alloc::{AllocError, Global};
 
 /// The smallest automaton that answers each word alike: after each word it accepts the same pattern as `dfa` does, or none

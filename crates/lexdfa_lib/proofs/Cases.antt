@@ -8,3 +8,6 @@ mod Answer
 mod Whole
 mod Arguments
 mod Streams
+mod Options
+mod Command
+mod Usage

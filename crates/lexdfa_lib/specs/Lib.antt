@@ -7,3 +7,9 @@ pub mod Answer
 pub mod Whole
 pub mod Arguments
 pub mod Streams
+-- the command line of `tokens`
+pub mod Options
+pub mod Command
+pub mod Usage
+-- what serves the proofs alone
+pub mod Internal

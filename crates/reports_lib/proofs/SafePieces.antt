@@ -8,7 +8,7 @@ use Rattle.lalrpop_rules.specs.declared.item.Item.{Item}
 use Rattle.lalrpop_rules.specs.declared.item.Item.TheVariants.{Token, Skipped, Fault}
 use Rattle.reports_lib.specs.ItemLines.{mode_named, piece_line, piece_lines}
 use Rattle.reports_lib.specs.Safe.{IsSafe}
-use Rattle.reports_lib.specs.declared.layout.LineForm.TheVariants.{Plain}
+use Rattle.lexdfa_lib.specs.declared.layout.LineForm.TheVariants.{Plain}
 use Rattle.reports_lib.proofs.SafeLaws.{safe_append, safe_nil}
 use Rattle.reports_lib.proofs.SafeMessages.{IsSafeIfSome, line_is_safe, name_is_safe}
 

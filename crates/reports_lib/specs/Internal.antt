@@ -1,4 +1,3 @@
 -- What private functions promise one another.
-pub mod Commas
 pub mod ModePlaces
 pub mod RuleNames

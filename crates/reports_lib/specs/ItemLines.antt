@@ -14,9 +14,9 @@ use Rattle.bajofeki_rules.specs.Stack.{Stack, start as first_stack}
 use Rattle.lalrpop_rules.specs.declared.item.Item.{Item}
 use Rattle.lalrpop_rules.specs.declared.item.Item.TheVariants.{Token, Skipped, Fault}
 use Rattle.bajofeki_rules.specs.Quoted.{quoted, told}
-use Rattle.reports_lib.specs.declared.layout.Layout.{Layout}
-use Rattle.reports_lib.specs.declared.layout.LineForm.{LineForm}
-use Rattle.reports_lib.specs.declared.layout.LineForm.TheVariants.{Plain, Json}
+use Rattle.lexdfa_lib.specs.declared.layout.Layout.{Layout}
+use Rattle.lexdfa_lib.specs.declared.layout.LineForm.{LineForm}
+use Rattle.lexdfa_lib.specs.declared.layout.LineForm.TheVariants.{Plain, Json}
 
 -- ---- a plain line
 
@@ -61,6 +61,14 @@ rule_member (Some name) = string_member (codes "rule") name
 abbrev pub mode_member : Option (List ℕ) → List json.Token
 mode_member None = []
 mode_member (Some mode) = string_member (codes "mode") mode
+
+-- what the object tells of
+abbrev pub kind_member : List ℕ → List json.Token
+kind_member kind = string_member (codes "kind") kind
+
+-- the line of an object with these members
+abbrev pub object_line : List json.Token → List ℕ
+object_line members = print (json.begin_object ∷ (members ++ json.end_object ∷ [])) ++ codes "\n"
 
 -- the object: where the piece begins, as a line, a column and an offset in bytes, where it ends, its rule, its mode and its slice, with U+FFFD
 -- for what isn't UTF-8

@@ -10,12 +10,11 @@ use Rattle.lalrpop_rule_file.specs.declared.part_line.PartLine.{PartLine}
 use Rattle.lalrpop_rule_file.specs.declared.warning.Warning.{Warning}
 use Rattle.lalrpop_rule_file.specs.declared.warning.Warning.TheVariants.{NoRules, PartUnused, ModeNotEntered, ModeNotLeft, TextGoesOn, ClassOutside, EndPassed}
 use Rattle.reports_lib.specs.Answer.{about, headed}
-use Rattle.reports_lib.specs.ItemLines.{name_at, number_member, string_member}
+use Rattle.reports_lib.specs.ItemLines.{name_at, number_member, string_member, kind_member, object_line}
 use Rattle.reports_lib.specs.ModePlace.{TellsSections}
 use Rattle.reports_lib.specs.Reasons.{place_at}
-use Rattle.reports_lib.specs.ReviewJson.{kind_member, object_line}
-use Rattle.reports_lib.specs.declared.layout.LineForm.{LineForm}
-use Rattle.reports_lib.specs.declared.layout.LineForm.TheVariants.{Plain, Json}
+use Rattle.lexdfa_lib.specs.declared.layout.LineForm.{LineForm}
+use Rattle.lexdfa_lib.specs.declared.layout.LineForm.TheVariants.{Plain, Json}
 
 -- ---- what a warning speaks of
 

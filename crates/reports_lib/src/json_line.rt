@@ -1,7 +1,8 @@
-//! The line of a piece as a JSON object.
-ghost use Rattle.std.specs.Prelude.{◌≡◌, ◌+◌, ◌≤◌, ◌∷◌, [], ◌++◌, codes, length, option_map, OnOk};
+//! The line of a piece as a JSON object, and members of any object.
+ghost use Rattle.std.specs.Prelude.{◌≡◌, ◌+◌, ◌≤◌, ◌∷◌, [], ◌++◌, codes, length, option_map, IfOk, OnOk};
 ghost use Rattle.std.specs.Str.Lossy.{utf8_lossy};
-ghost use Rattle.json.specs.Token.{key, string};
+ghost use Rattle.json.specs.Print.{print};
+ghost use Rattle.json.specs.Token.{begin_object, end_object, key, string};
 ghost use Rattle.reports_lib.specs.ItemLines.{number_member, string_member, file_member, rule_member, mode_member, object_of, json_line};
 
 use crate::shown::Shown;
@@ -15,7 +16,7 @@ use std::{mem, str};
 /// # Errors
 ///
 /// `AllocError` if a request for memory was refused.
-pub(crate) fn write_number(writer: &mut Writer, name: &str, number: usize) -> Result<(), AllocError>
+pub fn write_number(writer: &mut Writer, name: &str, number: usize) -> Result<(), AllocError>
     ensures tokens { OnOk result (writer.new.tokens
         ≡ writer.old.tokens ++ number_member name.now number) }
     ensures before { writer.new.before ≡ writer.old.before }
@@ -29,7 +30,7 @@ pub(crate) fn write_number(writer: &mut Writer, name: &str, number: usize) -> Re
 /// # Errors
 ///
 /// `AllocError` if a request for memory was refused.
-pub(crate) fn write_string(writer: &mut Writer, name: &str, text: &str) -> Result<(), AllocError>
+pub fn write_string(writer: &mut Writer, name: &str, text: &str) -> Result<(), AllocError>
     ensures tokens { OnOk result (writer.new.tokens
         ≡ writer.old.tokens ++ string_member name.now text.now) }
     ensures before { writer.new.before ≡ writer.old.before }
@@ -68,7 +69,7 @@ fn write_rule(writer: &mut Writer, name: Option<&str>) -> Result<(), AllocError>
 /// # Errors
 ///
 /// `AllocError` if a request for memory was refused.
-pub(crate) fn write_mode(writer: &mut Writer, mode: Option<&str>) -> Result<(), AllocError>
+pub fn write_mode(writer: &mut Writer, mode: Option<&str>) -> Result<(), AllocError>
     ensures tokens { OnOk result (writer.new.tokens
         ≡ writer.old.tokens ++ mode_member (option_map (λ m. m.now) mode.entry)) }
     ensures before { writer.new.before ≡ writer.old.before }
@@ -164,4 +165,33 @@ pub fn push_json(
     all.push(b'\n')?;
     *lines = all;
     Ok(())
+}
+
+/// An object that is begun, on a line of its own.
+///
+/// # Errors
+///
+/// `AllocError` if a request for memory was refused.
+pub fn begun_object(alloc: Global) -> Result<Writer, AllocError>
+    ensures tokens { IfOk result (λ writer. writer.tokens ≡ begin_object ∷ []) }
+    ensures before { IfOk result (λ writer. writer.before ≡ []) }
+{
+    let mut writer = Writer::new(Vec::new(alloc));
+    writer.begin_object()?;
+    Ok(writer)
+}
+
+/// Ends the object and its line.
+///
+/// # Errors
+///
+/// `AllocError` if a request for memory was refused.
+pub fn ended_line(mut writer: Writer) -> Result<Vec<u8>, AllocError>
+    ensures { IfOk result (λ line. line.items
+        ≡ writer.before ++ (print (writer.tokens ++ end_object ∷ []) ++ codes "\n")) }
+{
+    writer.end_object()?;
+    let mut line = writer.into_inner();
+    line.push(b'\n')?;
+    Ok(line)
 }

@@ -1,10 +1,9 @@
-//! What `tokens` says of rules: why they make no lexer, their clashes, their review, what differs, and the lines of pieces.
+//! What `tokens` says of rules: why they make no lexer, their clashes, the warnings about them, and the lines of pieces.
 #![tactic(auto)]
 
-mod compared;
+mod by_rules;
 mod file_lexer;
 mod json_line;
-mod layout;
 mod messages;
 mod mode_file;
 mod mode_place;
@@ -14,24 +13,24 @@ mod plain_line;
 mod reasons;
 mod reply;
 mod reported_file;
-mod review_json;
-mod review_lines;
 mod rule_explain;
 mod shown;
 mod shown_line;
 mod warning_json;
 mod warnings;
 
-pub use compared::{difference_reply, push_token};
-pub use file_lexer::{FileLexer, with_names};
-pub use json_line::push_json;
-pub use layout::{Layout, LineForm};
+pub use by_rules::{
+    NO_TEXT, WarnedLexer, lexer_by_name, line_refused, rules_refused, unread, warnings_said,
+};
+pub use file_lexer::{FileLexer, mode_name, mode_named, name_of, with_names};
+pub use json_line::{begun_object, ended_line, push_json, write_mode, write_number, write_string};
+pub use lexdfa_lib::{Layout, LineForm};
 pub use messages::{about, bad_line_message, headed, rules_message};
 pub use mode_file::ModeFile;
 pub use named_clashes::clash_lines;
 pub use plain_line::{push_byte, push_plain};
 pub use reply::Reply;
-pub use review_lines::{clash_report, has_findings, review_text};
+pub use reported_file::ReportedFile;
 pub use rule_explain::{bad_line_explained, rules_explained};
 pub use shown::Shown;
 pub use warning_json::warnings_json;

@@ -13,8 +13,16 @@ use std::marker::Model;
 pub(crate) const NO_PLACE: Position = Position { line: 1, column: 1 };
 
 /// What a report says of a file of rules.
+///
+/// ```
+/// use lalrpop_lexer::lexer::dfa::NfaIndex;
+/// use reports_lib::ReportedFile;
+///
+/// let reported = ReportedFile::new("my.rules", &file.modes, &file.rules, &file.places);
+/// let place = reported.place(NfaIndex::new(0)); // where the text of the first rule begins
+/// ```
 #[derive(Debug, Drop)]
-pub(crate) struct ReportedFile<'text> {
+pub struct ReportedFile<'text> {
     /// The name of the file.
     pub file: &'text str,
     /// The names of the modes, in order.

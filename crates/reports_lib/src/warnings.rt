@@ -6,7 +6,7 @@ ghost use Rattle.reports_lib.specs.ItemLines.{name_at};
 ghost use Rattle.reports_lib.specs.Reasons.{place_at};
 ghost use Rattle.reports_lib.specs.Warned.{SaysWarnings, text_place as text_place_of, warned_at, warned_of, warning_line};
 ghost use Rattle.reports_lib.specs.Internal.ModePlaces.{section_at};
-ghost use Rattle.reports_lib.specs.declared.layout.LineForm.TheVariants.{Plain};
+ghost use Rattle.lexdfa_lib.specs.declared.layout.LineForm.TheVariants.{Plain};
 
 use crate::mode_place::mode_place;
 use crate::reported_file::NO_PLACE;

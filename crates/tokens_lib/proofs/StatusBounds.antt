@@ -10,28 +10,28 @@ use Rattle.lalrpop_rules.specs.declared.error.RulesError.TheVariants as errors
 use Rattle.bajofeki_rules.specs.declared.mode_rule.ModeRule.{ModeRule}
 use Rattle.lexdfa_lib.specs.Streams.{Given, Reading, Stream, GivesWhole}
 use Rattle.reports_lib.specs.Answer.{Answer, remark}
-use Rattle.reports_lib.specs.Compared.{DifferenceAnswer, text_status}
-use Rattle.reports_lib.specs.ReviewLines.{has_findings}
-use Rattle.reports_lib.specs.declared.layout.LineForm.{LineForm}
-use Rattle.reports_lib.specs.declared.layout.LineForm.TheVariants.{Plain, Json}
-use Rattle.tokens_lib.specs.FileAnswers.{BytesAnswer, shown_name, ReadingAnswer, NumberedAnswer, FilesAnswer, cut_files, TextsAnswer}
-use Rattle.tokens_lib.specs.Checked.{CheckAnswer, finding}
+use Rattle.reviews_lib.specs.Compared.{DifferenceAnswer, text_status, ComparedAnswer, other_of}
+use Rattle.reviews_lib.specs.ReviewLines.{has_findings}
+use Rattle.lexdfa_lib.specs.declared.layout.LineForm.{LineForm}
+use Rattle.lexdfa_lib.specs.declared.layout.LineForm.TheVariants.{Plain, Json}
+use Rattle.reports_lib.specs.NamedRules.{BytesAnswer, rules_status, RulesTold, RulesOf, LexerOf, clashes_status, ClashesAnswer}
+use Rattle.pieces_lib.specs.FileAnswers.{shown_name, ReadingAnswer, NumberedAnswer, FilesAnswer, cut_files, TextsAnswer}
+use Rattle.reviews_lib.specs.Checked.{CheckAnswer, finding}
 use Rattle.tokens_lib.specs.Emitted.{SourceAnswer}
-use Rattle.tokens_lib.specs.Pictured.{PictureAnswer}
-use Rattle.tokens_lib.specs.NamedRules.{rules_status, RulesTold, RulesOf, LexerOf, clashes_status, ClashesAnswer}
-use Rattle.tokens_lib.specs.Program.{ActionAnswer, CommandAnswer, ComparedAnswer, other_of}
-use Rattle.tokens_lib.specs.Progress.{total_said}
-use Rattle.tokens_lib.specs.TextAnswer.{cut_status, CutAnswer, lines_of, page_of, PiecesAnswer, PiecesPart, PageAnswer, PagePart}
-use Rattle.tokens_lib.specs.declared.command.Command.{Command}
-use Rattle.tokens_lib.specs.declared.command.Language.{Language}
-use Rattle.tokens_lib.specs.declared.command.Markup.{Markup}
-use Rattle.tokens_lib.specs.declared.cut_end.CutEnd.{CutEnd}
-use Rattle.tokens_lib.specs.declared.cut_end.CutEnd.TheVariants.{Whole, Stopped, Unread}
+use Rattle.reviews_lib.specs.Pictured.{PictureAnswer}
+use Rattle.tokens_lib.specs.Program.{ActionAnswer, CommandAnswer}
+use Rattle.pieces_lib.specs.Progress.{total_said}
+use Rattle.pieces_lib.specs.TextAnswer.{cut_status, CutAnswer, lines_of, page_of, PiecesAnswer, PiecesPart, PageAnswer, PagePart}
+use Rattle.lexdfa_lib.specs.declared.command.Command.{Command}
+use Rattle.lexdfa_lib.specs.declared.command.Language.{Language}
+use Rattle.lexdfa_lib.specs.declared.command.Markup.{Markup}
+use Rattle.pieces_lib.specs.declared.cut_end.CutEnd.{CutEnd}
+use Rattle.pieces_lib.specs.declared.cut_end.CutEnd.TheVariants.{Whole, Stopped, Unread}
 use Rattle.lalrpop_rules.specs.declared.item.Item.{Item}
-use Rattle.tokens_lib.specs.declared.command.Action.{Action}
-use Rattle.tokens_lib.specs.declared.command.Action.TheVariants.{Cut, Show, Clashes, Emit, Picture, Check, Difference}
-use Rattle.tokens_lib.specs.declared.command.Command.TheVariants.{Help, Version, Run}
-use Rattle.tokens_lib.specs.declared.command.Verbosity.{Verbosity}
+use Rattle.lexdfa_lib.specs.declared.command.Action.{Action}
+use Rattle.lexdfa_lib.specs.declared.command.Action.TheVariants.{Cut, Show, Clashes, Emit, Picture, Check, Difference}
+use Rattle.lexdfa_lib.specs.declared.command.Command.TheVariants.{Help, Version, Run}
+use Rattle.lexdfa_lib.specs.declared.command.Verbosity.{Verbosity}
 
 abbrev IsLow : Answer → Type 0
 IsLow answer = answer.status ≤ 6

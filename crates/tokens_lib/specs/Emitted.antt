@@ -11,8 +11,8 @@ use Rattle.lalrpop_emit.specs.declared.error.EmitError.{EmitError}
 use Rattle.lalrpop_emit.specs.declared.error.EmitError.TheVariants as error
 use Rattle.lalrpop_rules.specs.Modes.{ModeRules}
 use Rattle.reports_lib.specs.Answer.{Answer, refusal, about}
-use Rattle.tokens_lib.specs.declared.command.Language.{Language}
-use Rattle.tokens_lib.specs.declared.command.Language.TheVariants.{C, Rust}
+use Rattle.lexdfa_lib.specs.declared.command.Language.{Language}
+use Rattle.lexdfa_lib.specs.declared.command.Language.TheVariants.{C, Rust}
 
 -- what the names of a lexer in C begin with
 abbrev pub prefix_of : Option (Bor (List ℕ)) → List ℕ

@@ -1,48 +1,34 @@
 -- cases: proofs/Cases/Program.antt
 -- The answer of the whole program, for its arguments, what the files give and what standard input gives.
-use Rattle.std.specs.Prelude.{◌≡◌, ℕ, ◌⊎◌, nat_lt, Bool, true, false, List, [], length, map, slice_get, unwrap_or, Result, Ok, Err, codes}
-use Rattle.lalrpop_rules.specs.Modes.{ModeRules}
+use Rattle.std.specs.Prelude.{◌≡◌, ℕ, ◌⊎◌, nat_lt, Bool, true, false, List, [], length, map, slice_get, Result, Ok, Err, codes}
 use Rattle.lexdfa_lib.specs.Ending.{ending_status}
 use Rattle.lexdfa_lib.specs.declared.ending.Failure.{Failure}
 use Rattle.lexdfa_lib.specs.declared.ending.Failure.TheVariants.{Usage, Run as Failing}
 use Rattle.lexdfa_lib.specs.declared.error.RunError.TheVariants as run_errors
 use Rattle.lexdfa_lib.specs.Streams.{Given, GivesWhole, Reading, Stream}
 use Rattle.reports_lib.specs.Answer.{Answer, silence, refusal, remark, followed}
-use Rattle.reports_lib.specs.Compared.{DifferenceAnswer}
-use Rattle.tokens_lib.specs.Console.{Begins}
-use Rattle.tokens_lib.specs.FileAnswers.{BytesAnswer, TextsAnswer, FirstTextsAnswer}
-use Rattle.tokens_lib.specs.Arguments.{joined, options, names}
-use Rattle.tokens_lib.specs.Checked.{CheckAnswer, finding}
-use Rattle.tokens_lib.specs.Command.{IsCommand, IsArgumentsError}
+use Rattle.reviews_lib.specs.Compared.{ComparedAnswer, other_of}
+use Rattle.pieces_lib.specs.Console.{Begins}
+use Rattle.reports_lib.specs.NamedRules.{BytesAnswer, ByLexer, RulesTold, RulesOf, ClashesAnswer}
+use Rattle.pieces_lib.specs.FileAnswers.{TextsAnswer, FirstTextsAnswer}
+use Rattle.lexdfa_lib.specs.Options.{joined, options, names}
+use Rattle.reviews_lib.specs.Checked.{CheckAnswer, finding}
+use Rattle.lexdfa_lib.specs.Command.{IsCommand, IsArgumentsError}
 use Rattle.tokens_lib.specs.Emitted.{SourceAnswer}
-use Rattle.tokens_lib.specs.Pictured.{PictureAnswer}
-use Rattle.tokens_lib.specs.Progress.{reading_text}
-use Rattle.tokens_lib.specs.NamedRules.{RulesTold, RulesOf, LexerOf, ClashesAnswer}
-use Rattle.tokens_lib.specs.TextAnswer.{PiecesAnswer, PiecesPart, PageAnswer, PagePart}
-use Rattle.tokens_lib.specs.Usage.{help, version, wrong_text}
-use Rattle.tokens_lib.specs.declared.command.Action.{Action}
-use Rattle.tokens_lib.specs.declared.command.Action.TheVariants.{Cut, Show, Clashes, Emit, Picture, Check, Difference}
-use Rattle.tokens_lib.specs.declared.command.ArgumentsError.{ArgumentsError}
-use Rattle.tokens_lib.specs.declared.command.Command.{Command}
-use Rattle.tokens_lib.specs.declared.command.Command.TheVariants.{Help, Version, Run}
-use Rattle.tokens_lib.specs.declared.command.Verbosity.{Verbosity}
+use Rattle.reviews_lib.specs.Pictured.{PictureAnswer}
+use Rattle.pieces_lib.specs.Progress.{reading_text}
+use Rattle.pieces_lib.specs.TextAnswer.{PiecesAnswer, PiecesPart, PageAnswer, PagePart}
+use Rattle.lexdfa_lib.specs.Usage.{help, version, wrong_text}
+use Rattle.lexdfa_lib.specs.declared.command.Action.{Action}
+use Rattle.lexdfa_lib.specs.declared.command.Action.TheVariants.{Cut, Show, Clashes, Emit, Picture, Check, Difference}
+use Rattle.lexdfa_lib.specs.declared.command.ArgumentsError.{ArgumentsError}
+use Rattle.lexdfa_lib.specs.declared.command.Command.{Command}
+use Rattle.lexdfa_lib.specs.declared.command.Command.TheVariants.{Help, Version, Run}
+use Rattle.lexdfa_lib.specs.declared.command.Verbosity.{Verbosity}
 
 -- only something that was asked for is written
 abbrev pub information : List ℕ → Answer
 information out = record { status = 0; out = out; err = [] }
-
--- the other file of rules: the first that is named after RULES
-abbrev pub other_of : List (List ℕ) → List ℕ
-other_of files = unwrap_or (slice_get files 0) []
-
--- these rules are compared with those of the other file
-abbrev pub ComparedAnswer : (List ℕ → Given → Type 0) → Verbosity → List ℕ → ModeRules → List (List ℕ) → List ℕ → Answer → Type 0
-ComparedAnswer Gives verbosity rules r modes other answer =
-    BytesAnswer Gives (RulesOf verbosity (LexerOf (λ s others. DifferenceAnswer rules r modes other s others))) other answer
-
--- the answer by the lexer of a file of rules, after the warnings about it
-abbrev pub ByLexer : (List ℕ → Given → Type 0) → Verbosity → (ModeRules → List (List ℕ) → Answer → Type 0) → List ℕ → Answer → Type 0
-ByLexer Gives verbosity IsFor rules answer = BytesAnswer Gives (RulesOf verbosity (LexerOf IsFor)) rules answer
 
 -- the answer for an action by a file of rules that cuts no text
 abbrev pub ReplyAnswer : (List ℕ → Given → Type 0) → Verbosity → Action → List ℕ → List (List ℕ) → Answer → Type 0

@@ -3,15 +3,13 @@ ghost use Rattle.std.specs.Prelude.{◌≡◌, ◌≢◌, string_bytes, IfOk, On
 ghost use Rattle.lalrpop_emit.specs.NumberedRules.{AreNumbersOf, NumberedRules};
 ghost use Rattle.lexdfa_lib.specs.Streams.{GivesWhole};
 ghost use Rattle.reports_lib.specs.Answer.{about, refusal};
-ghost use Rattle.tokens_lib.specs.Program.{ByLexer};
+ghost use Rattle.reports_lib.specs.NamedRules.{ByLexer};
 ghost use Rattle.tokens_lib.specs.Emitted.{IsFileError, IsNoSource, SourceAnswer, error_reason, prefix_of, source_file};
 
-use crate::by_rules::lexer_by_name;
-use crate::command::{Language, Verbosity};
 use lalrpop_emit::{EmitError, LexerNumbers, c_source, rust_source};
 use lalrpop_rules::RuleLexer;
-use lexdfa_lib::Files;
-use reports_lib::{Reply, about};
+use lexdfa_lib::{Files, Language, Verbosity};
+use reports_lib::{Reply, about, lexer_by_name};
 use std::alloc::{AllocError, Global};
 
 // The status of rules that can't be written.

@@ -4,30 +4,22 @@ ghost use Rattle.std.specs.Process.{exit_status};
 ghost use Rattle.lexdfa_lib.specs.Ending.{ending_status};
 ghost use Rattle.lexdfa_lib.specs.Streams.{GivesWhole, IsTold};
 ghost use Rattle.reports_lib.specs.Answer.{refusal};
-ghost use Rattle.tokens_lib.specs.Console.{Answers, Begins, Fails};
-ghost use Rattle.tokens_lib.specs.FileAnswers.{TextsAnswer, FirstTextsAnswer};
-ghost use Rattle.tokens_lib.specs.Program.{ActionAnswer, ByLexer, CommandAnswer, IsAnswer, IsFirstAnswer, ending, failure_text, information};
-ghost use Rattle.tokens_lib.specs.TextAnswer.{PiecesAnswer, PiecesPart, PageAnswer, PagePart};
-ghost use Rattle.tokens_lib.specs.Usage.{help, version, wrong_text};
+ghost use Rattle.pieces_lib.specs.Console.{Answers, Begins, Fails};
+ghost use Rattle.pieces_lib.specs.FileAnswers.{TextsAnswer, FirstTextsAnswer};
+ghost use Rattle.tokens_lib.specs.Program.{ActionAnswer, CommandAnswer, IsAnswer, IsFirstAnswer, ending, failure_text, information};
+ghost use Rattle.reports_lib.specs.NamedRules.{ByLexer};
+ghost use Rattle.pieces_lib.specs.TextAnswer.{PiecesAnswer, PiecesPart, PageAnswer, PagePart};
+ghost use Rattle.lexdfa_lib.specs.Usage.{help, version, wrong_text};
 
-use crate::arguments::joined;
-use crate::by_rules::lexer_by_name;
-use crate::command::{
-    Action, ArgumentsError, Command, Markup, Verbosity, WRONG_ARGUMENTS, command_of,
-};
-use crate::console::Console;
-use crate::cut_files::{Task, cut_all};
-use crate::differing::compare;
 use crate::emitted::emit;
-use crate::listing::{Listing, list_rules};
-use crate::pictured::draw;
-use crate::progress::reading_message;
-use crate::usage::{help, version, wrong_text};
 use lexdfa_lib::{
-    ErrorStream, Failure, Files, Output, Reader, RunError, Sink, Source, System, SystemFiles,
-    Writer, flushed, status_of, without_arguments,
+    Action, ArgumentsError, Command, ErrorStream, Failure, Files, Markup, Output, Reader, RunError,
+    Sink, Source, System, SystemFiles, Verbosity, WRONG_ARGUMENTS, Writer, command_of, flushed,
+    help, joined, status_of, version, without_arguments, wrong_text,
 };
-use reports_lib::{LineForm, Reply};
+use pieces_lib::{Console, Task, cut_all, reading_message};
+use reports_lib::{LineForm, Reply, lexer_by_name};
+use reviews_lib::{Listing, compare, draw, list_rules};
 use std::alloc::{AllocError, Global};
 use std::env;
 use std::io::{self, Eprint, Write};

@@ -6,7 +6,7 @@ ghost use Rattle.lalrpop_hir.specs.Clash.{NoClash};
 ghost use Rattle.lalrpop_build.specs.Items.{HoldsItems, OthersReject, IsInWordOrder};
 ghost use Rattle.lalrpop_hir.specs.Report.{NoFault, IsReport};
 ghost use Rattle.lalrpop_hir.specs.declared.error.DfaConstructionError.TheVariants.{OutOfMemory};
-ghost use Rattle.lalrpop_dfa.specs.Automata.{AreCompiled};
+ghost use Rattle.lalrpop_nfa.specs.Automata.{AreCompiled};
 ghost use Rattle.lalrpop_nfa.specs.Graph.{Graph};
 ghost use Rattle.lalrpop_dfa.specs.Counts.{state_bound};
 ghost use Rattle.lalrpop_dfa.specs.Dfa.{RecognizesAll};

@@ -66,7 +66,7 @@ pub fn state_count(alloc: Global, regex: &Regex) -> Result<usize, NfaConstructio
 
 // Needs lalrpop_nfa::Nfa::kind: kind.
 // Needs lalrpop_nfa::Nfa::contains_state: answer.
-// Needs lalrpop_nfa::NfaStateIndex::new: value.
+// Needs lalrpop_hir::NfaStateIndex::new: value.
 /// What the state with this number is for, if there is one.
 pub fn kind_of(nfa: &Nfa, number: usize) -> Option<StateKind>
     ensures { result ≡ slice_get nfa.now.kinds number }
@@ -99,7 +99,7 @@ pub fn is_decided(nfa: &Nfa, state: NfaStateIndex) -> Option<bool>
     }
 }
 
-// Needs lalrpop_nfa::NfaStateIndex::index: value.
+// Needs lalrpop_hir::NfaStateIndex::index: value.
 /// The state with the next number.
 pub fn state_after(state: NfaStateIndex) -> NfaStateIndex
     requires { state + 1 < 2 ^ 64 }

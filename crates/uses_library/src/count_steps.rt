@@ -2,9 +2,9 @@
 
 ghost use Rattle.std.specs.Prelude.{◌≡◌, ◌+◌, length};
 
-use lalrpop_nfa::Steps;
+use lalrpop_hir::Steps;
 
-// Needs lalrpop_nfa::Steps::tick: counted.
+// Needs lalrpop_hir::Steps::tick: counted.
 /// Counts a step for each value of the word.
 pub fn count_values(word: &[u32], steps: &mut Steps)
     ensures { steps.new ≡ steps.old + length word.now }
@@ -14,7 +14,7 @@ pub fn count_values(word: &[u32], steps: &mut Steps)
     }
 }
 
-// Needs lalrpop_nfa::Steps::new: value.
+// Needs lalrpop_hir::Steps::new: value.
 /// A counter of the values of the word.
 pub fn counted(word: &[u32]) -> Steps
     ensures { result ≡ length word.now }

@@ -12,8 +12,8 @@ ghost use Rattle.lalrpop_lexer.specs.Cutting.{rest_of, most_steps};
 ghost use Rattle.lalrpop_lexer.specs.Rules.{IsBuiltFrom};
 
 use lalrpop_dfa::NfaIndex;
+use lalrpop_hir::Steps;
 use lalrpop_lexer::{Lexer, Tokens};
-use lalrpop_nfa::Steps;
 use std::alloc::{AllocError, Global};
 
 // Needs lalrpop_lexer::Lexer::tokens: cost.

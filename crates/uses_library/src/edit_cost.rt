@@ -5,7 +5,7 @@ ghost use Rattle.lalrpop_rules.specs.ModeCut.{open_in_all};
 ghost use Rattle.bajofeki.specs.Lexed.{ReadsTo};
 
 use bajofeki::{Document, EditError};
-use lalrpop_nfa::Steps;
+use lalrpop_hir::Steps;
 use lalrpop_rules::RuleLexer;
 use std::alloc::Global;
 use std::ops::Range;

@@ -12,8 +12,8 @@ ghost use Rattle.lalrpop_dfa.specs.Dfa.{Recognizes};
 
 use lalrpop_dense::DenseDfa;
 use lalrpop_dfa::NfaIndex;
+use lalrpop_hir::Steps;
 use lalrpop_lexer::LinearMatches;
-use lalrpop_nfa::Steps;
 use std::alloc::{AllocError, Global};
 
 // Needs lalrpop_lexer::LinearMatches::new: start.

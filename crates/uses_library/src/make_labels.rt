@@ -2,14 +2,13 @@
 
 ghost use Rattle.std.specs.Prelude.{◌≡◌, ◌≢◌, ◌↔◌, ◌+◌, ◌-◌, ◌<◌, ◌≤◌, ◌^◌, ◌⊎◌, IsTrue, IfSome, IfNone};
 ghost use Rattle.lalrpop_hir.specs.Range.{Covers};
-ghost use Rattle.lalrpop_nfa.specs.Meet.{Meet};
+ghost use Rattle.lalrpop_hir.specs.Meet.{Meet};
 
-use lalrpop_hir::{ClassBytesRange, ClassUnicodeRange};
-use lalrpop_nfa::Test;
+use lalrpop_hir::{ClassBytesRange, ClassUnicodeRange, Test};
 
-// Needs lalrpop_nfa::Test::new: value.
-// Needs lalrpop_nfa::Test::start: value.
-// Needs lalrpop_nfa::Test::end: value.
+// Needs lalrpop_hir::Test::new: value.
+// Needs lalrpop_hir::Test::start: value.
+// Needs lalrpop_hir::Test::end: value.
 /// The values of the range, each increased by `by`.
 pub fn raised(range: &Test, by: u32) -> Test
     requires start { range.now.start + by < 2 ^ 32 }
@@ -19,7 +18,7 @@ pub fn raised(range: &Test, by: u32) -> Test
     Test::new(range.start() + by..=range.end() + by)
 }
 
-// Needs lalrpop_nfa::Test::char: value.
+// Needs lalrpop_hir::Test::char: value.
 /// The labels of a letter in both cases.
 pub fn in_both_cases(lower: char, upper: char) -> (Test, Test)
     ensures lower { result.0 ≡ record { start = lower; end = lower } }
@@ -28,8 +27,8 @@ pub fn in_both_cases(lower: char, upper: char) -> (Test, Test)
     (Test::char(lower), Test::char(upper))
 }
 
-// Needs lalrpop_nfa::Test::byte: value.
-// Needs lalrpop_nfa::Test::inclusive_byte_range: value.
+// Needs lalrpop_hir::Test::byte: value.
+// Needs lalrpop_hir::Test::inclusive_byte_range: value.
 /// The label of a byte that marks the bytes after it, and the label of those bytes.
 pub fn marked_bytes(mark: u8, first: u8, last: u8) -> (Test, Test)
     ensures mark { result.0 ≡ record { start = mark; end = mark } }
@@ -38,8 +37,8 @@ pub fn marked_bytes(mark: u8, first: u8, last: u8) -> (Test, Test)
     (Test::byte(mark), Test::inclusive_byte_range(first, last))
 }
 
-// Needs lalrpop_nfa::Test::exclusive_range: value.
-// Needs lalrpop_nfa::Test::inclusive_range: value.
+// Needs lalrpop_hir::Test::exclusive_range: value.
+// Needs lalrpop_hir::Test::inclusive_range: value.
 /// The characters before the middle, and those from it on.
 pub fn halves(first: char, middle: char, last: char) -> (Test, Test)
     requires { 0 < middle }
@@ -52,7 +51,7 @@ pub fn halves(first: char, middle: char, last: char) -> (Test, Test)
     )
 }
 
-// Needs lalrpop_nfa::Test::from: ghost from_gives.
+// Needs lalrpop_hir::Test::from: ghost from_gives.
 /// The label of a range of characters of a class.
 pub fn label_of_characters(range: ClassUnicodeRange) -> Test
     ensures { result ≡ range }
@@ -60,7 +59,7 @@ pub fn label_of_characters(range: ClassUnicodeRange) -> Test
     Test::from(range)
 }
 
-// Needs lalrpop_nfa::Test::from: ghost from_gives.
+// Needs lalrpop_hir::Test::from: ghost from_gives.
 /// The label of a range of bytes of a class.
 pub fn label_of_bytes(range: ClassBytesRange) -> Test
     ensures { result ≡ range }
@@ -68,7 +67,7 @@ pub fn label_of_bytes(range: ClassBytesRange) -> Test
     range.into()
 }
 
-// Needs lalrpop_nfa::Test::is_char: answer.
+// Needs lalrpop_hir::Test::is_char: answer.
 /// The one value of a range that begins and ends with the same value.
 pub fn only_value(range: &Test) -> Option<u32>
     ensures one { IfSome result (λ value. range.now ≡ record { start = value; end = value }) }
@@ -81,7 +80,7 @@ pub fn only_value(range: &Test) -> Option<u32>
     }
 }
 
-// Needs lalrpop_nfa::Test::len: value.
+// Needs lalrpop_hir::Test::len: value.
 /// How many values two ranges have together, if they have none in common.
 pub fn total_len(left: &Test, right: &Test) -> u32
     requires left_ordered { left.now.start ≤ left.now.end }
@@ -93,7 +92,7 @@ pub fn total_len(left: &Test, right: &Test) -> u32
     left.len() + right.len()
 }
 
-// Needs lalrpop_nfa::Test::is_empty: answer.
+// Needs lalrpop_hir::Test::is_empty: answer.
 /// Whether the range has some value.
 pub fn has_a_value(range: &Test) -> bool
     ensures { IsTrue result ↔ (range.now.start ≤ range.now.end) }
@@ -101,7 +100,7 @@ pub fn has_a_value(range: &Test) -> bool
     !range.is_empty()
 }
 
-// Needs lalrpop_nfa::Test::contains_char: answer.
+// Needs lalrpop_hir::Test::contains_char: answer.
 /// Whether the character is in the first range and not in the second.
 pub fn is_left_by(range: &Test, without: &Test, c: char) -> bool
     ensures { IsTrue result ↔ (Covers range.now c × (¬ Covers without.now c)) }
@@ -109,7 +108,7 @@ pub fn is_left_by(range: &Test, without: &Test, c: char) -> bool
     range.contains_char(c) && !without.contains_char(c)
 }
 
-// Needs lalrpop_nfa::Test::contains_u32: answer.
+// Needs lalrpop_hir::Test::contains_u32: answer.
 /// Whether the value is in one of the ranges.
 pub fn is_in_either(left: &Test, right: &Test, value: u32) -> bool
     ensures { IsTrue result ↔ (Covers left.now value ⊎ Covers right.now value) }
@@ -117,7 +116,7 @@ pub fn is_in_either(left: &Test, right: &Test, value: u32) -> bool
     left.contains_u32(value) || right.contains_u32(value)
 }
 
-// Needs lalrpop_nfa::Test::is_disjoint: answer.
+// Needs lalrpop_hir::Test::is_disjoint: answer.
 /// Whether the ranges may be labels of two edges that leave one state.
 pub fn may_leave_one_state(left: &Test, right: &Test) -> bool
     ensures { IsTrue result ↔ (¬ Meet left.now right.now) }
@@ -125,7 +124,7 @@ pub fn may_leave_one_state(left: &Test, right: &Test) -> bool
     left.is_disjoint(right)
 }
 
-// Needs lalrpop_nfa::Test::intersects: answer.
+// Needs lalrpop_hir::Test::intersects: answer.
 /// Whether some value is in the first range and in the second, and some in the second and in the third.
 pub fn are_linked(first: &Test, second: &Test, third: &Test) -> bool
     ensures { IsTrue result ↔ (Meet first.now second.now × Meet second.now third.now) }

@@ -12,8 +12,7 @@ ghost use Rattle.lalrpop_hir.specs.Longest.{IsLongest};
 use lalrpop_dense::{DenseDfa, Matcher, TokenEnd, TokenEnds};
 use lalrpop_dfa::Dfa;
 use lalrpop_dfa::interpret::interpret;
-use lalrpop_hir::NfaIndex;
-use lalrpop_nfa::Steps;
+use lalrpop_hir::{NfaIndex, Steps};
 use std::alloc::{AllocError, Global};
 
 // Needs lalrpop_dense::DenseDfa::new: same.

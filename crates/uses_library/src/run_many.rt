@@ -12,8 +12,7 @@ ghost use Rattle.lalrpop_dfa.specs.Lookahead.{ReadsAtMost};
 
 use lalrpop_dfa::Dfa;
 use lalrpop_dfa::interpret::{interpret, interpret_counted, interpret_probed};
-use lalrpop_hir::NfaIndex;
-use lalrpop_nfa::Steps;
+use lalrpop_hir::{NfaIndex, Steps};
 
 // Needs lalrpop_dfa::interpret: answer, prefix.
 /// The longest match of the text, with the strongest pattern that matches it.

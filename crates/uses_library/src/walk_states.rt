@@ -8,7 +8,7 @@ ghost use Rattle.lalrpop_dfa.specs.SameAutomata.{same_state, same_automaton, IsS
 ghost use Rattle.lalrpop_dfa.specs.declared.Kind.TheVariants.{Reject};
 
 use lalrpop_dfa::{Dfa, DfaStateIndex, Kind, START, State};
-use lalrpop_nfa::Test;
+use lalrpop_hir::Test;
 use std::alloc::AllocError;
 
 // Needs lalrpop_dfa::Dfa::states: states, well_formed.

@@ -7,26 +7,26 @@ use Rattle.std.specs.Io.KnownBytes.{Consumes, IsAtEnd}
 use Rattle.lalrpop_rules.specs.Modes.{ModeRules}
 use Rattle.lexdfa_lib.specs.Streams.{EndsReading, GivesWhole, NotOpened, ReadEnd, Reading, Reads, Stream, opened}
 use Rattle.tokens_lib.specs.Answer.{Answer, followed, remark}
-use Rattle.tokens_lib.specs.Arguments.{joined, names, options}
-use Rattle.tokens_lib.specs.Command.{IsArgumentsError, IsCommand, IsFilesError, asks_help, asks_version, given, has, options_of, unknown, verbosity_of}
-use Rattle.tokens_lib.specs.FileAnswers.{BytesAnswer, ReadingAnswer, TextsAnswer}
-use Rattle.tokens_lib.specs.NamedRules.{LexerOf, RulesOf}
+use Rattle.lexdfa_lib.specs.Options.{joined, names, options}
+use Rattle.lexdfa_lib.specs.Command.{IsArgumentsError, IsCommand, IsFilesError, asks_help, asks_version, given, has, options_of, unknown, verbosity_of}
+use Rattle.reports_lib.specs.NamedRules.{BytesAnswer, LexerOf, RulesOf}
+use Rattle.pieces_lib.specs.FileAnswers.{ReadingAnswer, TextsAnswer}
 use Rattle.tokens_lib.specs.Program.{ActionAnswer, CommandAnswer, IsAnswer, WordsAnswer}
-use Rattle.tokens_lib.specs.Progress.{reading_text}
-use Rattle.tokens_lib.specs.TextAnswer.{PiecesAnswer, PiecesPart}
-use Rattle.reports_lib.specs.declared.layout.LineForm.{LineForm}
-use Rattle.reports_lib.specs.declared.layout.LineForm.TheVariants.{Plain, Json}
-use Rattle.tokens_lib.specs.declared.command.Action.{Action}
-use Rattle.tokens_lib.specs.declared.command.Action.TheVariants.{Cut, Show, Clashes, Emit, Picture, Check, Difference}
-use Rattle.tokens_lib.specs.declared.command.ArgumentsError.{ArgumentsError}
-use Rattle.tokens_lib.specs.declared.command.ArgumentsError.TheVariants.{Apart, NoFiles, NoOther, NoRules, OutOfMemory, Unknown}
-use Rattle.tokens_lib.specs.declared.command.Command.{Command}
-use Rattle.tokens_lib.specs.declared.command.Command.TheVariants.{Help, Version, Run}
-use Rattle.tokens_lib.specs.declared.command.Language.TheVariants.{C, Rust}
-use Rattle.tokens_lib.specs.declared.command.Markup.TheVariants.{Html, Ansi}
-use Rattle.tokens_lib.specs.declared.command.Verbosity.{Verbosity}
-use Rattle.tokens_lib.specs.declared.command.Verbosity.TheVariants.{Warnings}
-use Rattle.tokens_lib.proofs.AnswerLaws.{followed-silence, silence-followed}
+use Rattle.pieces_lib.specs.Progress.{reading_text}
+use Rattle.pieces_lib.specs.TextAnswer.{PiecesAnswer, PiecesPart}
+use Rattle.lexdfa_lib.specs.declared.layout.LineForm.{LineForm}
+use Rattle.lexdfa_lib.specs.declared.layout.LineForm.TheVariants.{Plain, Json}
+use Rattle.lexdfa_lib.specs.declared.command.Action.{Action}
+use Rattle.lexdfa_lib.specs.declared.command.Action.TheVariants.{Cut, Show, Clashes, Emit, Picture, Check, Difference}
+use Rattle.lexdfa_lib.specs.declared.command.ArgumentsError.{ArgumentsError}
+use Rattle.lexdfa_lib.specs.declared.command.ArgumentsError.TheVariants.{Apart, NoFiles, NoOther, NoRules, OutOfMemory, Unknown}
+use Rattle.lexdfa_lib.specs.declared.command.Command.{Command}
+use Rattle.lexdfa_lib.specs.declared.command.Command.TheVariants.{Help, Version, Run}
+use Rattle.lexdfa_lib.specs.declared.command.Language.TheVariants.{C, Rust}
+use Rattle.lexdfa_lib.specs.declared.command.Markup.TheVariants.{Html, Ansi}
+use Rattle.lexdfa_lib.specs.declared.command.Verbosity.{Verbosity}
+use Rattle.lexdfa_lib.specs.declared.command.Verbosity.TheVariants.{Warnings}
+use Rattle.reports_lib.proofs.AnswerLaws.{followed-silence, silence-followed}
 
 -- ---- no other action has these options
 

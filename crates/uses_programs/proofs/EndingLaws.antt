@@ -11,10 +11,10 @@ use Rattle.bajofeki_rules.specs.declared.rule.Rule.{Rule}
 use Rattle.lexdfa_lib.specs.Streams.{Reading, Reads, Stream, opened}
 use Rattle.reports_lib.specs.Answer.{Answer, followed, headed, refusal, remark}
 use Rattle.reports_lib.specs.Reasons.{SaysBadLine, SaysRules}
-use Rattle.reports_lib.specs.declared.layout.LineForm.{LineForm}
-use Rattle.tokens_lib.specs.NamedRules.{LexerOf, RulesOf, rules_status}
-use Rattle.tokens_lib.specs.TextAnswer.{PiecesAnswer}
-use Rattle.tokens_lib.specs.declared.command.Verbosity.TheVariants.{Warnings}
+use Rattle.lexdfa_lib.specs.declared.layout.LineForm.{LineForm}
+use Rattle.reports_lib.specs.NamedRules.{LexerOf, RulesOf, rules_status}
+use Rattle.pieces_lib.specs.TextAnswer.{PiecesAnswer}
+use Rattle.lexdfa_lib.specs.declared.command.Verbosity.TheVariants.{Warnings}
 use Rattle.uses_programs.proofs.TextEndingLaws.{CutsMemory, ends_so}
 use Rattle.uses_programs.proofs.BadLines.{IsSameError, no_rules, one_error}
 use Rattle.uses_programs.specs.Endings.{Alone, AreSound, Both, ByLexer, HasBadLine, IsBadLineAnswer, IsRefused, MakeNoLexer, RunEnds, Way, lines_in}

@@ -4,7 +4,7 @@ use Rattle.std.specs.Prelude.{Option}
 use Rattle.std.specs.Io.KnownBytes.{Appends}
 use Rattle.lexdfa_lib.specs.Streams.{IsToldBy, Stream, opened}
 use Rattle.tokens_lib.specs.Answer.{Answer}
-use Rattle.tokens_lib.specs.Console.{Answers, Console, Gives}
+use Rattle.pieces_lib.specs.Console.{Answers, Console, Gives}
 
 abbrev pub memory : Stream
 memory = opened (Some []) false

@@ -31,16 +31,16 @@ use Rattle.lalrpop_rules.proofs.CallerLaws.{starts_at}
 use Rattle.lexdfa_lib.specs.Streams.{AtEnd, EndsReading, ReadEnd, Reading, Reads, Stream, opened}
 use Rattle.reports_lib.specs.Answer.{Answer}
 use Rattle.reports_lib.specs.ItemLines.{fault_line, line_at, line_in, mode_named, name_at, piece_line, piece_lines}
-use Rattle.reports_lib.specs.declared.layout.LineForm.{LineForm}
-use Rattle.tokens_lib.specs.CutEnds.{AreGiven, IsCutTo, IsFound, IsFoundNext, first_fault}
-use Rattle.tokens_lib.specs.OpenModes.{open_after, open_behind, open_mode}
-use Rattle.tokens_lib.specs.TextAnswer.{PiecesAnswer, cut_status, cut_text, lines_of}
-use Rattle.tokens_lib.specs.declared.cut_end.CutEnd.{CutEnd}
-use Rattle.tokens_lib.specs.declared.cut_end.CutEnd.TheVariants.{Whole, Stopped, Unread}
-use Rattle.tokens_lib.specs.declared.cut_end.Found.{Found}
-use Rattle.tokens_lib.specs.declared.cut_end.Found.TheVariants.{Character, Byte}
-use Rattle.tokens_lib.specs.declared.cut_end.OpenMode.{OpenMode}
-use Rattle.tokens_lib.proofs.CutLaws.{place_stays, place_within}
+use Rattle.lexdfa_lib.specs.declared.layout.LineForm.{LineForm}
+use Rattle.pieces_lib.specs.CutEnds.{AreGiven, IsCutTo, IsFound, IsFoundNext, first_fault}
+use Rattle.pieces_lib.specs.OpenModes.{open_after, open_behind, open_mode}
+use Rattle.pieces_lib.specs.TextAnswer.{PiecesAnswer, cut_status, cut_text, lines_of}
+use Rattle.pieces_lib.specs.declared.cut_end.CutEnd.{CutEnd}
+use Rattle.pieces_lib.specs.declared.cut_end.CutEnd.TheVariants.{Whole, Stopped, Unread}
+use Rattle.pieces_lib.specs.declared.cut_end.Found.{Found}
+use Rattle.pieces_lib.specs.declared.cut_end.Found.TheVariants.{Character, Byte}
+use Rattle.pieces_lib.specs.declared.cut_end.OpenMode.{OpenMode}
+use Rattle.pieces_lib.proofs.CutLaws.{place_stays, place_within}
 use Rattle.uses_programs.specs.Endings.{AreAllPieces, TextEnds, Way, cut_answer, whole_end}
 
 -- ---- pieces that are the same

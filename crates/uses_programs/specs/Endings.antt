@@ -19,17 +19,17 @@ use Rattle.lalrpop_rules.specs.declared.item.Item.{Item}
 use Rattle.lalrpop_rules.specs.declared.item.Item.TheVariants.{Fault}
 use Rattle.reports_lib.specs.Answer.{Answer, followed, headed, refusal}
 use Rattle.reports_lib.specs.Reasons.{SaysRules, placed, syntax_text}
-use Rattle.reports_lib.specs.declared.layout.LineForm.{LineForm}
-use Rattle.reports_lib.specs.declared.layout.LineForm.TheVariants.{Plain}
-use Rattle.tokens_lib.specs.CutEnds.{IsFound, first_fault}
-use Rattle.tokens_lib.specs.NamedRules.{IsSetOf, SayRules, StandAt, rules_status}
-use Rattle.tokens_lib.specs.OpenModes.{open_behind, open_mode}
-use Rattle.tokens_lib.specs.TextAnswer.{cut_status, cut_text, fault_text, found_told, lines_of}
-use Rattle.tokens_lib.specs.WarningsSaid.{Warned}
-use Rattle.tokens_lib.specs.declared.command.Verbosity.TheVariants.{Warnings}
-use Rattle.tokens_lib.specs.declared.cut_end.CutEnd.TheVariants.{Whole}
-use Rattle.tokens_lib.specs.declared.cut_end.CutEnd.{CutEnd}
-use Rattle.tokens_lib.specs.declared.cut_end.Found.{Found}
+use Rattle.lexdfa_lib.specs.declared.layout.LineForm.{LineForm}
+use Rattle.lexdfa_lib.specs.declared.layout.LineForm.TheVariants.{Plain}
+use Rattle.pieces_lib.specs.CutEnds.{IsFound, first_fault}
+use Rattle.reports_lib.specs.NamedRules.{IsSetOf, SayRules, StandAt, rules_status}
+use Rattle.pieces_lib.specs.OpenModes.{open_behind, open_mode}
+use Rattle.pieces_lib.specs.TextAnswer.{cut_status, cut_text, fault_text, found_told, lines_of}
+use Rattle.reports_lib.specs.WarningsSaid.{Warned}
+use Rattle.lexdfa_lib.specs.declared.command.Verbosity.TheVariants.{Warnings}
+use Rattle.pieces_lib.specs.declared.cut_end.CutEnd.TheVariants.{Whole}
+use Rattle.pieces_lib.specs.declared.cut_end.CutEnd.{CutEnd}
+use Rattle.pieces_lib.specs.declared.cut_end.Found.{Found}
 use Rattle.uses_programs.specs.declared.run_tokens.Given.{Given}
 
 -- the lines of a file of rules, after a byte order mark

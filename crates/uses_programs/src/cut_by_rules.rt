@@ -3,11 +3,11 @@ ghost use Rattle.std.specs.Prelude.{◌≡◌, ◌≢◌, false, true, map, stri
 ghost use Rattle.lalrpop_rules.specs.ModeSet.{rules_of};
 ghost use Rattle.lalrpop_rules.specs.RuleSet.{names_of};
 ghost use Rattle.lexdfa_lib.specs.Streams.{Reading, Reads, Stream, opened};
-ghost use Rattle.tokens_lib.specs.Console.{Console as ConsoleValue};
+ghost use Rattle.pieces_lib.specs.Console.{Console as ConsoleValue};
 ghost use Rattle.tokens_lib.specs.ItemLines.{item_lines};
 ghost use Rattle.tokens_lib.specs.RuleClashes.{clash_lines as lines_of_clashes};
-ghost use Rattle.tokens_lib.specs.TextAnswer.{page_of};
-ghost use Rattle.tokens_lib.specs.Written.{WritesCut, WritesCutPart};
+ghost use Rattle.pieces_lib.specs.TextAnswer.{page_of};
+ghost use Rattle.pieces_lib.specs.Written.{WritesCut, WritesCutPart};
 
 use lalrpop_lexer::lexer::dfa::Clash;
 use lalrpop_rules::{ModeRule, RuleLexer};

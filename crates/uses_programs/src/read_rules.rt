@@ -1,8 +1,8 @@
 //! The program's arguments, and the program itself.
 ghost use Rattle.std.specs.Prelude.{◌≢◌, ◌≤◌, map, string_bytes, IfOk, IfErr};
 ghost use Rattle.std.specs.Process.{exit_status};
-ghost use Rattle.tokens_lib.specs.Arguments.{options, names};
-ghost use Rattle.tokens_lib.specs.Command.{IsCommand, IsArgumentsError};
+ghost use Rattle.lexdfa_lib.specs.Options.{options, names};
+ghost use Rattle.lexdfa_lib.specs.Command.{IsCommand, IsArgumentsError};
 
 use std::alloc::Global;
 use std::process::ExitCode;

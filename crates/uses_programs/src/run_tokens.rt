@@ -2,13 +2,13 @@
 ghost use Rattle.std.specs.Prelude.{◌≡◌, ◌≢◌, ◌≤◌, ◌⊎◌, ◌∷◌, ◌++◌, ℕ, List, [], Some, true, false, codes, map, string_bytes, IfOk, IfErr, IfSome};
 ghost use Rattle.lexdfa_lib.specs.Streams.{AtEnd, NotOpened, Reading, Reads, Stream, opened};
 ghost use Rattle.tokens_lib.specs.Answer.{Answer, followed, refusal};
-ghost use Rattle.tokens_lib.specs.Command.{options_of};
-ghost use Rattle.tokens_lib.specs.Console.{Answers, Fails};
-ghost use Rattle.tokens_lib.specs.NamedRules.{LexerOf, RulesOf};
+ghost use Rattle.lexdfa_lib.specs.Command.{options_of};
+ghost use Rattle.pieces_lib.specs.Console.{Answers, Fails};
+ghost use Rattle.reports_lib.specs.NamedRules.{LexerOf, RulesOf};
 ghost use Rattle.tokens_lib.specs.Program.{IsAnswer, IsFirstAnswer};
-ghost use Rattle.tokens_lib.specs.TextAnswer.{PiecesAnswer};
-ghost use Rattle.tokens_lib.specs.Usage.{wrong_text};
-ghost use Rattle.tokens_lib.specs.declared.command.ArgumentsError.TheVariants.{NoRules};
+ghost use Rattle.pieces_lib.specs.TextAnswer.{PiecesAnswer};
+ghost use Rattle.lexdfa_lib.specs.Usage.{wrong_text};
+ghost use Rattle.lexdfa_lib.specs.declared.command.ArgumentsError.TheVariants.{NoRules};
 
 use lexdfa_lib::RunError;
 use std::alloc::{AllocError, Global};

@@ -7,7 +7,7 @@ ghost use Rattle.lalrpop_rule_file.specs.declared.warning.Warning.TheVariants.{M
 ghost use Rattle.tokens_lib.specs.Answer.{headed};
 ghost use Rattle.tokens_lib.specs.Reasons.{SaysBadLine, place_at, placed, refusal_text};
 ghost use Rattle.tokens_lib.specs.ModePlace.{section_place};
-ghost use Rattle.tokens_lib.specs.ReviewJson.{object_line};
+ghost use Rattle.tokens_lib.specs.ItemLines.{object_line};
 ghost use Rattle.tokens_lib.specs.Warned.{AreWarnings, warning_members};
 
 use lalrpop_lexer::lexer::nfa::NfaConstructionError;

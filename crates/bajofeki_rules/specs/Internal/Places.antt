@@ -2,7 +2,7 @@
 use Rattle.std.specs.Prelude.{ℕ, ◌+◌, if◌then◌else◌}
 use Rattle.bajofeki_rules.specs.Position.{is_line_feed}
 use Rattle.bajofeki_rules.specs.declared.position.Position.{Position}
-use Rattle.bajofeki_rules.specs.Starts.{is_start}
+use Rattle.lalrpop_hir.specs.Starts.{is_start}
 
 -- a line feed ends the line, and any other character moves on by one column
 abbrev pub next_place : Position → ℕ → Position

@@ -6,7 +6,7 @@ use Rattle.lalrpop_hir.specs.Range.{Range, Covers}
 use Rattle.lalrpop_hir.specs.Tree.{Tree, class, unicode}
 use Rattle.lalrpop_hir.specs.Language.{Matches}
 use Rattle.lalrpop_nfa.specs.Graph.{Graph, Lists}
-use Rattle.lalrpop_nfa.specs.Meet.{Meet}
+use Rattle.lalrpop_hir.specs.Meet.{Meet}
 use Rattle.lalrpop_nfa.specs.Path.{noop, test, other, Path, here, epsilon, read, otherwise}
 use Rattle.lalrpop_nfa.specs.Compiled.{IsLabel, IsCompiled, HasFixedEdges}
 use Rattle.lalrpop_nfa.specs.declared.edge.Edge.{Edge}

@@ -15,7 +15,8 @@ use Rattle.lalrpop_nfa.specs.declared.edge.Other.{Other}
 use Rattle.lalrpop_nfa.specs.declared.edge.StateKind.TheVariants.{Accept, Reject as RejectState, Neither as NeitherState}
 use Rattle.lalrpop_nfa.specs.Partition.{IsPartition}
 use Rattle.lalrpop_dfa.specs.Dfa.{Row, after, run, step}
-use Rattle.lalrpop_dfa.specs.Automata.{Item, AreCompiled}
+use Rattle.lalrpop_nfa.specs.Automata.{AreCompiled}
+use Rattle.lalrpop_dfa.specs.Ascending.{Item}
 use Rattle.lalrpop_build.specs.Items.{IsReached, IsLeaving, HoldsItems, OthersReject, IsInWordOrder}
 use Rattle.lalrpop_dfa.specs.declared.Kind.TheVariants.{Accepts, Reject, Neither}
 use Rattle.lalrpop_dfa.proofs.Cases.Dfa.{between, automaton_of_a}

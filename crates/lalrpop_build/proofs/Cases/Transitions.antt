@@ -6,7 +6,7 @@ use Rattle.std.specs.declared.cmp.Ordering.TheVariants.{Less, Equal, Greater}
 use Rattle.lalrpop_hir.specs.Range.{Range}
 use Rattle.lalrpop_nfa.specs.Graph.{Graph}
 use Rattle.lalrpop_nfa.specs.Path.{test}
-use Rattle.lalrpop_dfa.specs.Automata.{Item}
+use Rattle.lalrpop_dfa.specs.Ascending.{Item}
 use Rattle.lalrpop_build.specs.Internal.Transitions.{transition_cmp, IsTransition, AreTransitions}
 use Rattle.lalrpop_build.specs.declared.transitions.Transition.{Transition}
 use Rattle.lalrpop_build.proofs.Cases.Given.{b_to_d, letter, nothing, automata, test_is}

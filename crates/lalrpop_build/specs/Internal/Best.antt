@@ -1,8 +1,8 @@
 -- The strongest of some trees, and the one that ties with it.
 use Rattle.std.specs.Prelude.{◌≡◌, ℕ, ◌<◌, ◌≤◌, ◌==◌, cond, nat_lt, List, [], map, slice_index, Option, Some, None, MatchOption}
 use Rattle.std.specs.List.{Contains, filter}
-use Rattle.lalrpop_dfa.specs.Automata.{Item}
-use Rattle.lalrpop_nfa.specs.Compiled.{accept_state}
+use Rattle.lalrpop_dfa.specs.Ascending.{Item}
+use Rattle.lalrpop_hir.specs.States.{accept_state}
 use Rattle.lalrpop_build.specs.declared.build.best.Best.{Best}
 
 -- the trees that a set accepts, in the order of its items

@@ -3,10 +3,10 @@ use Rattle.std.specs.Prelude.{◌≡◌, ℕ, ◌<◌, ◌≤◌, List, length, 
 use Rattle.std.specs.List.{Contains}
 use Rattle.lalrpop_hir.specs.Range.{Range, Covers}
 use Rattle.lalrpop_nfa.specs.Graph.{Graph}
-use Rattle.lalrpop_nfa.specs.Compiled.{accept_state}
+use Rattle.lalrpop_hir.specs.States.{accept_state}
 use Rattle.lalrpop_nfa.specs.Partition.{IsPartition}
 use Rattle.lalrpop_dfa.specs.Dfa.{Row}
-use Rattle.lalrpop_dfa.specs.Automata.{Item}
+use Rattle.lalrpop_dfa.specs.Ascending.{Item}
 use Rattle.lalrpop_build.specs.Items.{IsLeaving}
 use Rattle.lalrpop_build.specs.Internal.Subsets.{first_set_of, move, is_dead}
 use Rattle.lalrpop_build.specs.Internal.BreadthFirst.{Automaton, nth}

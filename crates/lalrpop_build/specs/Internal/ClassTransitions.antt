@@ -7,7 +7,7 @@ use Rattle.lalrpop_hir.specs.Range.{Range}
 use Rattle.lalrpop_nfa.specs.Graph.{Graph}
 use Rattle.lalrpop_build.specs.Internal.Alphabet.{Classes, LeadsBy, HasBoundaryAt, IsEndOf, IsInCell, IsFirstOf}
 use Rattle.lalrpop_build.specs.declared.alphabet.Cell.{Cell}
-use Rattle.lalrpop_dfa.specs.Automata.{Item}
+use Rattle.lalrpop_dfa.specs.Ascending.{Item}
 use Rattle.lalrpop_build.specs.Items.{IsLeaving}
 use Rattle.lalrpop_build.specs.declared.transitions.Transition.{Transition}
 use Rattle.lalrpop_build.specs.declared.build.scratch.Transitions.{Transitions}

@@ -5,7 +5,8 @@ use Rattle.std.specs.List.{Contains}
 use Rattle.lalrpop_hir.specs.Tree.{Tree}
 use Rattle.lalrpop_nfa.specs.Compiled.{HasFixedEdges}
 use Rattle.lalrpop_nfa.specs.Graph.{Graph}
-use Rattle.lalrpop_dfa.specs.Automata.{Item, AreCompiled}
+use Rattle.lalrpop_nfa.specs.Automata.{AreCompiled}
+use Rattle.lalrpop_dfa.specs.Ascending.{Item}
 
 -- the edges of ACCEPT, REJECT and START are the fixed ones in each automaton
 abbrev pub AreFixed : List Graph → Type 0

@@ -3,7 +3,7 @@ use Rattle.std.specs.Prelude.{◌≡◌, ℕ, ◌⊎◌, Bool, true, List, [], l
 use Rattle.std.specs.List.{Contains}
 use Rattle.lalrpop_nfa.specs.Graph.{Graph}
 use Rattle.lalrpop_nfa.specs.Partition.{IsPartition}
-use Rattle.lalrpop_dfa.specs.Automata.{Item}
+use Rattle.lalrpop_dfa.specs.Ascending.{Item}
 use Rattle.lalrpop_build.specs.Items.{IsLeaving}
 use Rattle.lalrpop_build.specs.Internal.Alphabet.{Classes, HasBoundary, IsInCell, IsSound}
 use Rattle.lalrpop_build.specs.declared.alphabet.Cell.{Cell}

@@ -3,8 +3,8 @@
 use Rattle.std.specs.Prelude.{ℕ, zero, suc, ◌+◌, Bool, ◌==◌, ◌&&◌, ◌||◌, nat_le, List, [], ◌∷◌, ◌++◌, length, map, filter, slice_index_or}
 use Rattle.std.specs.List.{list_any, list_all, flat_map}
 use Rattle.lalrpop_nfa.specs.Graph.{Graph}
-use Rattle.lalrpop_dfa.specs.Automata.{Item}
-use Rattle.lalrpop_nfa.specs.Compiled.{reject_state, start_state}
+use Rattle.lalrpop_dfa.specs.Ascending.{Item}
+use Rattle.lalrpop_hir.specs.States.{reject_state, start_state}
 
 -- an automaton without states
 abbrev pub no_graph : Graph

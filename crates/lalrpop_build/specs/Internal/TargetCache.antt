@@ -3,7 +3,7 @@ use Rattle.std.specs.Prelude.{◌≡◌, ℕ, ◌<◌, ◌⊎◌, List, length, 
 use Rattle.std.specs.List.{Contains}
 use Rattle.std.specs.BTreeMap.{BTreeMap, get}
 use Rattle.lalrpop_nfa.specs.Graph.{Graph}
-use Rattle.lalrpop_dfa.specs.Automata.{Item}
+use Rattle.lalrpop_dfa.specs.Ascending.{Item}
 use Rattle.lalrpop_build.specs.Internal.Expansion.{IsEdgeCache, IsClassCache, IsNumberOfEqual}
 use Rattle.lalrpop_build.specs.Internal.ClassTransitions.{transitions_cmp}
 use Rattle.lalrpop_build.specs.declared.build.target_cache.TargetCache.{TargetCache}

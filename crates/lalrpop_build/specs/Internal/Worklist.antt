@@ -2,8 +2,7 @@
 use Rattle.std.specs.Prelude.{◌≡◌, ℕ, suc, ◌+◌, ◌≤◌, ◌⊎◌, Bool, false, cond, List, [], ◌∷◌, length, map, slice_index_or}
 use Rattle.std.specs.List.{Contains, filter}
 use Rattle.lalrpop_nfa.specs.Graph.{Graph}
-use Rattle.lalrpop_dfa.specs.Automata.{Item}
-use Rattle.lalrpop_dfa.specs.Ascending.{AreAscendingItems}
+use Rattle.lalrpop_dfa.specs.Ascending.{Item, AreAscendingItems}
 use Rattle.lalrpop_build.specs.Internal.Subsets.{graph_at}
 use Rattle.lalrpop_nfa.specs.Walk.{leaves}
 

@@ -8,7 +8,7 @@ ghost use Rattle.lalrpop_build.specs.Internal.Grouped.{HasLabel, AreBoundaries};
 ghost use Rattle.lalrpop_build.specs.Internal.Boundaries.{AreRising, HoldOne, HasAlso, AreEndsOf, HasAllOf};
 
 use crate::alphabet::groups::Labels;
-use lalrpop_nfa::Test;
+use lalrpop_hir::Test;
 use lalrpop_nfa::overlap::remove_overlap;
 use std::alloc::{AllocError, Global};
 use std::collections::BTreeSet;

@@ -5,7 +5,8 @@ ghost use Rattle.lalrpop_build.specs.Internal.Grouped.{AreGrouped};
 ghost use Rattle.lalrpop_build.specs.Internal.EdgeGroups.{IsListOf, IsGrown, IsClosed, IsTurned, AreEdgeGroups, AreStatesTo};
 
 use crate::alphabet::{EdgeGroup, NfaEdgeGroups, StateEdgeGroups};
-use lalrpop_nfa::{Nfa, NfaStateIndex, START, Test};
+use lalrpop_hir::Test;
+use lalrpop_nfa::{Nfa, NfaStateIndex, START};
 use smallvec::SmallVec;
 use std::alloc::{AllocError, Global};
 use std::collections::BTreeMap;

@@ -8,7 +8,7 @@ ghost use Rattle.lalrpop_build.specs.Internal.Signatures.{AreRising, HasEndsIn, 
 
 use crate::alphabet::Group;
 use crate::alphabet::groups::Labels;
-use lalrpop_nfa::Test;
+use lalrpop_hir::Test;
 use std::alloc::{AllocError, Global};
 
 /// The numbers of the lists that have a label covering a cell, in ascending order.

@@ -7,7 +7,7 @@ ghost use Rattle.lalrpop_build.specs.Internal.Given.{IsItemOf, AreAutomata, AreI
 ghost use Rattle.lalrpop_build.specs.Internal.Best.{IsBest, accepts, accepts_with, raised};
 ghost use Rattle.lalrpop_build.specs.Internal.Built.{IsKindOf, IsStrongestIn, IsTied};
 ghost use Rattle.lalrpop_build.specs.Internal.Ties.{AreAscending};
-ghost use Rattle.lalrpop_nfa.specs.Compiled.{accept_state};
+ghost use Rattle.lalrpop_hir.specs.States.{accept_state};
 ghost use Rattle.lalrpop_build.specs.Internal.Subsets.{is_dead};
 
 use crate::{Kind, NfaIndex, Precedence};

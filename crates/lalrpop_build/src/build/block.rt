@@ -6,7 +6,7 @@ use super::origin::Origin;
 use crate::DfaStateIndex;
 use crate::alphabet::Cell;
 use lalrpop_dfa::RowWriter;
-use lalrpop_nfa::Test;
+use lalrpop_hir::Test;
 use std::alloc::AllocError;
 
 /// No value lies before the first boundary, so no edge ends there.

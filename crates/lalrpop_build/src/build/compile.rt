@@ -2,7 +2,7 @@
 ghost use Rattle.std.specs.Prelude.{◌≡◌, ◌<◌, length, IfOk, IfErr};
 ghost use Rattle.lalrpop_build.specs.Internal.Given.{AreFixed};
 ghost use Rattle.lalrpop_build.specs.Internal.Expansion.{IsRefusalOf, NoFaultBefore, IsCompiledAt};
-ghost use Rattle.lalrpop_dfa.specs.Automata.{AreCompiled};
+ghost use Rattle.lalrpop_nfa.specs.Automata.{AreCompiled};
 ghost use Rattle.lalrpop_hir.specs.Report.{NoFault, IsFaultOf};
 
 use crate::{DfaConstructionError, NfaIndex};

@@ -6,7 +6,7 @@ ghost use Rattle.std.specs.List.{Contains};
 ghost use Rattle.lalrpop_build.specs.Internal.Alphabet.{HasState, HasBoundary, LeadsBy, HasBoundaryAt, IsAlphabetOf};
 ghost use Rattle.lalrpop_build.specs.Internal.Given.{AreAutomata, AreItemsOf};
 ghost use Rattle.lalrpop_build.specs.Internal.Scratch.{AreNoted, AreMarked, AreUnmarked, HoldMarked, IsTidy, StaysTidy, IsCleared, IsScratchOf, IsFilled};
-ghost use Rattle.lalrpop_dfa.specs.Automata.{Item as ItemValue};
+ghost use Rattle.lalrpop_dfa.specs.Ascending.{Item as ItemValue};
 ghost use Rattle.lalrpop_build.specs.Internal.ClassTransitions.{HaveNoEdges, AreBelow, Gained, AreGathered, AreBoundariesOf};
 
 use crate::Transition;

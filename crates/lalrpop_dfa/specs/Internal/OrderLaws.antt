@@ -8,8 +8,7 @@ use Rattle.std.specs.declared.cmp.Ordering.TheVariants.{Less, Equal, Greater}
 use Rattle.std.proofs.Common.{arith}
 use Rattle.std.proofs.lemmas.Bool.Decides.{nat_tests}
 use Rattle.std.proofs.lemmas.Cmp.{then_total, on_total, back_total, eq_by_cmp_equiv, and_equiv, on_equiv, nat_cmp_total, nat_eq_equiv}
-use Rattle.lalrpop_dfa.specs.Automata.{Item}
-use Rattle.lalrpop_dfa.specs.Ascending.{item_cmp}
+use Rattle.lalrpop_dfa.specs.Ascending.{Item, item_cmp}
 use Rattle.lalrpop_dfa.specs.LiveItems.{live_of, rejects_of}
 use Rattle.lalrpop_dfa.specs.ItemOrder.{item_eq, rejects_cmp, hash_of, items_cmp, set_cmp, set_eq}
 

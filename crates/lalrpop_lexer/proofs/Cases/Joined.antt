@@ -3,7 +3,7 @@ use Rattle.std.proofs.Common.{◌≡◌, ℕ, List, [], ◌∷◌, length, refl,
 use Rattle.std.proofs.lemmas.List.Elements.{All-nil, All-cons, All-head}
 use Rattle.lalrpop_hir.specs.Tree.{Tree}
 use Rattle.lalrpop_hir.specs.declared.token.Token.{Token}
-use Rattle.lalrpop_lexer.specs.Neighbours.{CanFollow, text_of, IsWhole, CanPart}
+use Rattle.lalrpop_dense.specs.Neighbours.{CanFollow, text_of, IsWhole, CanPart}
 use Rattle.lalrpop_lexer.specs.Joined.{plain, IsJoined, CanJoin, IsJoinError}
 use Rattle.lalrpop_lexer.specs.declared.join_error.JoinError.TheVariants.{NotAToken, NotASeparator, Inseparable}
 

@@ -7,7 +7,7 @@ use Rattle.lalrpop_hir.specs.Tree.{Tree}
 use Rattle.lalrpop_dfa.specs.Dfa.{Row}
 use Rattle.lalrpop_dfa.specs.declared.Kind.{Kind}
 use Rattle.lalrpop_dfa.specs.declared.Kind.TheVariants.{Accepts, Reject, Neither}
-use Rattle.lalrpop_lexer.specs.Rules.{Rules}
+use Rattle.lalrpop_dense.specs.Rules.{Rules}
 
 abbrev option_of_kind : Kind → Option (Option ℕ)
 option_of_kind (Accepts i) = Some (Some i)

@@ -1,7 +1,7 @@
 -- A text of tokens that is being written.
 use Rattle.std.specs.Prelude.{◌≡◌, ℕ, ◌⊎◌, List, [], take}
 use Rattle.lalrpop_hir.specs.Tree.{Tree}
-use Rattle.lalrpop_lexer.specs.Neighbours.{CanFollow, IsParted, text_of, CanPart}
+use Rattle.lalrpop_dense.specs.Neighbours.{CanFollow, IsParted, text_of, CanPart}
 use Rattle.lalrpop_lexer.specs.Joined.{CanJoin}
 
 -- what stands between the tokens x and y: nothing if y may follow x, and otherwise the separator

@@ -2,8 +2,8 @@
 use Rattle.std.specs.Prelude.{◌≡◌, ℕ, ◌<◌, ◌↔◌, Bool, true, List, length, slice_get, Some}
 use Rattle.lalrpop_hir.specs.Winners.{Matched}
 use Rattle.lalrpop_dfa.specs.Follow.{RunsOn}
-use Rattle.lalrpop_lexer.specs.Neighbours.{WordsOf}
-use Rattle.lalrpop_lexer.specs.Rules.{Rules}
+use Rattle.lalrpop_dense.specs.Neighbours.{WordsOf}
+use Rattle.lalrpop_dense.specs.Rules.{Rules}
 
 -- the marks of the trees whose tokens run on into those of the tree j
 pub record AreRunningOn (rules : Rules) (j : ℕ) (marks : List Bool) : Type 0 where

@@ -5,7 +5,7 @@ use Rattle.std.specs.List.{Contains}
 use Rattle.lalrpop_hir.specs.Range.{Range}
 use Rattle.lalrpop_hir.specs.Tree.{Tree, unicode, empty, literal, repetition}
 use Rattle.lalrpop_nfa.specs.Graph.{Graph, Lists}
-use Rattle.lalrpop_nfa.specs.Meet.{Meet}
+use Rattle.lalrpop_hir.specs.Meet.{Meet}
 use Rattle.lalrpop_nfa.specs.Path.{noop, test, other, Path}
 use Rattle.lalrpop_nfa.specs.Compiled.{IsClassLabel, IsLabel, ReadsWordsOf, IsCompiled, edges_from, HasFixedEdges}
 use Rattle.lalrpop_nfa.specs.declared.edge.Edge.{Edge}

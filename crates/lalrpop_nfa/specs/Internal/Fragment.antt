@@ -4,7 +4,7 @@ use Rattle.lalrpop_hir.specs.Range.{Range}
 use Rattle.lalrpop_hir.specs.Tree.{Class, unicode, bytes, Tree, empty, literal, class, look, repetition, capture, concat, alternation, Trees, none, also}
 use Rattle.lalrpop_nfa.specs.Graph.{Graph, Lists}
 use Rattle.lalrpop_nfa.specs.Path.{noop, test, other}
-use Rattle.lalrpop_nfa.specs.Compiled.{accept_state, reject_state, start_state}
+use Rattle.lalrpop_hir.specs.States.{accept_state, reject_state, start_state}
 use Rattle.lalrpop_nfa.specs.declared.edge.StateKind.TheVariants.{Accept, Reject, Neither}
 
 -- the number of states added, the state at which the tree begins, and the edges, which go to the ends of their lists

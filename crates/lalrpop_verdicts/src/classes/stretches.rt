@@ -10,7 +10,7 @@ ghost use Rattle.lalrpop_verdicts.specs.Internal.Classes.{AreColumns, AreLeads, 
 
 use super::split::split;
 use lalrpop_dfa::{Dfa, DfaStateIndex};
-use lalrpop_nfa::Test;
+use lalrpop_hir::Test;
 use std::alloc::{AllocError, Global};
 use std::collections::HashSet;
 

@@ -10,7 +10,7 @@ use Rattle.bajofeki_rules.specs.declared.position.Position.{Position}
 use Rattle.lalrpop_rules.specs.Modes.{ModeRules}
 use Rattle.bajofeki_rules.specs.Stack.{Stack}
 use Rattle.reports_lib.specs.ItemLines.{byte_told, slice_told, plain_line, json_line, name_at, fault_line, mode_named, piece_lines}
-use Rattle.reports_lib.specs.declared.layout.LineForm.{LineForm}
+use Rattle.lexdfa_lib.specs.declared.layout.LineForm.{LineForm}
 
 abbrev second : Position
 second = record { line = 1; column = 2 }

@@ -9,8 +9,8 @@ use Rattle.lalrpop_rule_file.specs.declared.part_line.PartLine.{PartLine}
 use Rattle.lalrpop_rule_file.specs.declared.warning.Warning.TheVariants.{NoRules, PartUnused, ModeNotEntered, ModeNotLeft, TextGoesOn, ClassOutside, EndPassed}
 use Rattle.reports_lib.specs.ModePlace.{TellsSections}
 use Rattle.reports_lib.specs.Warned.{AreWarnings, SaysWarnings, warned_at, warned_of, warning_text}
-use Rattle.reports_lib.specs.declared.layout.LineForm.{LineForm}
-use Rattle.reports_lib.specs.declared.layout.LineForm.TheVariants.{Plain, Json}
+use Rattle.lexdfa_lib.specs.declared.layout.LineForm.{LineForm}
+use Rattle.lexdfa_lib.specs.declared.layout.LineForm.TheVariants.{Plain, Json}
 
 abbrev place : ℕ → ℕ → Position
 place line column = record { line = line; column = column }

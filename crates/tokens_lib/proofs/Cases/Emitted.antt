@@ -8,8 +8,8 @@ use Rattle.lalrpop_emit.specs.declared.error.EmitError.TheVariants as error
 use Rattle.lalrpop_rules.specs.Modes.{ModeRules}
 use Rattle.reports_lib.specs.Answer.{Answer, refusal}
 use Rattle.tokens_lib.specs.Emitted.{IsNoSource, SourceAnswer, prefix_of, source_file}
-use Rattle.tokens_lib.specs.declared.command.Language.{Language}
-use Rattle.tokens_lib.specs.declared.command.Language.TheVariants.{C, Rust}
+use Rattle.lexdfa_lib.specs.declared.command.Language.{Language}
+use Rattle.lexdfa_lib.specs.declared.command.Language.TheVariants.{C, Rust}
 
 names_begin : (prefix_of None ≡ codes "lex") × (prefix_of (Some (record { ref_ptr = (0, 0); now = codes "json" })) ≡ codes "json")
 names_begin = (refl, refl)

@@ -1,19 +1,17 @@
 -- Cases of specs/Program.antt.
 use Rattle.std.proofs.Common.{◌≡◌, ◌≢◌, ℕ, false, true, inl, inr, List, [], ◌∷◌, codes, get_or, map, refl, ap, arith, Vec, Bor, Global}
 use Rattle.std.specs.Prelude.{Result, Ok, Err}
-use Rattle.lalrpop_rules.specs.Modes.{ModeRules}
 use Rattle.lexdfa_lib.specs.declared.ending.Failure.{Failure}
 use Rattle.lexdfa_lib.specs.declared.ending.Failure.TheVariants.{Usage, Run as Failing}
 use Rattle.lexdfa_lib.specs.declared.error.RunError.TheVariants.{OutOfMemory, Read, Write}
-use Rattle.lexdfa_lib.specs.Streams.{Given, Reading, NotOpened, Stream}
+use Rattle.lexdfa_lib.specs.Streams.{Reading, NotOpened, Stream}
 use Rattle.reports_lib.specs.Answer.{refusal, silence, about}
-use Rattle.reports_lib.specs.declared.layout.LineForm.TheVariants.{Plain}
-use Rattle.tokens_lib.specs.Program.{ending, failure_text, information, IsAnswer, IsFirstAnswer, other_of, ComparedAnswer}
-use Rattle.tokens_lib.specs.Usage.{help}
-use Rattle.tokens_lib.specs.declared.command.Action.TheVariants.{Cut}
-use Rattle.tokens_lib.specs.declared.command.Command.TheVariants.{Help, Run}
-use Rattle.tokens_lib.specs.declared.command.Verbosity.{Verbosity}
-use Rattle.tokens_lib.specs.declared.command.Verbosity.TheVariants.{Progress}
+use Rattle.lexdfa_lib.specs.declared.layout.LineForm.TheVariants.{Plain}
+use Rattle.tokens_lib.specs.Program.{ending, failure_text, information, IsAnswer, IsFirstAnswer}
+use Rattle.lexdfa_lib.specs.Usage.{help}
+use Rattle.lexdfa_lib.specs.declared.command.Action.TheVariants.{Cut}
+use Rattle.lexdfa_lib.specs.declared.command.Command.TheVariants.{Help, Run}
+use Rattle.lexdfa_lib.specs.declared.command.Verbosity.TheVariants.{Progress}
 
 -- a failed write, and an argument that isn't UTF-8
 failures : failure_text (Failing Write) ≡ codes "tokens: write failed\n"
@@ -64,14 +62,3 @@ only_reading Gives i files none = inr (
     (silence, (inl refl, refl)),
   ),
 )
-
--- ---- the other file of rules
-
--- the first that is named
-other_named : (other_of (codes "b" ∷ []) ≡ codes "b") × (other_of (codes "b" ∷ codes "c" ∷ []) ≡ codes "b") × (other_of [] ≡ [])
-other_named = (refl, refl, refl)
-
--- if it can't be read, that is said, and the status is 6
-unread_other : (Gives : List ℕ → Given → Type 0) (verbosity : Verbosity) (r : ModeRules) (modes : List (List ℕ)) → Gives (codes "b") (Err (codes "e"))
-    → ComparedAnswer Gives verbosity (codes "a") r modes (codes "b") (refusal 6 (codes "tokens: b: e\n"))
-unread_other Gives verbosity r modes gives = inl (codes "e", (gives, refl))

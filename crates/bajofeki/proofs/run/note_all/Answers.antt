@@ -2,9 +2,9 @@ use Rattle.std.proofs.Common.{◌≡◌, ℕ, ◌+◌, ◌-◌, true, false, Lis
 use Rattle.std.specs.Char.{encode_utf8}
 use Rattle.std.specs.Str.{chars}
 use Rattle.std.specs.Str.Iter.{char_indices_rest, char_indices_offset}
-use Rattle.lalrpop_nfa.proofs.CharLemmas.{chars-none}
+use Rattle.lalrpop_hir.proofs.TextWords.{chars-none}
 use Rattle.lalrpop_hir.proofs.Cuts.{cut_more, cut_start}
-use Rattle.lalrpop_lexer.proofs.Walks.{next_at}
+use Rattle.lalrpop_lexer.proofs.TextWalks.{next_at}
 use Rattle.lalrpop_dfa.specs.declared.Kind.TheVariants.{Neither}
 use Rattle.bajofeki.specs.Internal.Walking.{IsMet, next_of, says}
 use Rattle.bajofeki.specs.Internal.Noted.{IsKnown, IsNoted, IsOver}

@@ -3,9 +3,9 @@ use Rattle.std.specs.Prelude.{Some, None}
 use Rattle.std.specs.Char.{encode_utf8}
 use Rattle.std.specs.Str.{chars, IsUtf8}
 use Rattle.std.proofs.lemmas.Str.{chars-nil, len_utf8_bounds, length-encode, IsCharBoundary-from_take}
-use Rattle.lalrpop_nfa.proofs.CharLemmas.{chars-none}
+use Rattle.lalrpop_hir.proofs.TextWords.{chars-none}
 use Rattle.lalrpop_hir.proofs.Cuts.{IsCut, cut_start, cut_within, cut_more, word_after}
-use Rattle.lalrpop_lexer.proofs.Walks.{next_at}
+use Rattle.lalrpop_lexer.proofs.TextWalks.{next_at}
 use Rattle.lalrpop_dfa.specs.declared.Kind.TheVariants.{Accepts, Reject, Neither}
 use Rattle.bajofeki.specs.declared.walker.Walker.{Walker}
 use Rattle.bajofeki.specs.Internal.Walking.{IsMet, Reads, behind, next_of, says}

@@ -2,7 +2,7 @@ use Rattle.std.proofs.Common.{map, subst, sym}
 use Rattle.std.specs.Global.{Vec}
 use Rattle.std.proofs.lemmas.Result.{IfOk-weaker}
 use Rattle.lalrpop_hir.specs.Clashes.{Entry}
-use Rattle.lalrpop_dfa.specs.Automata.{AreCompiled}
+use Rattle.lalrpop_nfa.specs.Automata.{AreCompiled}
 use Rattle.lalrpop_build.specs.Internal.Given.{AreAutomata}
 use Rattle.lalrpop_build.proofs.ClashListLaws.{empty_is_no_clash, first_entry_is_clash}
 use Rattle.lalrpop_build.proofs.all_clashes.clashes.Goals as goal

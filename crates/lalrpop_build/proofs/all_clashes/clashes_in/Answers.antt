@@ -1,7 +1,7 @@
 use Rattle.std.proofs.Common.{◌≡◌, ◌↔◌, List, length, map, subst, rules}
 use Rattle.std.specs.List.{Contains}
 use Rattle.lalrpop_dfa.proofs.EdgeTargets.{the_some}
-use Rattle.lalrpop_dfa.specs.Automata.{Item}
+use Rattle.lalrpop_dfa.specs.Ascending.{Item}
 use Rattle.lalrpop_build.specs.Internal.Built.{IsStrongestIn}
 use Rattle.lalrpop_build.proofs.AllClashes.{row_set, listed_one, all_found}
 use Rattle.lalrpop_build.proofs.all_clashes.clashes_in.Goals as goal

@@ -1,6 +1,6 @@
 use Rattle.std.proofs.Common.{subst, sym}
 use Rattle.std.proofs.lemmas.Result.{IfOk-weaker}
-use Rattle.lalrpop_dfa.specs.Automata.{AreCompiled}
+use Rattle.lalrpop_nfa.specs.Automata.{AreCompiled}
 use Rattle.lalrpop_dfa.proofs.Recognized.{on_words}
 use Rattle.lalrpop_build.specs.Internal.Given.{AreAutomata}
 use Rattle.lalrpop_build.proofs.build.build_dfa.Goals as goal

@@ -1,8 +1,7 @@
 use Rattle.std.proofs.Common.{◌∙◌, ◌≡◌, ℕ, List, ap, sym, subst}
 use Rattle.std.specs.List.{Contains}
 use Rattle.std.proofs.lemmas.Result.{IfOk-weaker}
-use Rattle.lalrpop_dfa.specs.Automata.{Item}
-use Rattle.lalrpop_dfa.specs.Ascending.{AreAscendingItems, AreByPattern}
+use Rattle.lalrpop_dfa.specs.Ascending.{Item, AreAscendingItems, AreByPattern}
 use Rattle.lalrpop_build.specs.Internal.Given.{AreItemsOf}
 use Rattle.lalrpop_dfa.specs.LiveItems.{live_of}
 use Rattle.lalrpop_dfa.specs.Split.{still_live, full}

@@ -1,10 +1,9 @@
 use Rattle.std.proofs.Common.{◌≡◌, ◌≢◌, ◌∙◌, ℕ, get_or, rules, append-nil, sym, ap, subst}
 use Rattle.std.specs.Prelude.{slice_get, Some}
 use Rattle.std.specs.declared.cmp.Ordering.TheVariants.{Less}
-use Rattle.lalrpop_dfa.specs.Automata.{Item}
-use Rattle.lalrpop_dfa.specs.Ascending.{item_cmp}
+use Rattle.lalrpop_dfa.specs.Ascending.{Item, item_cmp}
 use Rattle.lalrpop_dfa.specs.Split.{AreBefore}
-use Rattle.lalrpop_nfa.specs.Compiled.{reject_state}
+use Rattle.lalrpop_hir.specs.States.{reject_state}
 use Rattle.lalrpop_build.proofs.StillLive.{still_live_more}
 use Rattle.lalrpop_build.proofs.closure.still_live_among.Goals as goal
 use Rattle.lalrpop_build.proofs.closure.still_live_among.Goals.{then-ne+in_ok-push, else-ne}

@@ -1,7 +1,7 @@
 use Rattle.std.proofs.Common.{◌≡◌, List, subst, take}
 use Rattle.std.proofs.lemmas.List.{take_all}
 use Rattle.std.proofs.lemmas.List.Filters.{dedup_is}
-use Rattle.lalrpop_dfa.specs.Automata.{Item}
+use Rattle.lalrpop_dfa.specs.Ascending.{Item}
 use Rattle.lalrpop_dfa.specs.ItemOrder.{item_eq}
 use Rattle.lalrpop_build.specs.Internal.Taken.{AreTargetsBy}
 use Rattle.lalrpop_build.proofs.TakenEdges.{walked_none, walked_more, once_targets, once_by_pattern}

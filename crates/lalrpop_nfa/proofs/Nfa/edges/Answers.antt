@@ -12,10 +12,10 @@ use Rattle.lalrpop_nfa.proofs.Nfa.edges.Goals.{After-first}
 run_here : (g : _) (c : After-first g) → IsContiguous c.args.from c.as_slice.result.now c.first.result.now
 run_here g c = let o = g.L.EdgeLabel in let m = g.met.L.EdgeLabel in
     let i = c.self.inside in
-    let here = state_here i.states.items c.from.inside.0 c.args.from c.args.self.now i.edges c.self.view_is c.from.view_is c.requires.is_state c.index.result.now c.index.ensures in
-    let run = subst (λ s. AreContiguous o.kind i.edges s c.from.inside.0) (sym here) (c.self.invariant o.kind c.from.inside.0) in
-    IsContiguous-elsewhere c.from.inside.0 c.args.from (o.list i.edges) c.as_slice.result.now (index_of o.kind c.index.result.now) c.first.result.now
-    c.from.view_is (sym (c.as_slice.ensures.value ∙ c.vec.ensures.value)) (sym c.first.ensures.value) (m.run_in i.edges c.index.result.now c.from.inside.0 run)
+    let here = state_here i.states.items c.index-place.result c.args.from c.args.self.now i.edges c.self.view_is c.index-place.ensures.value c.requires.is_state c.index.result.now c.index.ensures in
+    let run = subst (λ s. AreContiguous o.kind i.edges s c.index-place.result) (sym here) (c.self.invariant o.kind c.index-place.result) in
+    IsContiguous-elsewhere c.index-place.result c.args.from (o.list i.edges) c.as_slice.result.now (index_of o.kind c.index.result.now) c.first.result.now
+    c.index-place.ensures.value (sym (c.as_slice.ensures.value ∙ c.vec.ensures.value)) (sym c.first.ensures.value) (m.run_in i.edges c.index.result.now c.index-place.result run)
 
 pub invariant_of-result : goal.invariant_of-result
 invariant_of-result g c = (run_here g (goal.at.invariant_of-result g c).After-first).at

@@ -4,7 +4,8 @@ use Rattle.std.specs.Str.{chars}
 use Rattle.lalrpop_nfa.specs.Internal.Fragment.{character_expr, literal_expr}
 use Rattle.lalrpop_nfa.specs.Internal.Valid.{AreCodeValues}
 use Rattle.lalrpop_nfa.specs.Internal.Extends.{Extends}
-use Rattle.lalrpop_nfa.proofs.CharLemmas.{IsUtf8-front, chars-last, chars-none}
+use Rattle.lalrpop_hir.proofs.TextWords.{chars-none}
+use Rattle.lalrpop_nfa.proofs.CharLemmas.{IsUtf8-front, chars-last}
 use Rattle.lalrpop_nfa.proofs.BuildLemmas.{Extends-before}
 use Rattle.lalrpop_nfa.proofs.Nfa.literal_text_expr.Goals as goal
 

@@ -2,7 +2,7 @@ use Rattle.std.proofs.Common.{map, string_bytes}
 use Rattle.std.proofs.lemmas.Result.{IfOk-weaker}
 use Rattle.lexdfa_lib.specs.Streams.{GivesWhole}
 use Rattle.tokens_lib.specs.Emitted.{SourceAnswer}
-use Rattle.tokens_lib.proofs.RuleLaws.{by_lexer, no_lexer}
+use Rattle.reports_lib.proofs.RuleLaws.{by_lexer, no_lexer}
 use Rattle.tokens_lib.proofs.emitted.emit.Goals as goal
 
 pub returns-in_ok-source_reply-in-Ok : goal.returns-in_ok-source_reply-in-Ok

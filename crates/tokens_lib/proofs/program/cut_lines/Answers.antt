@@ -2,10 +2,11 @@ use Rattle.std.proofs.Common.{List, ℕ, Bor, map, length, string_bytes}
 use Rattle.std.specs.Prelude.{nat_lt}
 use Rattle.std.proofs.lemmas.Result.{IfOk-weaker, IfErr-weaker, err_from_is_err_and}
 use Rattle.lexdfa_lib.specs.Streams.{GivesWhole}
-use Rattle.tokens_lib.specs.FileAnswers.{TextsAnswer, FirstTextsAnswer}
-use Rattle.tokens_lib.specs.TextAnswer.{PiecesAnswer, PiecesPart}
-use Rattle.tokens_lib.proofs.AnswerLaws.{fails_of_memory}
-use Rattle.tokens_lib.proofs.RuleLaws.{lexer_answers, lexer_fails, lexer_unsaid, reply_answers, reply_fails, no_lexer, no_texts}
+use Rattle.pieces_lib.specs.FileAnswers.{TextsAnswer, FirstTextsAnswer}
+use Rattle.pieces_lib.specs.TextAnswer.{PiecesAnswer, PiecesPart}
+use Rattle.pieces_lib.proofs.AnswerLaws.{fails_of_memory}
+use Rattle.tokens_lib.proofs.RuleLaws.{lexer_answers, lexer_fails, lexer_unsaid, reply_answers, reply_fails, no_texts}
+use Rattle.reports_lib.proofs.RuleLaws.{no_lexer}
 use Rattle.tokens_lib.proofs.program.cut_lines.Goals as goal
 
 abbrev text : Bor (List ℕ) → List ℕ

@@ -1,9 +1,9 @@
 use Rattle.std.proofs.Common.{◌≡◌, ◌≢◌, ℕ, ◌≤◌, List, inl, inr, map, string_bytes, subst, ap, ◌∙◌, arith}
 use Rattle.std.proofs.lemmas.Result.{IfOk-weaker, IfErr-weaker}
-use Rattle.tokens_lib.specs.Arguments.{joined, options, names}
-use Rattle.tokens_lib.specs.Command.{IsArgumentsError, IsCommand}
-use Rattle.tokens_lib.specs.declared.command.ArgumentsError.TheVariants.{OutOfMemory}
-use Rattle.tokens_lib.proofs.AnswerLaws.{Answers-weaker, Fails-weaker, fails_of_memory}
+use Rattle.lexdfa_lib.specs.Options.{joined, options, names}
+use Rattle.lexdfa_lib.specs.Command.{IsArgumentsError, IsCommand}
+use Rattle.lexdfa_lib.specs.declared.command.ArgumentsError.TheVariants.{OutOfMemory}
+use Rattle.pieces_lib.proofs.AnswerLaws.{Answers-weaker, Fails-weaker, fails_of_memory}
 use Rattle.tokens_lib.proofs.StatusBounds.{command_low}
 use Rattle.tokens_lib.proofs.program.run.Goals as goal
 

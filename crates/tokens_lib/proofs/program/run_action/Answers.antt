@@ -1,5 +1,5 @@
 use Rattle.std.proofs.lemmas.Result.{IfOk-weaker, IfErr-weaker}
-use Rattle.tokens_lib.proofs.AnswerLaws.{fails_of_memory}
+use Rattle.pieces_lib.proofs.AnswerLaws.{fails_of_memory}
 use Rattle.tokens_lib.proofs.RuleLaws.{reply_answers, reply_fails}
 use Rattle.tokens_lib.proofs.program.run_action.Goals as goal
 

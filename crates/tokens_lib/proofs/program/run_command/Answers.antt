@@ -2,10 +2,10 @@ use Rattle.std.proofs.Common.{List, ℕ, Bor, map}
 use Rattle.std.proofs.lemmas.Result.{IfOk-weaker, IfErr-weaker, err_from_is_err_and}
 use Rattle.lexdfa_lib.specs.Streams.{GivesWhole}
 use Rattle.reports_lib.specs.Answer.{remark}
-use Rattle.tokens_lib.specs.FileAnswers.{TextsAnswer, FirstTextsAnswer}
+use Rattle.pieces_lib.specs.FileAnswers.{TextsAnswer, FirstTextsAnswer}
 use Rattle.tokens_lib.specs.Program.{ActionAnswer}
-use Rattle.tokens_lib.specs.Progress.{reading_text}
-use Rattle.tokens_lib.proofs.AnswerLaws.{Answers-after, Fails-after, Fails-first, Gives-said, fails_of_memory}
+use Rattle.pieces_lib.specs.Progress.{reading_text}
+use Rattle.pieces_lib.proofs.AnswerLaws.{Answers-after, Fails-after, Fails-first, Gives-said, fails_of_memory}
 use Rattle.tokens_lib.proofs.program.run_command.Goals as goal
 
 abbrev text : Bor (List ℕ) → List ℕ

@@ -4,7 +4,7 @@ use Rattle.bajofeki_rules.specs.Lines.{lines}
 use Rattle.lalrpop_rule_file.specs.RuleFile.{without_mark}
 use Rattle.lalrpop_rule_file.specs.declared.file.RuleFile.{RuleFile}
 use Rattle.tokens_lib.specs.Warned.{AreWarnings, SaysWarnings}
-use Rattle.reports_lib.specs.declared.layout.LineForm.TheVariants.{Plain}
+use Rattle.lexdfa_lib.specs.declared.layout.LineForm.TheVariants.{Plain}
 use Rattle.uses_programs.proofs.say_errors.said_of_what_is_meant.Goals as goal
 
 -- where there is no warning, nothing is said

@@ -2,7 +2,7 @@ use Rattle.std.proofs.Common.{◌≡◌, ◌∙◌, ℕ, List, sym, subst, take,
 use Rattle.std.specs.List.{Contains}
 use Rattle.std.proofs.lemmas.List.{take_all}
 use Rattle.lalrpop_build.specs.Internal.Alphabet.{LeadsBy}
-use Rattle.lalrpop_dfa.specs.Automata.{Item}
+use Rattle.lalrpop_dfa.specs.Ascending.{Item}
 use Rattle.lalrpop_build.specs.Internal.ClassTransitions.{Gained, AreBoundariesOf}
 use Rattle.lalrpop_hir.proofs.Contained.{contains_none}
 use Rattle.lalrpop_build.proofs.Leavings.{gained_none, gained_then, item_more, item_boundaries, all_gathered}

@@ -1,5 +1,5 @@
 use Rattle.std.proofs.Common.{◌≡◌, List, ◌++◌, map}
-use Rattle.lalrpop_dfa.specs.Automata.{Item}
+use Rattle.lalrpop_dfa.specs.Ascending.{Item}
 use Rattle.lalrpop_build.specs.Internal.Worklist.{IsInserted, epsilon_targets}
 use Rattle.lalrpop_build.proofs.worklist.Worklist.follow.Given as goal
 

@@ -1,6 +1,6 @@
 use Rattle.std.proofs.Common.{take}
 use Rattle.std.specs.List.{Contains}
-use Rattle.lalrpop_dfa.specs.Automata.{Item}
+use Rattle.lalrpop_dfa.specs.Ascending.{Item}
 use Rattle.lalrpop_build.specs.Internal.Subsets.{closed}
 use Rattle.lalrpop_build.specs.Internal.Worklist.{IsInserted}
 use Rattle.lalrpop_build.proofs.WorklistSteps.{IsClosing, left}

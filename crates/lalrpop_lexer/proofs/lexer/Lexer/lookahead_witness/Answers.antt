@@ -5,7 +5,7 @@ use Rattle.lalrpop_dfa.specs.Lookahead.{Accepted}
 use Rattle.lalrpop_dfa.specs.Witness.{IsOpenMatch, IsWitness}
 use Rattle.lalrpop_dfa.proofs.Recognized.{recognized_words}
 use Rattle.lalrpop_dfa.proofs.WitnessLaws.{same_none, same_witness}
-use Rattle.lalrpop_lexer.specs.Rules.{Rules, IsBuiltFrom}
+use Rattle.lalrpop_dense.specs.Rules.{Rules, IsBuiltFrom}
 use Rattle.lalrpop_lexer.proofs.lexer.Lexer.lookahead_witness.Goals as goal
 
 if_some : {A E : Type 0} {P Q : A → Type 0} (r : Result (Option A) E) → ((x : A) → P x → Q x) → IfOk r (λ o. IfSome o P) → IfOk r (λ o. IfSome o Q)

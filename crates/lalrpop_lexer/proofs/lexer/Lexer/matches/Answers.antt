@@ -1,4 +1,4 @@
-use Rattle.lalrpop_lexer.specs.Rules.{IsBuiltFrom}
+use Rattle.lalrpop_dense.specs.Rules.{IsBuiltFrom}
 use Rattle.lalrpop_lexer.proofs.lexer.Lexer.matches.Goals as goal
 
 pub returns-clause-no_clash : goal.returns-clause-no_clash

@@ -1,17 +1,18 @@
-use Rattle.std.proofs.Common.{◌≡◌, ℕ, ◌∙◌, ap, sym, refl, subst, List, true, false}
-use Rattle.std.specs.Prelude.{Option, Some, None, Result, Ok, Err, OnErr}
+use Rattle.std.proofs.Common.{◌≡◌, ℕ, ◌+◌, ◌*◌, ◌≤◌, ◌∙◌, length, ap, sym, refl, subst, List, true, false}
+use Rattle.std.specs.Prelude.{Option, Some, None, Result, Ok, Err, OnErr, IsSomeAnd}
 use Rattle.std.specs.Option.{is_some}
+use Rattle.std.specs.Str.{chars}
 use Rattle.lalrpop_hir.specs.Winners.{Matched}
 use Rattle.lalrpop_dfa.specs.Dfa.{Row}
 use Rattle.lalrpop_dfa.specs.Lookahead.{Accepted, IsLookahead, IsTrim}
 use Rattle.lalrpop_dfa.proofs.Recognized.{recognized_words}
 use Rattle.lalrpop_dfa.proofs.WitnessLaws.{same_most}
-use Rattle.lalrpop_lexer.specs.Matching.{Matching}
-use Rattle.lalrpop_lexer.specs.Cutting.{Cutting, start_of}
-use Rattle.lalrpop_lexer.specs.Rules.{Rules, IsBuiltFrom}
-use Rattle.lalrpop_lexer.proofs.Cuttings.{parts_from_start, count_from_start}
-use Rattle.lalrpop_lexer.proofs.LexerCuttings.{tokens_from_start}
-use Rattle.lalrpop_lexer.proofs.LexerCosts.{cost_with, cost_without}
+use Rattle.lalrpop_dense.specs.Matching.{open_states}
+use Rattle.lalrpop_dense.specs.Cutting.{Cutting, start_of}
+use Rattle.lalrpop_dense.specs.Rules.{Rules, IsBuiltFrom}
+use Rattle.lalrpop_dense.proofs.Cuttings.{parts_from_start, count_from_start}
+use Rattle.lalrpop_dense.proofs.LexerCuttings.{tokens_from_start}
+use Rattle.lalrpop_dense.proofs.LexerCosts.{cost_with, cost_without}
 use Rattle.lalrpop_lexer.proofs.lexer.Lexer.tokens.Goals as goal
 
 bound_of : (L : List ℕ → Type 0) (o : Option ℕ) → is_some o ≡ true → IsLookahead L o → (n : ℕ) × IsLookahead L (Some n)
@@ -30,12 +31,10 @@ starts : (s : Cutting) (d : List Row) (text : List ℕ) (spare : Option ℕ) →
 starts s d text spare e = subst (λ (x : Cutting). x ≡ start_of d text x.spare) (sym e) refl
 
 -- ---- where something bounds the lookahead
-begins : (c : goal.After-new) → c.new.result ≡ start_of c.args.self.now.automaton c.args.text.now None
-begins c =
-    c.new.ensures.start ∙ ap (λ (m : Matching). record (start_of m.automaton c.args.text.now None) { steps = m.spare }) c.new-plain.ensures.start
-    ∙ ap (λ (r : Rules). start_of r.automaton c.args.text.now None) c.self.view_is
+begins : (c : goal.After-table_tokens) → c.table_tokens.result ≡ start_of c.args.self.now.automaton c.args.text.now None
+begins c = c.table_tokens.ensures.start ∙ ap (λ (r : Rules). start_of r.automaton c.args.text.now None) c.self.view_is
 
-built : (c : goal.After-new) → IsBuiltFrom c.args.self.now.trees c.args.self.now.precedences c.args.self.now.automaton
+built : (c : goal.After-table_tokens) → IsBuiltFrom c.args.self.now.trees c.args.self.now.precedences c.args.self.now.automaton
 built c = rw (← c.self.view_is) c.self.invariant.0
 
 pub returns-then-is_some-clause-start : goal.returns-then-is_some-clause-start
@@ -74,27 +73,47 @@ pub returns-then-is_some-clause-no_clash : goal.returns-then-is_some-clause-no_c
 returns-then-is_some-clause-no_clash c = (built c).no_clash
 
 -- ---- where nothing does
-unbounded : (c : goal.After-new-2) → IsLookahead (Matched c.args.self.now.trees) None
+-- the memo has to spare what it may
+abbrev IsLinear : Cutting → List Row → List ℕ → Type 0
+IsLinear s d text = (k : ℕ) × ((s ≡ start_of d text (Some k)) × (k ≤ length (chars text) + length text + open_states d * (length text + 64)))
+
+linear_from : (s : Cutting) (d : List Row) (text : List ℕ) (o : Option ℕ) → s ≡ start_of d text o
+    → IsSomeAnd o (λ n. n ≤ length (chars text) + length text + open_states d * (length text + 64)) → IsLinear s d text
+linear_from s d text (Some k) e few = (k, (e, few))
+linear_from s d text None e few = absurd few
+
+unbounded : (c : goal.In_ok-tokens) → IsLookahead (Matched c.args.self.now.trees) None
 unbounded c =
     let is : IsLookahead (Matched c.args.self.now.trees) c.self.inside.lookahead = rw (← c.self.view_is) c.self.invariant.2 in
     no_bound (Matched c.args.self.now.trees) c.self.inside.lookahead (sym c.is_some.ensures ∙ c.if-is_some.false) is
 
-begins_with : (c : goal.After-new-2) → c.new-2.result ≡ start_of c.args.self.now.automaton c.args.text.now (Some c.in_ok-matches.matches.spare)
+begins_with : (c : goal.In_ok-tokens) → IsLinear c.in_ok-tokens.tokens c.args.self.now.automaton c.args.text.now
 begins_with c =
-    c.new-2.ensures.start ∙ ap (λ (m : Matching). start_of m.automaton c.args.text.now (Some c.in_ok-matches.matches.spare)) c.in_ok-matches.ensures.start
+    subst (λ (r : Rules). IsLinear c.in_ok-tokens.tokens r.automaton c.args.text.now) c.self.view_is
+    (linear_from c.in_ok-tokens.tokens c.self.inside.dense c.args.text.now c.in_ok-tokens.tokens.spare c.in_ok-tokens.ensures.start c.in_ok-tokens.ensures.spare)
 
 pub returns-clause-start : goal.returns-clause-start
-returns-clause-start c = starts _ _ _ _ (begins_with c)
+returns-clause-start c = starts _ _ _ _ (begins_with c).1.0
 
 pub returns-clause-built : goal.returns-clause-built
 returns-clause-built c =
     let built : IsBuiltFrom c.args.self.now.trees c.args.self.now.precedences c.args.self.now.automaton = rw (← c.self.view_is) c.self.invariant.0 in
-    subst (IsBuiltFrom c.args.self.now.trees c.args.self.now.precedences) (sym (ap (λ (s : Cutting). s.automaton) (begins_with c))) built
+    subst (IsBuiltFrom c.args.self.now.trees c.args.self.now.precedences) (sym (ap (λ (s : Cutting). s.automaton) (begins_with c).1.0)) built
 
-pub returns-in_err-matches-clause-refused : goal.returns-in_err-matches-clause-refused
-returns-in_err-matches-clause-refused c =
+pub returns-in_err-tokens-clause-refused : goal.returns-in_err-tokens-clause-refused
+returns-in_err-tokens-clause-refused c =
     let is : IsLookahead (Matched c.args.self.now.trees) c.self.inside.lookahead = rw (← c.self.view_is) c.self.invariant.2 in
     on_err c.from_residual.result (no_bound (Matched c.args.self.now.trees) c.self.inside.lookahead (sym c.is_some.ensures ∙ c.if-is_some.false) is)
+
+pub returns-in_err-tokens-clause-no_clash : goal.returns-in_err-tokens-clause-no_clash
+returns-in_err-tokens-clause-no_clash c =
+    let built : IsBuiltFrom c.args.self.now.trees c.args.self.now.precedences c.args.self.now.automaton = rw (← c.self.view_is) c.self.invariant.0 in
+    built.no_clash
+
+pub returns-clause-no_clash : goal.returns-clause-no_clash
+returns-clause-no_clash c =
+    let built : IsBuiltFrom c.args.self.now.trees c.args.self.now.precedences c.args.self.now.automaton = rw (← c.self.view_is) c.self.invariant.0 in
+    built.no_clash
 
 pub returns-clause-memo : goal.returns-clause-memo
 returns-clause-memo c = λ _. unbounded c
@@ -102,19 +121,15 @@ returns-clause-memo c = λ _. unbounded c
 pub returns-clause-tokens : goal.returns-clause-tokens
 returns-clause-tokens c =
     let built : IsBuiltFrom c.args.self.now.trees c.args.self.now.precedences c.args.self.now.automaton = rw (← c.self.view_is) c.self.invariant.0 in
-    tokens_from_start _ _ _ _ _ _ (begins_with c) built
+    tokens_from_start _ _ _ _ _ _ (begins_with c).1.0 built
 
 pub returns-clause-parts : goal.returns-clause-parts
-returns-clause-parts c = parts_from_start _ _ _ _ (begins_with c)
+returns-clause-parts c = parts_from_start _ _ _ _ (begins_with c).1.0
 
 pub returns-clause-count : goal.returns-clause-count
-returns-clause-count c = count_from_start _ _ _ _ (begins_with c) c.utf8.text
+returns-clause-count c = count_from_start _ _ _ _ (begins_with c).1.0 c.utf8.text
 
 pub returns-clause-cost : goal.returns-clause-cost
-returns-clause-cost c = (
-  None,
-  (
-    unbounded c,
-    cost_with c.new-2.result c.args.self.now.automaton c.args.text.now c.in_ok-matches.matches.spare (begins_with c) c.in_ok-matches.ensures.spare,
-  ),
-)
+returns-clause-cost c =
+    let begun = begins_with c in
+    (None, (unbounded c, cost_with c.in_ok-tokens.tokens c.args.self.now.automaton c.args.text.now begun.0 begun.1.0 begun.1.1))

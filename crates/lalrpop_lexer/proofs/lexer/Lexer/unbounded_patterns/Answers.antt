@@ -4,7 +4,7 @@ use Rattle.lalrpop_hir.specs.Winners.{IsOnlyStrongest, Matched}
 use Rattle.lalrpop_dfa.specs.Lookahead.{Accepted, AcceptedAs, StaysOpenEver}
 use Rattle.lalrpop_dfa.proofs.Recognized.{recognized_by, recognized_words}
 use Rattle.lalrpop_dfa.proofs.WitnessLaws.{same_ever}
-use Rattle.lalrpop_lexer.specs.Rules.{Rules, IsBuiltFrom}
+use Rattle.lalrpop_dense.specs.Rules.{Rules, IsBuiltFrom}
 use Rattle.lalrpop_lexer.proofs.lexer.Lexer.unbounded_patterns.Goals as goal
 
 pub returns-clause-same_length : goal.returns-clause-same_length

@@ -1,6 +1,6 @@
 use Rattle.std.proofs.Common.{length, refl, subst, arith}
 use Rattle.std.proofs.lemmas.Option.{slice_get_read}
-use Rattle.lalrpop_lexer.specs.Rules.{Rules}
+use Rattle.lalrpop_dense.specs.Rules.{Rules}
 use Rattle.lalrpop_lexer.specs.Internal.RunningOn.{AreRunningOn}
 use Rattle.lalrpop_lexer.proofs.RunningOn.{list_at, marked, free_first}
 use Rattle.lalrpop_lexer.proofs.neighbours.Neighbours.can_follow.Goals as goal

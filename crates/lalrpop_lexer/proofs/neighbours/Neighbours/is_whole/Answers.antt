@@ -3,8 +3,8 @@ use Rattle.std.specs.Prelude.{None, IsTrue, ◌==◌}
 use Rattle.std.proofs.lemmas.Bool.{eqb-true, eqb-false}
 use Rattle.lalrpop_hir.specs.Longest.{IsLongest}
 use Rattle.lalrpop_hir.specs.Tokens.{IsToken}
-use Rattle.lalrpop_lexer.specs.Rules.{Rules}
-use Rattle.lalrpop_lexer.specs.Neighbours.{IsWhole}
+use Rattle.lalrpop_dense.specs.Rules.{Rules}
+use Rattle.lalrpop_dense.specs.Neighbours.{IsWhole}
 use Rattle.lalrpop_lexer.specs.Joined.{plain}
 use Rattle.lalrpop_lexer.proofs.Joining.{decided_by_length, found_if_whole}
 use Rattle.lalrpop_lexer.proofs.neighbours.Neighbours.is_whole.Goals as goal

@@ -2,7 +2,7 @@ use Rattle.std.proofs.Common.{◌≡◌, ◌+◌, ◌-◌, ◌++◌, List, ℕ, 
 use Rattle.std.specs.Prelude.{IsSomeAnd}
 use Rattle.std.specs.String.{string_bytes}
 use Rattle.std.proofs.lemmas.List.{length-map}
-use Rattle.lalrpop_lexer.specs.Neighbours.{IsWhole}
+use Rattle.lalrpop_dense.specs.Neighbours.{IsWhole}
 use Rattle.lalrpop_lexer.specs.Joined.{plain}
 use Rattle.lalrpop_lexer.specs.Internal.Joining.{IsJoinedUpTo}
 use Rattle.lalrpop_lexer.proofs.Joining.{plain_at, inseparable_at, nothing_joined, first_joined, next_joined, all_joined}

@@ -1,5 +1,5 @@
 use Rattle.std.proofs.Common.{◌≡◌, ◌∙◌, ap, subst, [], ℕ}
-use Rattle.lalrpop_nfa.specs.Compiled.{start_state}
+use Rattle.lalrpop_hir.specs.States.{start_state}
 use Rattle.lalrpop_nfa.specs.Internal.StateSets.{StateList, IsGrown}
 use Rattle.lalrpop_nfa.proofs.StateSetLemmas.{closure_of_start}
 use Rattle.lalrpop_nfa.proofs.interpret.Simulation.start.Goals as goal

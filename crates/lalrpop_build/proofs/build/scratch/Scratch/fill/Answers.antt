@@ -4,7 +4,7 @@ use Rattle.std.specs.List.{Contains}
 use Rattle.std.specs.List.Sorted.{IsNonDecreasing, IsPermutation}
 use Rattle.std.proofs.lemmas.List.Sorted.{IsNonDecreasingBy-from_sort, Contains-permutation, IsPermutation-sym}
 use Rattle.lalrpop_build.specs.Internal.Alphabet.{HasState, HasBoundaryAt, Classes}
-use Rattle.lalrpop_dfa.specs.Automata.{Item}
+use Rattle.lalrpop_dfa.specs.Ascending.{Item}
 use Rattle.lalrpop_dfa.specs.LiveItems.{live_of}
 use Rattle.lalrpop_build.specs.Internal.Scratch.{AreTaken, IsScratchOf, StaysTidy}
 use Rattle.lalrpop_build.specs.declared.build.scratch.Scratch.{Scratch}

@@ -1,5 +1,0 @@
-use Rattle.lalrpop_lexer.proofs.Marks.{AreLaid}
-use Rattle.lalrpop_lexer.proofs.visited_pairs.VisitedPairs.new.Given as goal
-
-abbrev pub invariant-loop-state : goal.invariant-loop-state
-invariant-loop-state l = AreLaid l.dfa l.state-index l.firsts.items l.places l.end

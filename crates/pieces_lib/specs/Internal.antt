@@ -1,0 +1,3 @@
+-- What private functions promise one another.
+pub mod CutTexts
+pub mod Incoming

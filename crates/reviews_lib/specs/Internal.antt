@@ -1,0 +1,3 @@
+-- What private functions promise one another.
+pub mod Commas
+pub mod Faults

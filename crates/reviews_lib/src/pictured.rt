@@ -1,0 +1,222 @@
+//! Pictures of the automata of a file of rules.
+ghost use Rattle.std.specs.Prelude.{◌≡◌, ◌<◌, ◌∷◌, [], ℕ, List, None, Some, false, true, map, option_map, slice_get, string_bytes, IfOk, IfSome, IfNone};
+ghost use Rattle.std.specs.List.{range_with_len};
+ghost use Rattle.lalrpop_dfa.specs.Dfa.{RecognizesAll, Row};
+ghost use Rattle.lalrpop_rules.specs.Modes.{trees_in};
+ghost use Rattle.lalrpop_verdicts.specs.Picture.{dot};
+ghost use Rattle.lexdfa_lib.specs.Streams.{GivesWhole};
+ghost use Rattle.reports_lib.specs.Answer.{about, refusal};
+ghost use Rattle.reports_lib.specs.ItemLines.{mode_named};
+ghost use Rattle.lexdfa_lib.specs.Command.{has};
+ghost use Rattle.reports_lib.specs.NamedRules.{ByLexer};
+ghost use Rattle.reviews_lib.specs.Pictured.{ArePictures, IsDrawn, IsMissing, IsModePicture, IsRulePicture, IsSmallestIn, IsSmallestOf, PictureAnswer, label, labels, no_rule, rules_named};
+
+use crate::compared::push_token;
+use lalrpop_lexer::lexer::dfa::{Dfa, NfaIndex, Precedence, build_dfa};
+use lalrpop_lexer::lexer::re::Regex;
+use lalrpop_rules::RuleLexer;
+use lalrpop_verdicts::{dot, minimized};
+use lexdfa_lib::{Files, Verbosity, WRONG_ARGUMENTS};
+use reports_lib::{FileLexer, Reply, about, lexer_by_name, mode_named, name_of};
+use std::alloc::{AllocError, Global};
+use std::slice;
+
+// The automaton of a mode.
+fn automaton(lexer: &RuleLexer, mode: usize) -> &Dfa
+    requires there { mode < lexer.now.modes }
+    ensures { RecognizesAll result.now (trees_in lexer.now mode) lexer.now.precedences }
+{
+    lexer.lexer(mode).dense().dfa()
+}
+
+// What stands at a state that accepts a rule: its token, and what it does, as files of rules write it.
+fn label(alloc: Global, rules: &FileLexer, rule: NfaIndex) -> Result<String, AllocError>
+    ensures { IfOk result (λ text. string_bytes text
+        ≡ label rules.now.lexer (map string_bytes rules.now.modes.items) rule) }
+{
+    let mut text = String::new(alloc);
+    push_token(&mut text, &rules.modes, &rules.lexer, Some(rule))?;
+    Ok(text)
+}
+
+// The label of each rule.
+fn labels(alloc: Global, rules: &FileLexer) -> Result<Vec<String>, AllocError>
+    ensures { IfOk result (λ all. map string_bytes all.items
+        ≡ labels rules.now.lexer (map string_bytes rules.now.modes.items)) }
+{
+    let mut all = Vec::new(alloc);
+    for rule in 0..rules.lexer.names().len() {
+        let text = label(alloc, rules, NfaIndex::new(rule))?;
+        all.push(text)?;
+    }
+    Ok(all)
+}
+
+// The picture of the smallest automaton of a mode, with its name, if there are several.
+fn mode_picture(
+    alloc: Global,
+    rules: &FileLexer,
+    labels: &[String],
+    mode: usize,
+) -> Result<String, AllocError>
+    requires there { mode < rules.now.lexer.modes }
+    ensures { IfOk result (λ text. (least : List Row)
+        × (IsSmallestIn rules.now.lexer mode least
+        × (string_bytes text ≡ dot (mode_named (map string_bytes rules.now.modes.items) mode)
+        (map string_bytes labels.now) least))) }
+{
+    let least = minimized(alloc, automaton(&rules.lexer, mode))?;
+    dot(alloc, mode_named(&rules.modes, mode), &least, labels)
+}
+
+// The pictures of all modes, one after the other.
+fn mode_pictures(alloc: Global, rules: &FileLexer) -> Result<String, AllocError>
+    ensures { IfOk result (λ text. ArePictures
+        (IsModePicture rules.now.lexer (map string_bytes rules.now.modes.items))
+        (range_with_len 0 rules.now.lexer.modes) (string_bytes text)) }
+{
+    let labels = labels(alloc, rules)?;
+    let mut text = String::new(alloc);
+    for mode in 0..rules.lexer.modes() {
+        let one = mode_picture(alloc, rules, &labels, mode)?;
+        text.push_str(&one)?;
+    }
+    Ok(text)
+}
+
+// The picture of the smallest automaton of a rule's tree alone.
+fn rule_picture(alloc: Global, label: &String, tree: &Regex) -> Result<String, AllocError>
+    ensures { IfOk result (λ text. (least : List Row) × (IsSmallestOf tree.now least
+        × (string_bytes text ≡ dot None (string_bytes label.now ∷ []) least))) }
+{
+    match build_dfa(alloc, slice::from_ref(tree), &[Precedence(0)]) {
+        Ok(dfa) => {
+            let least = minimized(alloc, &dfa)?;
+            dot(alloc, None, &least, slice::from_ref(label))
+        }
+        // The tree of a rule can be compiled, and alone it clashes with none, so only memory can be refused.
+        Err(_) => Err(AllocError),
+    }
+}
+
+// The pictures of the rules with this name, one after the other.
+fn rule_pictures(alloc: Global, rules: &FileLexer, name: &str) -> Result<String, AllocError>
+    ensures { IfOk result (λ text. ArePictures
+        (IsRulePicture rules.now.lexer (map string_bytes rules.now.modes.items))
+        (rules_named rules.now.lexer name.now) (string_bytes text)) }
+{
+    let mut text = String::new(alloc);
+    for (index, tree) in rules.lexer.regexs().iter().enumerate() {
+        let rule = NfaIndex::new(index);
+        if name_of(&rules.lexer, rule) == name {
+            let label = label(alloc, rules, rule)?;
+            let one = rule_picture(alloc, &label, tree)?;
+            text.push_str(&one)?;
+        }
+    }
+    Ok(text)
+}
+
+// Whether some rule has the name.
+fn has_name(names: &[String], name: &str) -> bool
+    ensures { result ≡ has (map string_bytes names.now) name.now }
+{
+    for own in names {
+        if own.as_str() == name {
+            return true;
+        }
+    }
+    false
+}
+
+// The given name, if no rule has it.
+fn missing<'name>(lexer: &RuleLexer, given: Option<&'name str>) -> Option<&'name str>
+    ensures missing { IfSome result (λ name.
+        IsMissing lexer.now (option_map (λ n. n.now) given.entry) name.now) }
+    ensures there { IfNone result (IfSome given.entry (λ name.
+        has lexer.now.names name.now ≡ true)) }
+{
+    let name = given?;
+    if has_name(lexer.names(), name) {
+        return None;
+    }
+    Some(name)
+}
+
+// What is drawn: each mode; or, if a name is given, the rules that have it.
+fn drawing(alloc: Global, rules: &FileLexer, given: Option<&str>) -> Result<String, AllocError>
+    requires there { IfSome given (λ name. has rules.now.lexer.names name.now ≡ true) }
+    ensures drawn { IfOk result (λ text.
+        IsDrawn rules.now.lexer (map string_bytes rules.now.modes.items)
+        (option_map (λ n. n.now) given.entry) (string_bytes text)) }
+{
+    match given {
+        Some(name) => rule_pictures(alloc, rules, name),
+        None => mode_pictures(alloc, rules),
+    }
+}
+
+// What is said if no rule has the name.
+fn no_rule(alloc: Global, name: &str) -> Result<String, AllocError>
+    ensures { IfOk result (λ reason. string_bytes reason ≡ no_rule name.now) }
+{
+    format!(in alloc; "no rule has the name \"{name}\"; leave it out to draw each mode")
+}
+
+// What is answered if no rule of the file has the name.
+fn refused(alloc: Global, file: &str, name: &str) -> Result<Reply, AllocError>
+    ensures answer { IfOk result (λ reply.
+        reply ≡ refusal 4 (about file.now (no_rule name.now))) }
+{
+    let reason = no_rule(alloc, name)?;
+    let message = about(alloc, file, reason.as_str())?;
+    Ok(Reply::refusal(alloc, WRONG_ARGUMENTS, message))
+}
+
+// The first name, if there is one.
+fn first<'name>(names: &[&'name str]) -> Option<&'name str>
+    ensures { option_map (λ n. n.now) result ≡ slice_get (map (λ n. n.now) names.now) 0 }
+{
+    names.first().copied()
+}
+
+// What is answered where pictures are wanted for Graphviz: of the smallest automata of all modes; or, if a name stands after
+// RULES, of each rule of this name alone. If no rule has it, this is said of the file.
+fn picture_reply(
+    alloc: Global,
+    file: &str,
+    rules: &FileLexer,
+    names: &[&str],
+) -> Result<Reply, AllocError>
+    ensures answer { IfOk result
+        (PictureAnswer file.now (slice_get (map (λ n. n.now) names.now) 0)
+        rules.now.lexer (map string_bytes rules.now.modes.items)) }
+{
+    let given = first(names);
+    if let Some(name) = missing(&rules.lexer, given) {
+        return refused(alloc, file, name);
+    }
+    let text = drawing(alloc, rules, given)?;
+    Ok(Reply::written(alloc, 0, text.into_bytes()))
+}
+
+/// What is answered where pictures of the automata of a file of rules are wanted.
+///
+/// # Errors
+///
+/// `AllocError` if a request for memory was refused.
+pub fn draw<F: Files>(
+    alloc: Global,
+    verbosity: Verbosity,
+    files: &F,
+    rules: &str,
+    names: &[&str],
+) -> Result<Reply, AllocError>
+    ensures answer { IfOk result (ByLexer (GivesWhole (F.gives files.now)) verbosity
+        (PictureAnswer rules.now (slice_get (map (λ n. n.now) names.now) 0)) rules.now) }
+{
+    match lexer_by_name(alloc, verbosity, files, rules)? {
+        Ok(found) => { picture_reply(alloc, rules, &found.lexer, names)?.after(0, found.said) }
+        Err(reply) => Ok(reply),
+    }
+}

@@ -1,6 +1,0 @@
-use Rattle.std.proofs.Common.{◌≡◌, false, map, take}
-use Rattle.tokens_lib.specs.Command.{has}
-use Rattle.tokens_lib.proofs.command.has.Given as goal
-
-abbrev pub invariant-loop-other : goal.invariant-loop-other
-invariant-loop-other l = has (map (λ w. w.now) (take l.other-index l.words)) l.word ≡ false

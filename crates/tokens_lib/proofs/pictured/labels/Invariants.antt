@@ -1,7 +1,0 @@
-use Rattle.std.proofs.Common.{◌≡◌, map, string_bytes}
-use Rattle.std.specs.List.{range_with_len}
-use Rattle.tokens_lib.specs.Pictured.{label}
-use Rattle.tokens_lib.proofs.pictured.labels.Given as goal
-
-abbrev pub invariant-loop-rule : goal.invariant-loop-rule
-invariant-loop-rule l = map string_bytes l.all.items ≡ map (label l.rules.lexer (map string_bytes l.rules.modes.items)) (range_with_len 0 l.rule)
