@@ -107,7 +107,7 @@ fn cut_signs(alloc: Global, text: &str) -> Result<(usize, bool), AllocError> {
     Ok((cut.pieces.len(), cut.is_whole))
 }
 
-// Whether a text of `count` signs has so many pieces, and whether the modes are too deep.
+// Whether a text of `count` signs has this many pieces, and whether the modes are too deep.
 fn are_signs(alloc: Global, count: usize, pieces: usize, is_whole: bool) -> bool {
     match "<".repeat(alloc, count) {
         Ok(text) => cut_signs(alloc, &text) == Ok((pieces, is_whole)),

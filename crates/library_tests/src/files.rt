@@ -374,7 +374,7 @@ part = /{part}y/
 SET = /[{D}]/
 ";
 
-// Where no part is known, a name is refused as that of a part too.
+// A name in braces is refused if no part above has it.
 const BY_LEXER: &[(&[u8], &str)] = &[
     (
         b"A = /a{P}/\nP part = /p/",

@@ -77,7 +77,7 @@ const TREES: &[(&str, &str)] = &[
     ("(?i)(?-i)(?u){D}", "[0..9]"),
 ];
 
-// In brackets and behind a backslash there is no part.
+// In brackets and after a backslash nothing is a part.
 const NO_PARTS: &[(&str, &str)] = &[
     ("[{D}]", "[D { }]"),
     ("\\{D}", "('{' 'D' '}')"),

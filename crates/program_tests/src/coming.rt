@@ -98,7 +98,7 @@ fn reads(bytes: usize, at_once: usize) -> usize {
     rounded.checked_div(at_once).unwrap_or(0)
 }
 
-// What a reader gives has these lines and this end after so many calls.
+// What a reader gives has these lines and this end after this many calls.
 fn is_cut(
     alloc: Global,
     lexer: &RuleLexer,

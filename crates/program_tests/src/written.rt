@@ -228,7 +228,7 @@ fn marked(alloc: Global, bytes: &[u8]) -> Result<Vec<u8>, AllocError> {
     Ok(all)
 }
 
-// The same behind a byte order mark.
+// The same after a byte order mark.
 fn is_written_behind_a_mark(alloc: Global, rules: &[u8], job: &Job) -> bool {
     match marked(alloc, job.bytes) {
         Ok(bytes) => is_written_bit_by_bit(alloc, rules, job, &bytes),
