@@ -276,7 +276,7 @@ fn by_chunks(alloc: Global, lexer: &RuleLexer, text: &str) -> Result<Found, Allo
         if chunks.is_ended() {
             break;
         }
-        chunks.feed(line)?;
+        chunks.feed(line.as_bytes())?;
         add_pieces(&mut found, &mut chunks)?;
     }
     chunks.finish();
