@@ -1053,6 +1053,17 @@ static uint64_t json_ends_of(const json_ahead_cell *rows, size_t least) {
         }
         return bits;
     }
+    /* Four rows of 32 bits are compared at once, as numbers with a sign: no row is 2^31 or more. */
+    if (sizeof(json_ahead_cell) == 4 && 0 < least && least <= 0x7FFFFFFF) {
+        const __m128i before = _mm_set1_epi32((int)least - 1);
+        for (k = 0; k < 64; k += 16) {
+            const __m128i *at = (const __m128i *)(const void *)(rows + k);
+            __m128i low = _mm_packs_epi32(_mm_cmpgt_epi32(_mm_loadu_si128(at), before), _mm_cmpgt_epi32(_mm_loadu_si128(at + 1), before));
+            __m128i high = _mm_packs_epi32(_mm_cmpgt_epi32(_mm_loadu_si128(at + 2), before), _mm_cmpgt_epi32(_mm_loadu_si128(at + 3), before));
+            bits |= (uint64_t)(uint32_t)_mm_movemask_epi8(_mm_packs_epi16(low, high)) << k;
+        }
+        return bits;
+    }
 #endif
     for (k = 1; k <= 64; k++) {
         bits = bits * 2 + (rows[64 - k] >= least);

@@ -1,14 +1,14 @@
 //! The numbers of a table that runs ahead: it reads each byte of a text, on past the ends of tokens.
 //!
 //! The numbers are made with no promise, and then checked. What is proved is the check.
-ghost use Rattle.std.specs.Prelude.{◌≡◌, ◌+◌, ◌*◌, ◌<◌, ◌≤◌, ◌^◌, ℕ, length, max, min, IsTrue, IfOk, IfSome};
-ghost use Rattle.lalrpop_dense.specs.DenseTable.{AreClasses, character_class};
+ghost use Rattle.std.specs.Prelude.{◌≡◌, ◌+◌, ◌-◌, ◌*◌, ◌<◌, ◌≤◌, ◌^◌, ℕ, length, max, min, IsTrue, IfOk, IfSome};
+ghost use Rattle.lalrpop_dense.specs.DenseTable.{AreClasses, block_of_page, character_class};
 ghost use Rattle.lalrpop_emit.specs.Ahead.{Begin, IsAheadOf, StandsFor};
 ghost use Rattle.lalrpop_emit.specs.NumberedRules.{IsStorableAhead};
 ghost use Rattle.lalrpop_emit.specs.Internal.Lists.{AreSmall, IsRightRow, LeadsRight, ahead_numbers, list_numbers};
 ghost use Rattle.lalrpop_emit.specs.Internal.Walking.{CanRunAhead, IsWalkable};
 
-use crate::driver::class;
+use crate::driver::{block, class};
 use crate::standing::{
     Standing, by_column, cell, is_end, is_live, is_lost, is_told, row_by, rule_number,
 };
@@ -187,55 +187,55 @@ fn page_end(table: &TableLists) -> usize
     table.pages.len().max(2).min(PAGES)
 }
 
-// How many columns there are to be: classes have one up to the greatest of a character beyond ASCII.
-fn column_count(table: &TableLists) -> usize
-    requires { AreClasses (list_numbers table.now) }
+// Whether the page has the block of the page before it, as most do.
+fn is_as_before(table: &TableLists, page: usize) -> bool
+    requires pages { 0 < length table.now.pages.items }
+    requires after { 0 < page }
+    ensures { IsTrue result → block_of_page (list_numbers table.now) page
+        ≡ block_of_page (list_numbers table.now) (page - 1) }
 {
-    let mut classes = 0usize;
-    for code in 128..page_end(table) * 128 {
-        classes = classes.max(class(table, code as u32).saturating_add(1));
-    }
-    classes.saturating_add(OTHER_COLUMNS)
+    block(table, page) == block(table, page - 1)
 }
 
-// Whether the class of each character of the page is among the first `count`.
-fn is_page_below(table: &TableLists, page: usize, count: usize) -> bool
+// The greatest class of a character of the page.
+fn greatest_of_page(table: &TableLists, page: usize) -> usize
     requires classes { AreClasses (list_numbers table.now) }
     requires page { page < 8704 }
-    ensures { IsTrue result → (c : ℕ) → page * 128 ≤ c → c < page * 128 + 128
-        → character_class (list_numbers table.now) c < count }
+    ensures { (c : ℕ) → page * 128 ≤ c → c < page * 128 + 128
+        → character_class (list_numbers table.now) c ≤ result }
 {
+    let mut greatest = 0;
     for code in page * 128..page * 128 + 128 {
-        if class(table, code as u32) >= count {
-            return false;
-        }
+        greatest = greatest.max(class(table, code as u32));
     }
-    true
+    greatest
 }
 
-// Whether the class of each character beyond ASCII is among the first `count`.
-fn are_classes_below(table: &TableLists, count: usize) -> bool
+// The greatest class of a character beyond ASCII.
+fn greatest_class(table: &TableLists) -> usize
     requires { AreClasses (list_numbers table.now) }
-    ensures { IsTrue result → (c : ℕ) → 128 ≤ c → c < 1114112
-        → character_class (list_numbers table.now) c < count }
+    ensures { (c : ℕ) → 128 ≤ c → c < 1114112
+        → character_class (list_numbers table.now) c ≤ result }
 {
-    for page in 1..page_end(table) {
-        if !is_page_below(table, page, count) {
-            return false;
+    let mut greatest = greatest_of_page(table, 1);
+    for page in 2..page_end(table) {
+        if !is_as_before(table, page) {
+            greatest = greatest.max(greatest_of_page(table, page));
         }
     }
-    true
+    greatest
 }
 
 // Whether the numbers are those of the table.
 fn is_ahead(ahead: &AheadLists, table: &TableLists, standings: &[Standing]) -> bool
     requires walkable { IsWalkable (list_numbers table.now) }
     requires narrow { ahead.now.width ≤ 2 ^ 16 }
+    requires columns { 130 ≤ ahead.now.width }
+    requires beyond { (c : ℕ) → 128 ≤ c → c < 1114112
+        → character_class (list_numbers table.now) c < ahead.now.width - 130 }
     ensures { IsTrue result → IsAheadOf (ahead_numbers ahead.now) (list_numbers table.now) }
 {
-    if ahead.width < OTHER_COLUMNS
-        || !are_classes_below(table, ahead.width - OTHER_COLUMNS)
-        || standings.len().checked_mul(ahead.width + 1) != Some(ahead.cells.len())
+    if standings.len().checked_mul(ahead.width + 1) != Some(ahead.cells.len())
         || !stands_for(ahead, standings, ahead.start, Standing::Begin)
     {
         return false;
@@ -262,10 +262,11 @@ pub(crate) fn ahead_of(alloc: Global, table: &TableLists) -> Result<Option<Ahead
     ensures storable { IfOk result
         (λ made. IfSome made (λ ahead. IsStorableAhead (ahead_numbers ahead))) }
 {
-    let width = column_count(table);
-    if width > MOST_COLUMNS {
+    let greatest = greatest_class(table);
+    if greatest >= MOST_COLUMNS - OTHER_COLUMNS {
         return Ok(None);
     }
+    let width = greatest + 1 + OTHER_COLUMNS;
     let rows = rows_of(alloc, table, width + 1)?;
     if rows.end > MOST {
         return Ok(None);

@@ -34,7 +34,10 @@ fn beyond_ascii(alloc: Global, table: &TableLists) -> Result<Vec<bool>, AllocErr
     let mut marks = vec![in alloc; false; table.width]?;
     let first = if table.pages.len() > 1 { 1 } else { 0 };
     for page in first..table.pages.len() {
-        mark_block(&table.blocks, table.pages[page], &mut marks);
+        // Most pages have the block of the page before them.
+        if page == first || table.pages[page] != table.pages[page - 1] {
+            mark_block(&table.blocks, table.pages[page], &mut marks);
+        }
     }
     Ok(marks)
 }

@@ -134,7 +134,7 @@ pub(crate) fn read(text: &[u8], at: usize) -> Option<Character>
 }
 
 // The block of the page with this number. Pages after the last one have its block.
-fn block(table: &Table, page: usize) -> usize
+pub(crate) fn block(table: &Table, page: usize) -> usize
     requires { 0 < length table.now.pages.items }
     ensures { result ≡ block_of_page (list_numbers table.now) page }
 {

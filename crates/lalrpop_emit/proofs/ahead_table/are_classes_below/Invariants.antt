@@ -1,8 +1,0 @@
-use Rattle.std.proofs.Common.{◌*◌}
-use Rattle.lalrpop_emit.specs.Internal.Lists.{list_numbers}
-use Rattle.lalrpop_emit.proofs.AheadTables.{AreClassesBelow}
-use Rattle.lalrpop_emit.proofs.ahead_table.are_classes_below.Given as goal
-
--- those of the pages so far
-abbrev pub invariant-loop-page : goal.invariant-loop-page
-invariant-loop-page l = AreClassesBelow (list_numbers l.table) l.count (l.page * 128)

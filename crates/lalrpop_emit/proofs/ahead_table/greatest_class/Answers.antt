@@ -1,0 +1,1 @@
+use Rattle.lalrpop_emit.proofs.ahead_table.greatest_class.Goals as goal
