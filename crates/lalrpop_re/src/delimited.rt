@@ -1,5 +1,5 @@
 //! The pattern from a beginning up to the first end.
-ghost use Rattle.std.specs.Prelude.{◌≡◌, ℕ, ◌<◌, ◌↔◌, List, [], length, All, IfOk, Err, None};
+ghost use Rattle.std.specs.Prelude.{◌≡◌, ◌≢◌, ℕ, ◌<◌, ◌≤◌, ◌↔◌, List, [], length, All, IfOk, OnOk, Err, None};
 ghost use Rattle.std.specs.Str.{chars};
 ghost use Rattle.lalrpop_hir.specs.Language.{Matches};
 ghost use Rattle.lalrpop_hir.specs.Fault.{fault};
@@ -16,6 +16,25 @@ use std::alloc::Global;
 /// The greatest number of characters of an end.
 pub const LONGEST_END: usize = 64;
 
+// The characters of an end.
+#[tactic(auto, using(std::proofs::lemmas::Str::chars_from_encodes))]
+fn end_of(alloc: Global, to: &str) -> Result<Vec<char>, FromToError>
+    ensures end { IfOk result (λ end. end.items ≡ chars to.now) }
+    ensures some { OnOk result (to.now ≢ []) }
+    ensures few { OnOk result (length (chars to.now) ≤ 64) }
+    ensures empty { (result ≡ Err EmptyEnd) ↔ (to.now ≡ []) }
+    ensures long { (result ≡ Err LongEnd) ↔ (64 < length (chars to.now)) }
+{
+    if to.is_empty() {
+        return Err(FromToError::EmptyEnd);
+    }
+    if to.chars().count() > LONGEST_END {
+        return Err(FromToError::LongEnd);
+    }
+    let end = to.chars().collect(alloc)?;
+    Ok(end)
+}
+
 /// The pattern of the words that begin with `from` and end with the first `to` behind it. `from` may be empty. The two don't
 /// overlap: `/*/` is no word from `/*` to `*/`.
 ///
@@ -29,7 +48,6 @@ pub const LONGEST_END: usize = 64;
 ///
 /// `FromToError::EmptyEnd` if `to` is empty, `FromToError::LongEnd` if it has more than 64 characters, and
 /// `FromToError::OutOfMemory` if a request for memory was refused.
-#[tactic(auto, using(std::proofs::lemmas::Str::chars_from_encodes))]
 pub fn from_to(alloc: Global, from: &str, to: &str) -> Result<Regex, FromToError>
     ensures tree { IfOk result (λ tree. (w : List ℕ) → All IsScalar w
         → Matches tree w ↔ IsFromTo (chars from.now) (chars to.now) w) }
@@ -39,13 +57,7 @@ pub fn from_to(alloc: Global, from: &str, to: &str) -> Result<Regex, FromToError
     ensures empty { (result ≡ Err EmptyEnd) ↔ (to.now ≡ []) }
     ensures long { (result ≡ Err LongEnd) ↔ (64 < length (chars to.now)) }
 {
-    if to.is_empty() {
-        return Err(FromToError::EmptyEnd);
-    }
-    if to.chars().count() > LONGEST_END {
-        return Err(FromToError::LongEnd);
-    }
-    let end: Vec<char> = to.chars().collect(alloc)?;
+    let end = end_of(alloc, to)?;
     let edges = automaton(alloc, from, &end)?;
     let tree = tree_of(alloc, edges, end.len())?;
     Ok(tree)

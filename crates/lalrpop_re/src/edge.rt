@@ -10,7 +10,7 @@ use std::alloc::{AllocError, Global};
 use std::mem;
 
 /// An edge: the states that it leads from and to, the tree of the words that lead along it, and about the tree's size.
-#[derive(Clone, Debug, Drop)]
+#[derive(Clone, Drop)]
 pub(crate) struct Edge {
     pub(crate) from: usize,
     pub(crate) to: usize,
@@ -88,11 +88,10 @@ pub(crate) fn through(
     ensures tree { IfOk result (λ edge. edge.tree
         ≡ concat (also entry.now.tree (also turns.now.tree (also exit.now.tree none)))) }
 {
-    let parts = vec![in alloc;
-        entry.tree.clone()?,
-        turns.tree.clone()?,
-        exit.tree.clone()?,
-    ]?;
+    let mut parts = Vec::new(alloc);
+    parts.push(entry.tree.clone()?)?;
+    parts.push(turns.tree.clone()?)?;
+    parts.push(exit.tree.clone()?)?;
     Ok(Edge {
         from: entry.from,
         to: exit.to,
