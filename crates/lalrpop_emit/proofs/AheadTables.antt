@@ -26,6 +26,36 @@ pages_below t count end is below c low high =
     subst (λ (n : ℕ). n < count) same (below d (omega (arith, is)) (omega (arith, is))))
     (cases_lt c (end * 128))
 
+-- more classes are among more of them
+pub classes_among_more : (t : TableNumbers) (few many end : ℕ) → few ≤ many → AreClassesBelow t few end → AreClassesBelow t many end
+classes_among_more t few many end more below c low high = omega (arith, more, below c low high)
+
+-- those of a page more
+pub page_more : (t : TableNumbers) (count page : ℕ) → AreClassesBelow t count (page * 128)
+    → ((c : ℕ) → page * 128 ≤ c → c < page * 128 + 128 → character_class t c < count) → AreClassesBelow t count ((page + 1) * 128)
+page_more t count page below own c low high =
+    ⊎_elim (λ (before : c < page * 128). below c low before)
+    (λ (here : page * 128 ≤ c). own c here (omega (arith, high)))
+    (cases_lt c (page * 128))
+
+-- those of a page with the block of the page before it
+pub page_as_before : (t : TableNumbers) (count page : ℕ) → 2 ≤ page → block_of_page t page ≡ block_of_page t (page - 1)
+    → AreClassesBelow t count (page * 128) → AreClassesBelow t count ((page + 1) * 128)
+page_as_before t count page second same below = page_more t count page below own
+  where
+    own : (c : ℕ) → page * 128 ≤ c → c < page * 128 + 128 → character_class t c < count
+    own c low high =
+        let d = c - 128 in
+        let here : c / 128 ≡ page = omega (arith, low, high) in
+        let before : d / 128 ≡ page - 1 = omega (arith, low, high, second) in
+        let place : d % 128 ≡ c % 128 = omega (arith, low, second) in
+        let is_same : character_class t d ≡ character_class t c =
+        ap (λ (n : ℕ). slice_index t.blocks (block_of_page t n * 128 + d % 128)) before
+        ∙ ap (λ (block : ℕ). slice_index t.blocks (block * 128 + d % 128)) (sym same)
+        ∙ ap (λ (n : ℕ). slice_index t.blocks (block_of_page t n * 128 + d % 128)) (sym here)
+        ∙ ap (λ (n : ℕ). slice_index t.blocks (block_of_page t (c / 128) * 128 + n)) place in
+        subst (λ (n : ℕ). n < count) is_same (below d (omega (arith, low, second)) (omega (arith, low, high, second)))
+
 -- classes among the first have columns
 pub few_beyond : (t : TableNumbers) (width : ℕ) → 130 ≤ width → AreClassesBelow t (width - 130) 1114112 → (c : ℕ) → 128 ≤ c → c < 1114112
     → 128 + character_class t c < within_column width

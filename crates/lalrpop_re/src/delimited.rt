@@ -10,14 +10,13 @@ ghost use Rattle.lalrpop_re.specs.declared.from_to_error.FromToError.TheVariants
 use crate::elimination::tree_of;
 use crate::from_to_error::FromToError;
 use crate::search::automaton;
-use lalrpop_hir::Regex;
+use lalrpop_hir::{Regex, char_count};
 use std::alloc::Global;
 
 /// The greatest number of characters of an end.
 pub const LONGEST_END: usize = 64;
 
 // The characters of an end.
-#[tactic(auto, using(std::proofs::lemmas::Str::chars_from_encodes))]
 fn end_of(alloc: Global, to: &str) -> Result<Vec<char>, FromToError>
     ensures end { IfOk result (λ end. end.items ≡ chars to.now) }
     ensures some { OnOk result (to.now ≢ []) }
@@ -28,7 +27,7 @@ fn end_of(alloc: Global, to: &str) -> Result<Vec<char>, FromToError>
     if to.is_empty() {
         return Err(FromToError::EmptyEnd);
     }
-    if to.chars().count() > LONGEST_END {
+    if char_count(to) > LONGEST_END {
         return Err(FromToError::LongEnd);
     }
     let end = to.chars().collect(alloc)?;

@@ -1,4 +1,4 @@
-use Rattle.std.proofs.Common.{◌≡◌, ℕ, ◌+◌, ◌*◌, ◌≤◌, Option, Some, None, false, sym, subst, length, arith}
+use Rattle.std.proofs.Common.{◌≡◌, ℕ, ◌+◌, ◌*◌, Option, Some, None, false, sym, subst, length, arith}
 use Rattle.std.specs.Prelude.{slice_get, SomeIff}
 use Rattle.std.specs.Option.{option_eq}
 use Rattle.std.proofs.lemmas.Bool.Decides.{nat_tests}
@@ -28,8 +28,7 @@ product_is (Some m) fits product n is same = grind (arith, nat_tests)
 
 pub returns : goal.returns
 returns c = λ _.
-    let columns : 130 ≤ c.args.ahead.now.width = omega (arith, c.if-ahead-lt-OTHER_COLUMNS.false) in
-    ahead_by_rows (ahead_numbers c.args.ahead.now) (list_numbers c.args.table.now) c.args.standings.now columns (few_beyond (list_numbers c.args.table.now) c.args.ahead.now.width columns (c.are_classes_below.ensures c.if-not-are_classes_below.false))
+    ahead_by_rows (ahead_numbers c.args.ahead.now) (list_numbers c.args.table.now) c.args.standings.now c.requires.columns (few_beyond (list_numbers c.args.table.now) c.args.ahead.now.width c.requires.columns c.requires.beyond)
     (cc (product_is c.checked_mul.result _ (length c.args.standings.now * (c.args.ahead.now.width + 1)) c.len.result c.checked_mul.ensures (sym c.if-ne.ensures), c.len.ensures))
     (c.stands_for.ensures c.if-not-stands_for.false)
     (λ k s at. c.loop-number.invariant k s (omega (arith, slice_get_within c.args.standings.now k s at)) at)

@@ -11,3 +11,6 @@ returns-then-is_empty-clause-long c =
     let none : c.args.to.now ≡ [] = nil_from_length c.args.to.now ((Decides-eqb (length c.args.to.now) 0).0 (sym c.if-is_empty.ensures)) in
     let short : length (chars c.args.to.now) ≡ 0 = ap (λ l. length (chars l)) none ∙ ap length chars-nil in
     (λ e. absurd (cc), λ h. absurd (omega arith))
+
+pub returns-clause-end : goal.returns-clause-end
+returns-clause-end c = search (rules, chars_from_encodes)
