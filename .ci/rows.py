@@ -28,7 +28,7 @@ def rows(file):
 def folder(build):
     """A folder for the commands of a file, and the environment in which the programs' names stand for this build."""
     with tempfile.TemporaryDirectory(prefix="rows-") as at, tempfile.TemporaryDirectory(prefix="programs-") as programs:
-        for name in ("lexdfa", "tokens"):
+        for name in ("lexdfa", "tokens", "guide"):
             os.symlink(TOP / "crates" / name / "out" / (name + build), f"{programs}/{name}")
         yield at, {**os.environ, "TOP": str(TOP), "PATH": f"{programs}:{os.environ['PATH']}"}
 

@@ -1,11 +1,12 @@
 //! Cuts a text by the rules of a file, both named on the command line, and shows each token with a kind of this program's own.
 #![tactic(auto)]
 
-use anyhow::{Context, Result, bail};
+use crate::files::{lexer_of, text_of};
+use anyhow::{Result, bail};
 use bajofeki::{Item, Position, RuleLexer};
 use std::alloc::Global;
+use std::env;
 use std::io::Print;
-use std::{env, fs};
 
 #[derive(Clone, Copy, Debug)]
 enum Kind {
@@ -55,15 +56,11 @@ fn show<'x>(rt: &impl Print, alloc: Global, lexer: &'x RuleLexer, text: &'x str)
 /// Reads both files and writes the tokens of the second.
 pub fn main(rt: HostRuntime) -> Result<()> {
     let alloc = rt.alloc();
-    let mut words = env::args(&rt)?;
-    // The first word is the name of the program.
-    words.next();
-    let (Some(rules_name), Some(text_name)) = (words.next(), words.next()) else {
+    let words: Vec<String> = env::args(&rt)?.collect(alloc)?;
+    let [_, rules, text] = words.as_slice() else {
         bail!("usage: config_reader RULES TEXT");
     };
-    let bytes = fs::read_to_string(&rt, &rules_name).context(format_args!("{rules_name:?}"))?;
-    let made = RuleLexer::from_file(alloc, bytes.as_bytes());
-    let lexer = made.context(format_args!("{rules_name:?}"))?;
-    let text = fs::read_to_string(&rt, &text_name).context(format_args!("{text_name:?}"))?;
+    let lexer = lexer_of(&rt, rules)?;
+    let text = text_of(&rt, text)?;
     show(&rt, alloc, &lexer, &text)
 }

@@ -6,9 +6,8 @@ ghost use Rattle.std.specs.List.{list_all};
 ghost use Rattle.guide.specs.Marks.{without_marks};
 ghost use Rattle.guide.specs.Internal.Shows.{Shows, is_plain_byte};
 
-use lalrpop_lexer::Lexer;
 use lalrpop_lexer::lexer::dfa::Precedence;
-use lalrpop_lexer::lexer::re::parse_regex;
+use lalrpop_lexer::{Form, Lexer};
 use std::alloc::{AllocError, Global};
 use thiserror::Error;
 
@@ -84,13 +83,12 @@ pub fn highlighted(alloc: Global, lexer: &Lexer, text: &str) -> Result<String, S
 /// Shows a text.
 pub fn main(rt: HostRuntime) -> anyhow::Result<()> {
     let alloc = rt.alloc();
-    let regexs = vec![in alloc;
-        parse_regex(alloc, "let|in")?,
-        parse_regex(alloc, "[0-9]+")?,
-        parse_regex(alloc, r"[a-z]+|[=+]|\s+")?,
-    ]?;
-    let precedences = vec![in alloc; Precedence(1), Precedence(0), Precedence(0)]?;
-    let lexer = Lexer::new(alloc, regexs, precedences)?;
+    let patterns = [
+        (Precedence(1), Form::Pattern, "let|in"),
+        (Precedence(0), Form::Pattern, "[0-9]+"),
+        (Precedence(0), Form::Pattern, r"[a-z]+|[=+]|\s+"),
+    ];
+    let lexer = Lexer::from_patterns(alloc, &patterns)?;
     let shown = highlighted(alloc, &lexer, "let x = 7 in x + 35\n")?;
     print!(rt; "{shown}\x1b[0m")?;
     Ok(())

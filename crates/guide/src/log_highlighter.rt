@@ -2,11 +2,12 @@
 //! A file in place of standard input is named after the rules.
 #![tactic(auto)]
 
+use crate::files::lexer_of;
 use anyhow::{Context, Result, bail};
 use bajofeki::{Painter, RuleLexer, Stream};
 use std::alloc::Global;
 use std::env;
-use std::fs::{self, File};
+use std::fs::File;
 use std::io::{Print, Read};
 
 // Paints the pieces that nothing that comes can change, with U+FFFD for what isn't UTF-8.
@@ -57,20 +58,13 @@ fn paint_all<R: Read>(
 /// Reads the rules, and paints the log.
 pub fn main(rt: HostRuntime) -> Result<()> {
     let alloc = rt.alloc();
-    let mut words = env::args(&rt)?;
-    // The first word is the name of the program.
-    words.next();
-    let Some(rules_name) = words.next() else {
-        bail!("usage: log_highlighter RULES [LOG]");
-    };
-    let bytes = fs::read_to_string(&rt, &rules_name).context(format_args!("{rules_name:?}"))?;
-    let made = RuleLexer::from_file(alloc, bytes.as_bytes());
-    let lexer = made.context(format_args!("{rules_name:?}"))?;
-    match words.next() {
-        Some(name) => {
-            let mut log = File::open(&rt, &name).context(format_args!("{name:?}"))?;
-            paint_all(&rt, alloc, &lexer, &mut log)
+    let words: Vec<String> = env::args(&rt)?.collect(alloc)?;
+    match words.as_slice() {
+        [_, rules] => paint_all(&rt, alloc, &lexer_of(&rt, rules)?, &mut rt.reader()),
+        [_, rules, log] => {
+            let mut log = File::open(&rt, log).context(format_args!("{log:?}"))?;
+            paint_all(&rt, alloc, &lexer_of(&rt, rules)?, &mut log)
         }
-        None => paint_all(&rt, alloc, &lexer, &mut rt.reader()),
+        _ => bail!("usage: log_highlighter RULES [LOG]"),
     }
 }
