@@ -6,6 +6,7 @@
 #include <emmintrin.h>
 #endif
 
+#ifndef json_header
 static const char *const json_names[12] = {
     "SPACE",
     "OPEN_OBJECT",
@@ -20,6 +21,7 @@ static const char *const json_names[12] = {
     "NUMBER",
     "STRING",
 };
+#endif
 enum {
     json_kind_SPACE = 0,
     json_kind_OPEN_OBJECT = 1,
@@ -35,6 +37,7 @@ enum {
     json_kind_STRING = 11,
     json_fault = -1
 };
+#ifndef json_header
 static const uint16_t json_kinds[12] = {
 0, 1, 2, 3, 4, 5, 6, 7, 8, 9, 10, 11, };
 static const uint8_t json_skipped[12] = {
@@ -76,7 +79,9 @@ static const uint16_t json_pages_0[2] = {
 static const json_table json_tables[json_modes] = {
     {json_blocks_0, json_pages_0, 1},
 };
+#endif
 typedef uint16_t json_ahead_cell;
+#ifndef json_header
 
 /* The table of a mode that runs ahead: it reads each byte, on past the ends of tokens. Its cells lead from a row by a column to
    a row; after those of a row stands the rule of the token that ends there. */
@@ -545,16 +550,14 @@ static const json_ahead json_aheads[json_modes] = {
     {json_ahead_cells_0, 132, 131, 5280},
 };
 
-#ifdef __GNUC__
-#define json_inline static inline __attribute__((always_inline))
-#define json_apart static __attribute__((noinline))
-#else
-#define json_inline static inline
-#define json_apart static
 #endif
-/* What stands before the functions for users. */
+/* What stands before the functions for users. With `#define json_open static inline` each file that includes this one has functions
+   of its own. With `#define json_header` a file has what is declared here, and the functions of the one file that is without it. */
 #ifndef json_open
 #define json_open
+#endif
+#ifdef __cplusplus
+extern "C" {
 #endif
 
 enum {
@@ -602,6 +605,26 @@ typedef struct {
     size_t line;    /* from 1 on; a line feed ends its line */
     size_t column;  /* from 1 on; a character is a column */
 } json_position;
+
+json_open json_lexer json_begin(const char *text, size_t length);
+json_open size_t json_memo_size(size_t length);
+json_open json_lexer json_begin_linear(const char *text, size_t length, uint64_t *memo, size_t size);
+json_open int json_next(json_lexer *lexer, json_piece *piece);
+json_open void json_move_on(json_position *position, const char *text, size_t length, size_t to);
+json_open int json_skips(uint32_t rule);
+json_open const char *json_name(int kind);
+
+#ifdef __cplusplus
+}
+#endif
+#ifndef json_header
+#ifdef __GNUC__
+#define json_inline static inline __attribute__((always_inline))
+#define json_apart static __attribute__((noinline))
+#else
+#define json_inline static inline
+#define json_apart static
+#endif
 
 /* A memo of one mode. It has a bit for each row and each 64 bytes of the text: whether no match comes if a walk passes there in
    this row. That is so wherever the walk began. */
@@ -1282,7 +1305,7 @@ json_open json_lexer json_begin(const char *text, size_t length) {
 }
 
 /* How many words of 64 bits the memo of a text of `length` bytes takes. */
-size_t json_memo_size(size_t length) {
+json_open size_t json_memo_size(size_t length) {
     return json_product(json_memo_words(json_most_rows(), length), json_modes);
 }
 
@@ -1320,7 +1343,7 @@ json_open int json_next(json_lexer *lexer, json_piece *piece) {
 
 /* Moves on to the offset, if it is further on, and to the end of the text at most. A line feed ends its line, and a byte that
    doesn't follow in a character is a column. */
-void json_move_on(json_position *position, const char *text, size_t length, size_t to) {
+json_open void json_move_on(json_position *position, const char *text, size_t length, size_t to) {
     const unsigned char *bytes = (const unsigned char *)text;
     while (position->at < to && position->at < length) {
         if (bytes[position->at] == '\n') {
@@ -1334,11 +1357,12 @@ void json_move_on(json_position *position, const char *text, size_t length, size
 }
 
 /* Whether the pieces of a rule are skipped. */
-int json_skips(uint32_t rule) {
+json_open int json_skips(uint32_t rule) {
     return json_skipped[rule];
 }
 
 /* The name of a kind; that of a fault is empty. */
-const char *json_name(int kind) {
+json_open const char *json_name(int kind) {
     return kind == json_fault ? "" : json_names[kind];
 }
+#endif

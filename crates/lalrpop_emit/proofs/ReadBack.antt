@@ -75,7 +75,7 @@ read_typedef : (p name : List ℕ) (b c : Bool) (r s : List ℕ) → cell_typede
 unfolding cell_typedef
 read_typedef p name b c r s e =
     let text = filled p name in
-    let type = skip (codes "typedef ") (cell_type b ++ (codes " " ++ text)) (cell_type c ++ (codes " " ++ text)) r s e in
+    let type = skip (codes "#endif\ntypedef ") (cell_type b ++ (codes " " ++ text)) (cell_type c ++ (codes " " ++ text)) r s e in
     let cell = cut_before 32 (cell_type b) (cell_type c) [] (text ++ r) (text ++ s) (type_lacks b) (type_lacks c)
     (peel (cell_type b) (codes " " ++ text) (cell_type c) (codes " " ++ text) r s type) in
     append_cancel_left text r s cell.1

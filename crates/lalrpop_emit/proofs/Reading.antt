@@ -135,7 +135,7 @@ from_names ns = decimal (length ns) ++ (codes "] = {\n" ++ (quoted_names ns ++ c
 pub read_name_array : (p : List ℕ) (xs ys : List (List ℕ)) (r s : List ℕ) → length xs < 2 ^ 64 → length ys < 2 ^ 64 → All IsName xs → All IsName ys → name_array p xs ++ r ≡ name_array p ys ++ s → (xs ≡ ys) × (r ≡ s)
 unfolding name_array
 read_name_array p xs ys r s lx ly ax ay e =
-    let count = skip (filled p (codes "static const char *const $_names[")) (from_names xs) (from_names ys) r s e in
+    let count = skip (filled p (codes "#ifndef $_header\nstatic const char *const $_names[")) (from_names xs) (from_names ys) r s e in
     let size = read_decimal 93 (length xs) (length ys) (codes " = {\n") ((quoted_names xs ++ codes "};\n") ++ r) ((quoted_names ys ++ codes "};\n") ++ s) refl lx ly
     (peel (decimal (length xs)) (codes "] = {\n" ++ (quoted_names xs ++ codes "};\n")) (decimal (length ys)) (codes "] = {\n" ++ (quoted_names ys ++ codes "};\n")) r s count) in
     let parts = read_quoted xs ys (codes "};\n" ++ r) (codes "};\n" ++ s) size.0 ax ay (peel (quoted_names xs) (codes "};\n") (quoted_names ys) (codes "};\n") r s size.1) in

@@ -31,7 +31,7 @@ quoted_names (name ∷ names) = codes "    \"" ++ (name ++ (codes "\",\n" ++ quo
 
 unfoldable pub name_array : List ℕ → List (List ℕ) → List ℕ
 name_array prefix names =
-    filled prefix (codes "static const char *const $_names[")
+    filled prefix (codes "#ifndef $_header\nstatic const char *const $_names[")
     ++ (decimal (length names) ++ (codes "] = {\n" ++ (quoted_names names ++ codes "};\n")))
 
 -- an enumerator for each kind from the number k on
@@ -41,7 +41,7 @@ enumerators prefix k (name ∷ names) =
     filled prefix (codes "    $_kind_") ++ (name ++ (codes " = " ++ (decimal k ++ (codes ",\n" ++ enumerators prefix (k + 1) names))))
 
 unfoldable pub kind_enum : List ℕ → List (List ℕ) → List ℕ
-kind_enum prefix names = codes "enum {\n" ++ (enumerators prefix 0 names ++ filled prefix (codes "    $_fault = -1\n};\n"))
+kind_enum prefix names = codes "#endif\nenum {\n" ++ (enumerators prefix 0 names ++ filled prefix (codes "    $_fault = -1\n};\n#ifndef $_header\n"))
 
 -- 1 for true
 abbrev pub flags : List Bool → List ℕ
@@ -66,7 +66,7 @@ unfoldable pub cell_type : Bool → List ℕ
 cell_type narrow = if narrow then codes "uint16_t" else codes "uint32_t"
 
 unfoldable pub cell_typedef : List ℕ → Bool → List ℕ → List ℕ
-cell_typedef prefix narrow name = codes "typedef " ++ (cell_type narrow ++ (codes " " ++ filled prefix name))
+cell_typedef prefix narrow name = codes "#endif\ntypedef " ++ (cell_type narrow ++ (codes " " ++ filled prefix name))
 
 -- how many modes there are
 unfoldable pub mode_count : List ℕ → ℕ → List ℕ

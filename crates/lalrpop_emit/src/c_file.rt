@@ -111,7 +111,7 @@ fn push_name_array(source: &mut String, prefix: &str, names: &[String]) -> Resul
     ensures { OnOk result (string_bytes source.new
         ≡ string_bytes source.old ++ name_array prefix.now (map string_bytes names.now)) }
 {
-    push_filled(source, prefix, "static const char *const $_names[")?;
+    push_filled(source, prefix, "#ifndef $_header\nstatic const char *const $_names[")?;
     push_decimal(source, names.len() as u64)?;
     source.push_str("] = {\n")?;
     push_quoted_names(source, names)?;
@@ -138,9 +138,9 @@ fn push_kind_enum(source: &mut String, prefix: &str, names: &[String]) -> Result
     ensures { OnOk result (string_bytes source.new
         ≡ string_bytes source.old ++ kind_enum prefix.now (map string_bytes names.now)) }
 {
-    source.push_str("enum {\n")?;
+    source.push_str("#endif\nenum {\n")?;
     push_enumerators(source, prefix, names)?;
-    push_filled(source, prefix, "    $_fault = -1\n};\n")?;
+    push_filled(source, prefix, "    $_fault = -1\n};\n#ifndef $_header\n")?;
     Ok(())
 }
 
@@ -216,7 +216,7 @@ fn push_cell_typedef(
     ensures { OnOk result (string_bytes source.new
         ≡ string_bytes source.old ++ cell_typedef prefix.now narrow name.now) }
 {
-    source.push_str("typedef ")?;
+    source.push_str("#endif\ntypedef ")?;
     source.push_str(cell_type_of(narrow))?;
     source.push_str(" ")?;
     push_filled(source, prefix, name)

@@ -24,8 +24,10 @@ typedef struct {
 /* How many modes there are. */
 ";
 
-/// The type of a table that runs ahead, which stands between that of its cells and the tables.
-pub(crate) const AHEAD: &str = "
+/// The type of a table that runs ahead, which stands between that of its cells and the tables. What only the functions need isn't
+/// there for a file that defines `$_header`.
+pub(crate) const AHEAD: &str = "#ifndef $_header
+
 /* The table of a mode that runs ahead: it reads each byte, on past the ends of tokens. Its cells lead from a row by a column to
    a row; after those of a row stands the rule of the token that ends there. */
 typedef struct {
@@ -39,16 +41,14 @@ typedef struct {
 /// The code after the tables, with `$` where the prefix goes. `driver.rt`, `longest_match.rt`, `ahead_columns.rt`, `ahead_rows.rt`,
 /// `flag_ends.rt` and `ahead_driver.rt` have the same functions in Rattle, line by line: change both or none.
 pub(crate) const DRIVER: &str = "
-#ifdef __GNUC__
-#define $_inline static inline __attribute__((always_inline))
-#define $_apart static __attribute__((noinline))
-#else
-#define $_inline static inline
-#define $_apart static
 #endif
-/* What stands before the functions for users. */
+/* What stands before the functions for users. With `#define $_open static inline` each file that includes this one has functions
+   of its own. With `#define $_header` a file has what is declared here, and the functions of the one file that is without it. */
 #ifndef $_open
 #define $_open
+#endif
+#ifdef __cplusplus
+extern \"C\" {
 #endif
 
 enum {
@@ -96,6 +96,26 @@ typedef struct {
     size_t line;    /* from 1 on; a line feed ends its line */
     size_t column;  /* from 1 on; a character is a column */
 } $_position;
+
+$_open $_lexer $_begin(const char *text, size_t length);
+$_open size_t $_memo_size(size_t length);
+$_open $_lexer $_begin_linear(const char *text, size_t length, uint64_t *memo, size_t size);
+$_open int $_next($_lexer *lexer, $_piece *piece);
+$_open void $_move_on($_position *position, const char *text, size_t length, size_t to);
+$_open int $_skips(uint32_t rule);
+$_open const char *$_name(int kind);
+
+#ifdef __cplusplus
+}
+#endif
+#ifndef $_header
+#ifdef __GNUC__
+#define $_inline static inline __attribute__((always_inline))
+#define $_apart static __attribute__((noinline))
+#else
+#define $_inline static inline
+#define $_apart static
+#endif
 
 /* A memo of one mode. It has a bit for each row and each 64 bytes of the text: whether no match comes if a walk passes there in
    this row. That is so wherever the walk began. */
@@ -776,7 +796,7 @@ $_open $_lexer $_begin(const char *text, size_t length) {
 }
 
 /* How many words of 64 bits the memo of a text of `length` bytes takes. */
-size_t $_memo_size(size_t length) {
+$_open size_t $_memo_size(size_t length) {
     return $_product($_memo_words($_most_rows(), length), $_modes);
 }
 
@@ -814,7 +834,7 @@ $_open int $_next($_lexer *lexer, $_piece *piece) {
 
 /* Moves on to the offset, if it is further on, and to the end of the text at most. A line feed ends its line, and a byte that
    doesn't follow in a character is a column. */
-void $_move_on($_position *position, const char *text, size_t length, size_t to) {
+$_open void $_move_on($_position *position, const char *text, size_t length, size_t to) {
     const unsigned char *bytes = (const unsigned char *)text;
     while (position->at < to && position->at < length) {
         if (bytes[position->at] == '\\n') {
@@ -828,12 +848,13 @@ void $_move_on($_position *position, const char *text, size_t length, size_t to)
 }
 
 /* Whether the pieces of a rule are skipped. */
-int $_skips(uint32_t rule) {
+$_open int $_skips(uint32_t rule) {
     return $_skipped[rule];
 }
 
 /* The name of a kind; that of a fault is empty. */
-const char *$_name(int kind) {
+$_open const char *$_name(int kind) {
     return kind == $_fault ? \"\" : $_names[kind];
 }
+#endif
 ";

@@ -30,11 +30,11 @@ array_of_two : array (codes "lex") (codes "uint8_t $_skipped") (flags (true ∷ 
 unfolding array filled listing digits chars lib.Utf8.encode
 array_of_two = refl
 
-names_of_two : name_array (codes "lex") (codes "IF" ∷ codes "ID" ∷ []) ≡ codes "static const char *const lex_names[2] = {\n    \"IF\",\n    \"ID\",\n};\n"
+names_of_two : name_array (codes "lex") (codes "IF" ∷ codes "ID" ∷ []) ≡ codes "#ifndef lex_header\nstatic const char *const lex_names[2] = {\n    \"IF\",\n    \"ID\",\n};\n"
 unfolding name_array filled digits chars lib.Utf8.encode
 names_of_two = refl
 
-kinds_of_two : kind_enum (codes "lex") (codes "IF" ∷ codes "ID" ∷ []) ≡ codes "enum {\n    lex_kind_IF = 0,\n    lex_kind_ID = 1,\n    lex_fault = -1\n};\n"
+kinds_of_two : kind_enum (codes "lex") (codes "IF" ∷ codes "ID" ∷ []) ≡ codes "#endif\nenum {\n    lex_kind_IF = 0,\n    lex_kind_ID = 1,\n    lex_fault = -1\n};\n#ifndef lex_header\n"
 unfolding kind_enum filled digits chars lib.Utf8.encode
 kinds_of_two = refl
 
