@@ -53,13 +53,13 @@ enum {
     BAJOFEKI_BAD_ARGUMENT = 10 /* by the second part of this file alone: a null pointer to something, or a length past PTRDIFF_MAX */
 };
 
-/* What a check of rules came to: the status of `tokens --check`. */
+/* What a check of rules, a comparison or a drawing came to: the status of `tokens --check`, `--diff` and `--dot`. */
 enum {
-    BAJOFEKI_CLEAN = 0,   /* nothing is wrong */
-    BAJOFEKI_FOUND = 1,   /* something was found, or the file means something else than it seems to */
+    BAJOFEKI_CLEAN = 0,   /* nothing is wrong, or differs */
+    BAJOFEKI_FOUND = 1,   /* something was found, the file means something else than it seems to, or something differs */
     BAJOFEKI_REFUSED = 2, /* rules clash, or one can't be compiled */
-    BAJOFEKI_UNREAD = 3   /* a line is wrong, or a rule's text doesn't parse; else BAJOFEKI_OUT_OF_MEMORY, or, if the name of the file isn't
-                             UTF-8, BAJOFEKI_BAD_ARGUMENT */
+    BAJOFEKI_UNREAD = 3,  /* a line is wrong, or a rule's text doesn't parse */
+    BAJOFEKI_NO_RULE = 4  /* no rule has the name; else BAJOFEKI_OUT_OF_MEMORY, or, if a name isn't UTF-8, BAJOFEKI_BAD_ARGUMENT */
 };
 
 /* What became of the page of a text, or of a source file: the code of a page. */
@@ -131,10 +131,10 @@ typedef struct {
 } bajofeki_page_t;
 
 /* What a check of rules writes: a line for each thing that it finds, and then what it says: why the rules can't be read or compiled, or,
-   unless lines are JSON, the warnings. */
+   unless lines are JSON, the warnings. A comparison writes differences, and a drawing pictures, and then what they say. */
 typedef struct {
     uint32_t code;
-    size_t found;  /* how many bytes the lines have */
+    size_t found;  /* how many bytes the lines have, or the pictures */
     size_t length; /* how many bytes there are in all, whether or not they fit */
 } bajofeki_checked_t;
 
@@ -276,6 +276,16 @@ void bajofeki_stream_end(bajofeki_stream *stream);
    standard output, and then what it says on standard error, as many bytes as the array takes, with no 0 after them. */
 bajofeki_checked_t bajofeki_check(const char *name, size_t name_length, const char *rules, size_t length, bool is_json, char *out, size_t room);
 
+/* Compares the rules of two files of these names, as `tokens --diff` does: writes what that writes to standard output, which is nothing if
+   both make the same tokens of each text, and then what it says on standard error. Both files may have one name. */
+bajofeki_checked_t bajofeki_diff(const char *name, size_t name_length, const char *rules, size_t length, const char *other_name,
+                                 size_t other_name_length, const char *other, size_t other_length, char *out, size_t room);
+
+/* Draws for Graphviz, as `tokens --dot` does, the automata of the modes of a file of this name; or, if the name of a rule has bytes, of the
+   rules that have it. Writes what that writes to standard output, and then what it says on standard error. */
+bajofeki_checked_t bajofeki_dot(const char *name, size_t name_length, const char *rules, size_t length, const char *rule, size_t rule_length,
+                                char *out, size_t room);
+
 /* The line and the column of an offset. It reads the text from its beginning. */
 bajofeki_place_t bajofeki_position(const char *text, size_t length, size_t at);
 
@@ -405,6 +415,35 @@ static inline bajofeki_checked_t bajofeki_rules_check(const char *name, const ch
         return checked;
     }
     return bajofeki_check(file, strlen(file), length == 0 ? "" : rules, length, is_json, is_bad || room == 0 ? none : out, is_bad ? 0 : room);
+}
+
+/* As bajofeki_diff, of files whose names end with a 0; with NULL they are `rules` and `others`. With an `out` of NULL nothing is written. */
+static inline bajofeki_checked_t bajofeki_rules_diff(const char *name, const char *rules, size_t length, const char *other_name,
+                                                     const char *other, size_t other_length, char *out, size_t room) {
+    char none[1];
+    const char *first = name == NULL ? "rules" : name, *second = other_name == NULL ? "others" : other_name;
+    bajofeki_checked_t checked = {BAJOFEKI_BAD_ARGUMENT, 0, 0};
+    bool is_bad = bajofeki_is_bad(out, room, 1);
+    if (bajofeki_is_bad(rules, length, 1) || bajofeki_is_bad(other, other_length, 1)) {
+        return checked;
+    }
+    return bajofeki_diff(first, strlen(first), length == 0 ? "" : rules, length, second, strlen(second), other_length == 0 ? "" : other,
+                         other_length, is_bad || room == 0 ? none : out, is_bad ? 0 : room);
+}
+
+/* As bajofeki_dot, of a file whose name ends with a 0, with NULL `rules`, and of a rule whose name does; with NULL each mode is drawn. With
+   an `out` of NULL nothing is written. */
+static inline bajofeki_checked_t bajofeki_rules_dot(const char *name, const char *rules, size_t length, const char *rule, char *out,
+                                                    size_t room) {
+    char none[1];
+    const char *file = name == NULL ? "rules" : name, *drawn = rule == NULL ? "" : rule;
+    bajofeki_checked_t checked = {BAJOFEKI_BAD_ARGUMENT, 0, 0};
+    bool is_bad = bajofeki_is_bad(out, room, 1);
+    if (bajofeki_is_bad(rules, length, 1)) {
+        return checked;
+    }
+    return bajofeki_dot(file, strlen(file), length == 0 ? "" : rules, length, drawn, strlen(drawn), is_bad || room == 0 ? none : out,
+                        is_bad ? 0 : room);
 }
 
 /* A text that is being cut. The lexer and the bytes stay the caller's, and last longer than it. It may be moved, but of two copies only

@@ -156,6 +156,51 @@ static void check_checks(void) {
     CHECK(bajofeki_rules_check("\xFF", "", 0, true, NULL, 0).code == BAJOFEKI_BAD_ARGUMENT);
 }
 
+static bajofeki_checked_t differ(const char *rules, char *out, size_t room) {
+    static const char other[] = "A = 'a'\n";
+    return bajofeki_rules_diff("f", rules, strlen(rules), "g", other, sizeof other - 1, out, room);
+}
+
+static bajofeki_checked_t draw(const char *rules, char *out, size_t room) {
+    return bajofeki_rules_dot("f", rules, strlen(rules), "A", out, room);
+}
+
+/* Differences and pictures, of which there are none, some, or which are refused, into an array of just their size and into the half of one. */
+static void check_comparisons(void) {
+    static const struct {
+        bajofeki_checked_t (*call)(const char *, char *, size_t);
+        const char *rules;
+        uint32_t code;
+        const char *front;
+    } cases[] = {{differ, "A = 'a'\n", BAJOFEKI_CLEAN, ""},
+                 {differ, "B = 'a'\n", BAJOFEKI_FOUND, "\"a\" is B in f, and A in g\n"},
+                 {differ, "A\n", BAJOFEKI_UNREAD, "tokens: f:1:"},
+                 {draw, "A = 'a'\n", BAJOFEKI_CLEAN, "digraph"},
+                 {draw, "B = 'a'\n", BAJOFEKI_NO_RULE, "tokens: f: no rule has the name \"A\""},
+                 {draw, "A = 'a'\nB = 'a'\n", BAJOFEKI_REFUSED, "tokens: f:2:"}};
+    for (size_t i = 0; i < sizeof cases / sizeof *cases; i++) {
+        bajofeki_checked_t checked = cases[i].call(cases[i].rules, NULL, 0);
+        char *all = (char *)malloc(checked.length + 1), *part = (char *)malloc(checked.length + 1);
+        memset(part, '?', checked.length + 1);
+        CHECK(checked.code == cases[i].code && checked.found == (checked.code > BAJOFEKI_FOUND ? 0 : checked.length));
+        CHECK(cases[i].call(cases[i].rules, all, checked.length).length == checked.length);
+        CHECK(cases[i].call(cases[i].rules, part, checked.length / 2).length == checked.length);
+        CHECK(memcmp(all, part, checked.length / 2) == 0 && part[checked.length / 2] == '?');
+        CHECK(strlen(cases[i].front) <= checked.length && memcmp(all, cases[i].front, strlen(cases[i].front)) == 0);
+        free(all);
+        free(part);
+    }
+    CHECK(bajofeki_rules_diff(NULL, NULL, 0, NULL, NULL, 0, NULL, 0).code == BAJOFEKI_REFUSED);
+    CHECK(bajofeki_rules_diff(NULL, NULL, 0, NULL, NULL, 1, NULL, 0).code == BAJOFEKI_BAD_ARGUMENT);
+    CHECK(bajofeki_rules_diff(NULL, NULL, 1, NULL, NULL, 0, NULL, 0).code == BAJOFEKI_BAD_ARGUMENT);
+    CHECK(bajofeki_rules_diff("f", "", 0, "\xFF", "", 0, NULL, 0).code == BAJOFEKI_BAD_ARGUMENT);
+    CHECK(bajofeki_rules_diff("\xFF", "", 0, "g", "", 0, NULL, 0).code == BAJOFEKI_BAD_ARGUMENT);
+    CHECK(bajofeki_rules_dot(NULL, "A = 'a'\n", 8, NULL, NULL, 0).code == BAJOFEKI_CLEAN);
+    CHECK(bajofeki_rules_dot(NULL, NULL, 1, NULL, NULL, 0).code == BAJOFEKI_BAD_ARGUMENT);
+    CHECK(bajofeki_rules_dot("\xFF", "", 0, NULL, NULL, 0).code == BAJOFEKI_BAD_ARGUMENT);
+    CHECK(bajofeki_rules_dot(NULL, "", 0, "\xFF", NULL, 0).code == BAJOFEKI_BAD_ARGUMENT);
+}
+
 static void check_arguments(const bajofeki_lexer *lexer) {
     bajofeki_piece_t piece;
     bajofeki_text none = bajofeki_text_begin(lexer, NULL, 1), empty = bajofeki_text_begin(lexer, NULL, 0);
@@ -449,6 +494,7 @@ int main(int count, char **words) {
     check_rules();
     check_sources();
     check_checks();
+    check_comparisons();
     check_document();
     check_stream();
     check_memory();

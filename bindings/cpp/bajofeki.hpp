@@ -269,29 +269,56 @@ private:
     }
 };
 
-/* What a check of rules came to. */
+/* What a check of rules came to, a comparison or a drawing. */
 struct checked {
-    std::uint32_t code;   // BAJOFEKI_CLEAN, BAJOFEKI_FOUND, BAJOFEKI_REFUSED or BAJOFEKI_UNREAD
-    std::string findings; // the lines that `tokens --check` writes
+    std::uint32_t code;   // BAJOFEKI_CLEAN, BAJOFEKI_FOUND, BAJOFEKI_REFUSED, BAJOFEKI_UNREAD or BAJOFEKI_NO_RULE
+    std::string findings; // the lines that `tokens --check` writes, or `tokens --diff`, or the pictures of `tokens --dot`
     std::string message;  // why the rules can't be read or compiled; the warnings, unless lines are JSON
 };
 
-/* Checks a file of rules of this name. Throws std::invalid_argument if the name isn't UTF-8. */
-inline checked check(std::string_view rules, const std::string &name = "rules", bool is_json = false) {
+namespace detail {
+
+/* What a call writes into an array, which grows until all of it fits. */
+template <typename F>
+checked answered(F call) {
     std::string all(1 << 16, ' ');
-    bajofeki_checked_t told = bajofeki_rules_check(name.c_str(), rules.data(), rules.size(), is_json, all.data(), all.size());
+    bajofeki_checked_t told = call(all.data(), all.size());
     if (told.length > all.size()) {
         all.resize(told.length);
-        told = bajofeki_rules_check(name.c_str(), rules.data(), rules.size(), is_json, all.data(), all.size());
+        told = call(all.data(), all.size());
     }
     if (told.code == BAJOFEKI_BAD_ARGUMENT) {
-        throw std::invalid_argument("bajofeki: the name of the file isn't UTF-8");
+        throw std::invalid_argument("bajofeki: a name isn't UTF-8");
     }
     if (told.code == BAJOFEKI_OUT_OF_MEMORY) {
         throw std::bad_alloc();
     }
     all.resize(told.length);
     return {told.code, all.substr(0, told.found), all.substr(told.found)};
+}
+
+} // namespace detail
+
+/* Checks a file of rules of this name. Throws std::invalid_argument if the name isn't UTF-8. */
+inline checked check(std::string_view rules, const std::string &name = "rules", bool is_json = false) {
+    return detail::answered([&](char *out, std::size_t room) {
+        return bajofeki_rules_check(name.c_str(), rules.data(), rules.size(), is_json, out, room);
+    });
+}
+
+/* Compares two files of rules of these names. Throws std::invalid_argument if a name isn't UTF-8. */
+inline checked diff(std::string_view rules, std::string_view other, const std::string &name = "rules", const std::string &other_name = "others") {
+    return detail::answered([&](char *out, std::size_t room) {
+        return bajofeki_rules_diff(name.c_str(), rules.data(), rules.size(), other_name.c_str(), other.data(), other.size(), out, room);
+    });
+}
+
+/* Draws the modes of a file of rules of this name; or, if the name of a rule isn't empty, the rules that have it. Throws
+   std::invalid_argument if a name isn't UTF-8. */
+inline checked dot(std::string_view rules, const std::string &rule = "", const std::string &name = "rules") {
+    return detail::answered([&](char *out, std::size_t room) {
+        return bajofeki_rules_dot(name.c_str(), rules.data(), rules.size(), rule.c_str(), out, room);
+    });
 }
 
 /* A text that is edited, with its pieces. */

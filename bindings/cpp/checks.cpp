@@ -78,6 +78,10 @@ void check_errors() {
     CHECK(bajofeki::check("A = 'a'\nB = 'a'\n", "f", true).findings.substr(0, 21) == "{\"file\":\"f\",\"line\":2,");
     CHECK(bad.code == BAJOFEKI_UNREAD && bad.findings.empty() && bad.message.substr(0, 16) == "tokens: rules:1:");
     CHECK(bajofeki::check(three).code == BAJOFEKI_CLEAN && throws<std::invalid_argument>([] { bajofeki::check("", "\xFF"); }));
+    bajofeki::checked other = bajofeki::diff("B = 'a'\n", "A = 'a'\n", "f", "g");
+    CHECK(other.code == BAJOFEKI_FOUND && other.findings == "\"a\" is B in f, and A in g\n" && bajofeki::diff(three, three).code == BAJOFEKI_CLEAN);
+    CHECK(bajofeki::dot(three).findings.substr(0, 7) == "digraph" && bajofeki::dot(three, "LET").code == BAJOFEKI_CLEAN);
+    CHECK(bajofeki::dot(three, "LETTER").code == BAJOFEKI_NO_RULE && throws<std::invalid_argument>([] { bajofeki::dot("", "\xFF"); }));
     bajofeki::lexer deep("OPEN push INITIAL = '('\n");
     std::string text(1100, '(');
     std::size_t count = 0;

@@ -21,9 +21,10 @@ from . import _library
 from ._library import LIBRARY, Piece as _Piece, Room as _Room, Text as _Text, name as _name, word as _word, written as _written
 
 __all__ = """Arrays Change Checked Columns Document Item Kind Lexer NotUtf8Error Outcome Piece Place Places Rule RulesError RulesErrorKind
-    Stream check""".split()
+    Stream check diff dot""".split()
 
 _DONE, _BAD_RANGE, _BAD_NAME, _FULL, _NOT_UTF8, _TOO_DEEP, _TOO_LARGE, _OUT_OF_MEMORY, _ENDED, _BAD_ARGUMENT = 0, 1, 1, 2, 3, 4, 6, 7, 8, 10
+_NO_RULE = 4
 _ROOM = 4096
 _PIECES = struct.Struct("@INNN")
 _made = tuple.__new__
@@ -433,8 +434,9 @@ def _rebuilt(kind, rules):
 
 
 class Outcome(enum.Enum):
-    """What a check of rules came to. A file that is FOUND has rules of which something was found, or means something else than it seems to;
-    if it is REFUSED, rules clash, or one can't be compiled; if it is UNREAD, a line is wrong, or a rule's text doesn't parse."""
+    """What a check of rules came to, a comparison or a drawing. A file that is FOUND has rules of which something was found, or that differ,
+    or means something else than it seems to; if it is REFUSED, rules clash, or one can't be compiled; if it is UNREAD, a line is wrong, or a
+    rule's text doesn't parse."""
 
     CLEAN = 0
     FOUND = 1
@@ -443,10 +445,10 @@ class Outcome(enum.Enum):
 
 
 class Checked(NamedTuple):
-    """What a check of rules found."""
+    """What a check of rules found, a comparison or a drawing."""
 
     outcome: Outcome
-    findings: Tuple[str, ...]  # the lines that `tokens --check` writes
+    findings: Tuple[str, ...]  # the lines that `tokens --check` writes, or `--diff`, or `--dot`
     message: str  # why the rules can't be read or compiled; the warnings, unless lines are JSON
 
 
@@ -460,13 +462,48 @@ def check(rules, name="rules", is_json=False):
     >>> checked.outcome, [json.loads(it)["kind"] for it in checked.findings]
     (<Outcome.REFUSED: 2>, ['clash'])
     """
-    rules, name = _bytes_of(rules), name.encode("utf-8", "surrogatepass")
-    call = lambda out, room: LIBRARY.bajofeki_check(name, len(name), rules, len(rules), is_json, out, room)
-    checked, data = _written(call, 1 << 16)
+    return _answered(LIBRARY.bajofeki_check, _name_of(name), _bytes_of(rules), more=(is_json,))
+
+
+def diff(rules, other, name="rules", other_name="others"):
+    """Compares two files of rules of these names, each of which is a str or bytes, as `tokens --diff` does: for each mode it tells the least
+    text of which they make different tokens.
+
+    >>> diff("A = 'a'\\n", "B = 'a'\\n", "old.rules", "new.rules").findings
+    ('"a" is A in old.rules, and B in new.rules',)
+    >>> diff("A = 'a'\\n", "A = /a/\\n").outcome
+    <Outcome.CLEAN: 0>
+    """
+    return _answered(LIBRARY.bajofeki_diff, _name_of(name), _bytes_of(rules), _name_of(other_name), _bytes_of(other))
+
+
+def dot(rules, rule=None, name="rules"):
+    """Draws for Graphviz the automata of the modes of a file of rules of this name, which is a str or bytes, as `tokens --dot` does; or, if the
+    name of a rule is given that isn't empty, of the rules that have it. If none has, a ValueError says so.
+
+    >>> dot("A = 'a'\\n", "A").findings[0]
+    'digraph {'
+    >>> dot("A = 'a'\\n", "B")
+    Traceback (most recent call last):
+    ValueError: tokens: rules: no rule has the name "B"; leave it out to draw each mode
+    """
+    return _answered(LIBRARY.bajofeki_dot, _name_of(name), _bytes_of(rules), _name_of(rule or ""))
+
+
+def _name_of(name):
+    return name.encode("utf-8", "surrogatepass")
+
+
+def _answered(function, *parts, more=()):
+    """What the library answers about rules, given these bytes."""
+    given = [it for part in parts for it in (part, len(part))]
+    checked, data = _written(lambda out, room: function(*given, *more, out, room), 1 << 16)
     if checked.code == _BAD_ARGUMENT:
-        raise ValueError("the name of the file has a surrogate")
+        raise ValueError("a name has a surrogate")
     if checked.code == _OUT_OF_MEMORY:
-        raise MemoryError("no memory for a check of rules")
+        raise MemoryError("no memory for a question about rules")
+    if checked.code == _NO_RULE:
+        raise ValueError(data.decode().rstrip("\n"))
     lines = tuple(it.decode() for it in data[: checked.found].splitlines())
     return Checked(Outcome(checked.code), lines, data[checked.found :].decode())
 

@@ -24,6 +24,8 @@ __all__ = [
     "RulesErrorKind",
     "Stream",
     "check",
+    "diff",
+    "dot",
 ]
 
 class RulesErrorKind(enum.Enum):
@@ -126,6 +128,8 @@ class Checked(NamedTuple):
     message: str
 
 def check(rules: Union[str, ReadableBuffer], name: str = ..., is_json: bool = ...) -> Checked: ...
+def diff(rules: Union[str, ReadableBuffer], other: Union[str, ReadableBuffer], name: str = ..., other_name: str = ...) -> Checked: ...
+def dot(rules: Union[str, ReadableBuffer], rule: Optional[str] = ..., name: str = ...) -> Checked: ...
 
 class Change(NamedTuple):
     first: int

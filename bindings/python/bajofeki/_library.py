@@ -78,6 +78,8 @@ FUNCTIONS = {
     "bajofeki_next": (Count, [c_void_p, POINTER(Piece), c_size_t]),
     "bajofeki_stream_end": (None, [c_void_p]),
     "bajofeki_check": (Checked, [c_void_p, c_size_t, c_void_p, c_size_t, c_bool, c_char_p, c_size_t]),
+    "bajofeki_diff": (Checked, [*[c_void_p, c_size_t] * 4, c_char_p, c_size_t]),
+    "bajofeki_dot": (Checked, [*[c_void_p, c_size_t] * 3, c_char_p, c_size_t]),
     "bajofeki_position": (Place, [c_void_p, c_size_t, c_size_t]),
     "bajofeki_version": (c_uint32, []),
 }

@@ -9,6 +9,7 @@ use std::marker::PhantomData;
 pub const DONE: u32 = 0;
 pub const BAD_RANGE: u32 = 1;
 pub const BAD_NAME: u32 = 1;
+pub const NO_RULE: u32 = 4;
 pub const FULL: u32 = 2;
 pub const TOO_DEEP: u32 = 4;
 pub const TOO_LARGE: u32 = 6;
@@ -68,7 +69,7 @@ pub struct Look {
     pub count: usize,
 }
 
-/// What a check of rules writes.
+/// What a check of rules writes, a comparison or a drawing.
 #[repr(C)]
 #[derive(Clone, Copy, Debug)]
 pub struct Checked {
@@ -174,6 +175,28 @@ extern "C" {
         rules: *const u8,
         length: usize,
         is_json: bool,
+        out: *mut u8,
+        room: usize,
+    ) -> Checked;
+    fn bajofeki_diff(
+        name: *const u8,
+        name_length: usize,
+        rules: *const u8,
+        length: usize,
+        other_name: *const u8,
+        other_name_length: usize,
+        other: *const u8,
+        other_length: usize,
+        out: *mut u8,
+        room: usize,
+    ) -> Checked;
+    fn bajofeki_dot(
+        name: *const u8,
+        name_length: usize,
+        rules: *const u8,
+        length: usize,
+        rule: *const u8,
+        rule_length: usize,
         out: *mut u8,
         room: usize,
     ) -> Checked;
@@ -331,30 +354,58 @@ fn written(room: usize, call: impl Fn(*mut u8, usize) -> Page) -> Result<Vec<u8>
     }
 }
 
-/// What a check of rules comes to, and all that it writes.
-pub fn check(name: &str, rules: &[u8], is_json: bool) -> (Checked, Vec<u8>) {
+/// What a call comes to, and all that it writes into an array, which grows until all of it fits.
+fn answered(call: impl Fn(*mut u8, usize) -> Checked) -> (Checked, Vec<u8>) {
     let mut all = vec![0; 1 << 16];
     loop {
-        let (file, length) = (name.as_ptr(), name.len());
-        let (out, room) = (all.as_mut_ptr(), all.len());
-        // SAFETY: slices are what they are; the array has this many places.
-        let checked = unsafe {
-            bajofeki_check(
-                file,
-                length,
-                rules.as_ptr(),
-                rules.len(),
-                is_json,
-                out,
-                room,
-            )
-        };
-        if checked.length <= room {
+        let checked = call(all.as_mut_ptr(), all.len());
+        if checked.length <= all.len() {
             all.truncate(checked.length);
             return (checked, all);
         }
         all.resize(checked.length, 0);
     }
+}
+
+/// What a check of rules comes to.
+pub fn check(name: &str, rules: &[u8], is_json: bool) -> (Checked, Vec<u8>) {
+    let (file, length) = (name.as_ptr(), name.len());
+    let (at, size) = (rules.as_ptr(), rules.len());
+    answered(|out, room| {
+        // SAFETY: slices are what they are; the array has this many places.
+        unsafe { bajofeki_check(file, length, at, size, is_json, out, room) }
+    })
+}
+
+/// What a comparison comes to.
+pub fn diff(name: &str, rules: &[u8], other_name: &str, other: &[u8]) -> (Checked, Vec<u8>) {
+    answered(|out, room| {
+        // SAFETY: as for `check`.
+        unsafe {
+            bajofeki_diff(
+                name.as_ptr(),
+                name.len(),
+                rules.as_ptr(),
+                rules.len(),
+                other_name.as_ptr(),
+                other_name.len(),
+                other.as_ptr(),
+                other.len(),
+                out,
+                room,
+            )
+        }
+    })
+}
+
+/// What a drawing comes to.
+pub fn dot(name: &str, rules: &[u8], rule: &str) -> (Checked, Vec<u8>) {
+    let (file, length) = (name.as_ptr(), name.len());
+    let (at, size) = (rules.as_ptr(), rules.len());
+    answered(|out, room| {
+        // SAFETY: as for `check`.
+        unsafe { bajofeki_dot(file, length, at, size, rule.as_ptr(), rule.len(), out, room) }
+    })
 }
 
 /// The cut of a text. It borrows the lexer and the text, so they are the same at each call.

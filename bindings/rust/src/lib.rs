@@ -32,7 +32,7 @@ mod rules_error;
 mod stream;
 mod text_error;
 
-pub use check::{check, check_json, Checked, Outcome};
+pub use check::{check, check_json, diff, dot, Checked, NoRule, Outcome};
 pub use document::{Change, Document};
 pub use items::{Item, Items, Kind, OutOfMemory, Text};
 pub use places::{Columns, Place, Places};

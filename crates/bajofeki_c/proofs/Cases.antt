@@ -1,6 +1,9 @@
 -- Small cases of the definitions in specs/: Cases/X.antt has those of specs/X.antt.
 mod Built
+mod Answered
 mod Check
+mod Compare
+mod Draw
 mod Report
 mod Rules
 mod Look

@@ -1,4 +1,5 @@
 mod Cases
+pub mod Answering
 pub mod Walking
 pub mod Seen
 pub mod Pages

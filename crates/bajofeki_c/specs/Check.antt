@@ -1,6 +1,6 @@
 -- cases: proofs/Cases/Check.antt
 -- What a check of rules finds, into an array.
-use Rattle.std.specs.Prelude.{◌≡◌, ◌⊎◌, ◌++◌, ℕ, Bool, true, false, List, length}
+use Rattle.std.specs.Prelude.{◌⊎◌, ℕ, Bool, true, false, List}
 use Rattle.std.specs.Str.{IsUtf8}
 use Rattle.reports_lib.specs.Answer.{Answer}
 use Rattle.lexdfa_lib.specs.declared.layout.LineForm.{LineForm}
@@ -8,7 +8,7 @@ use Rattle.lexdfa_lib.specs.declared.layout.LineForm.TheVariants.{Plain, Json}
 use Rattle.reviews_lib.specs.Checked.{CheckAnswer, finding}
 use Rattle.reports_lib.specs.NamedRules.{RulesTold}
 use Rattle.lexdfa_lib.specs.declared.command.Verbosity.TheVariants.{Warnings}
-use Rattle.bajofeki_c.specs.Rules.{IsWritten}
+use Rattle.bajofeki_c.specs.Answered.{IsAnswered, IsNotChecked}
 use Rattle.bajofeki_c.specs.declared.check.Checked.{Checked}
 
 -- the form of the lines
@@ -20,20 +20,8 @@ form_of false = Plain
 abbrev pub IsCheckAnswer : LineForm → List ℕ → List ℕ → Answer → Type 0
 IsCheckAnswer form name rules answer = RulesTold form (finding form) Warnings (CheckAnswer form) name rules answer
 
--- what it writes, and then what it says, is in the array, as much as fits
-pub record IsFound (name rules : List ℕ) (is_json : Bool) (before : List ℕ) (checked : Checked) (after : List ℕ) : Type 0 where
-  pub answer : Answer
-  pub is_answer : IsCheckAnswer (form_of is_json) name rules answer
-  pub code : checked.code ≡ answer.status
-  pub found : checked.found ≡ length answer.out
-  pub written : IsWritten (answer.out ++ answer.err) before after checked.length
-
--- nothing is written
-abbrev pub IsNotChecked : ℕ → List ℕ → Checked → List ℕ → Type 0
-IsNotChecked code before checked after = (checked ≡ record { code = code; found = 0; length = 0 }) × (after ≡ before)
-
 -- the rules are checked, or memory was refused, if the name is UTF-8; otherwise nothing is
 abbrev pub IsChecked : List ℕ → List ℕ → Bool → List ℕ → Checked → List ℕ → Type 0
 IsChecked name rules is_json before checked after =
-    (IsUtf8 name × (IsFound name rules is_json before checked after ⊎ IsNotChecked 7 before checked after))
+    (IsUtf8 name × IsAnswered (IsCheckAnswer (form_of is_json) name rules) before checked after)
     ⊎ (¬ IsUtf8 name × IsNotChecked 10 before checked after)

@@ -1,5 +1,8 @@
 pub mod Built
+pub mod Answered
 pub mod Check
+pub mod Compare
+pub mod Draw
 pub mod Report
 pub mod Rules
 pub mod Look

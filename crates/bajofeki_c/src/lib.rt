@@ -22,10 +22,13 @@
 //! ```
 #![tactic(auto)]
 
+mod answered;
 mod check;
+mod compare;
 mod cut;
 mod cutting;
 mod document;
+mod draw;
 mod held;
 mod look;
 mod page;
@@ -38,8 +41,10 @@ mod stream;
 ghost use Rattle.std.specs.Prelude.{◌≡◌, drop};
 ghost use Rattle.std.specs.Borrow.{sem};
 ghost use Rattle.bajofeki_c.specs.Check.{IsChecked};
+ghost use Rattle.bajofeki_c.specs.Compare.{IsCompared};
 ghost use Rattle.bajofeki_c.specs.Cut.{GoesOn};
 ghost use Rattle.bajofeki_c.specs.Document.{ArePiecesTold, IsOffset, IsPlace, text_of};
+ghost use Rattle.bajofeki_c.specs.Draw.{IsDrawing};
 ghost use Rattle.bajofeki_c.specs.Look.{IsLookOf, mode_count};
 ghost use Rattle.bajofeki_c.specs.Page.{IsShown};
 ghost use Rattle.bajofeki_c.specs.Place.{place_in};
@@ -53,12 +58,14 @@ ghost use Rattle.bajofeki_c.specs.declared.held.Held.{Held as HeldValue};
 ghost use Rattle.bajofeki_c.specs.declared.page.Markup.TheVariants.{Ansi, Html};
 
 pub use check::{Checked, check_into};
+pub use compare::compare_into;
 pub use cut::{Cut, Piece, cut_on};
 pub use cutting::{BeginError, Cutting, begin, code_of, let_cutting_go};
 pub use document::{
     Count, Document, DocumentError, Edit, begin_document, edit_document, let_document_go,
     offset_in_document, pieces_into, place_in_document, text_into,
 };
+pub use draw::draw_into;
 pub use held::{BuildError, BuiltLexer, Held, NamedRule, let_go, make};
 use lalrpop_emit::{EmitError, LexerNumbers};
 use lalrpop_lexer::Lexer;
@@ -517,6 +524,38 @@ pub extern "C" fn bajofeki_check(
     ensures checked { IsChecked name.now rules.now is_json out.old result out.new }
 {
     check_into(alloc, name, rules, is_json, out)
+}
+
+/// Compares the rules of two files of these names, as `tokens --diff` does: writes what differs, and then what it says, as many bytes as
+/// fit, and says how many there are.
+#[unsafe(no_mangle)]
+pub extern "C" fn bajofeki_diff(
+    alloc: Global,
+    name: &[u8],
+    rules: &[u8],
+    other_name: &[u8],
+    other: &[u8],
+    out: &mut [u8],
+) -> Checked
+    ensures compared { IsCompared name.now rules.now other_name.now other.now
+        out.old result out.new }
+{
+    compare_into(alloc, name, rules, other_name, other, out)
+}
+
+/// Draws the automata of the rules of a file of this name, as `tokens --dot` does: of each mode; or, if the name of a rule isn't empty, of
+/// the rules that have it. Writes the pictures, and then what it says, as many bytes as fit, and says how many there are.
+#[unsafe(no_mangle)]
+pub extern "C" fn bajofeki_dot(
+    alloc: Global,
+    name: &[u8],
+    rules: &[u8],
+    rule: &[u8],
+    out: &mut [u8],
+) -> Checked
+    ensures drawn { IsDrawing name.now rules.now rule.now out.old result out.new }
+{
+    draw_into(alloc, name, rules, rule, out)
 }
 
 /// The line and the column of an offset in bytes.

@@ -52,18 +52,30 @@ warned_refused {A} (Ok (Err reply)) found message P Q turn (own, (from, same)) h
 
 -- ---- answers
 
+-- the bytes are rules, their lexer has this answer, and the warnings were said before it
+pub by_rules : (verbosity : Verbosity) (IsFor : ModeRules → List (List ℕ) → Answer → Type 0) (rules bytes : List ℕ) (set : ModeRules) (modes : List (List ℕ))
+    (said : List ℕ) (own answer : Answer) → AreRulesOf bytes set modes → Warned Plain verbosity rules (lines (without_mark bytes)) said
+    → IsFor set modes own → answer ≡ followed (remark said) own → RulesOf verbosity (LexerOf IsFor) rules bytes answer
+by_rules verbosity IsFor rules bytes set modes said own answer (rs, (say, is)) warned done same =
+    inr (said, (warned, (own, ((modes, (rs, (say, inr (set, (is, done))))), same))))
+
+-- there is no lexer of these bytes
+pub no_rules : (verbosity : Verbosity) (IsFor : ModeRules → List (List ℕ) → Answer → Type 0) (rules bytes : List ℕ) (answer : Answer)
+    → RulesOf verbosity RulesRefused rules bytes answer → RulesOf verbosity (LexerOf IsFor) rules bytes answer
+no_rules verbosity IsFor rules bytes answer (inl bad) = inl bad
+no_rules verbosity IsFor rules bytes answer (inr (words, (warned, (own, ((modes, (rs, (say, refused))), same))))) =
+    inr (words, (warned, (own, ((modes, (rs, (say, inl refused))), same))))
+
 -- the file gave bytes that are rules, their lexer has this answer, and the warnings were said before it
 pub by_lexer : (verbosity : Verbosity) (GivesIt : List ℕ → Given → Type 0) (IsFor : ModeRules → List (List ℕ) → Answer → Type 0) (rules : List ℕ) (set : ModeRules) (modes : List (List ℕ))
     (said : List ℕ) (own answer : Answer)
     → (bytes : List ℕ) × (GivesIt rules (Ok bytes) × (AreRulesOf bytes set modes × Warned Plain verbosity rules (lines (without_mark bytes)) said))
     → IsFor set modes own → answer ≡ followed (remark said) own → BytesAnswer GivesIt (RulesOf verbosity (LexerOf IsFor)) rules answer
-by_lexer verbosity GivesIt IsFor rules set modes said own answer (bytes, (gives, ((rs, (say, is)), warned))) done same =
-    inr (bytes, (gives, inr (said, (warned, (own, ((modes, (rs, (say, inr (set, (is, done))))), same))))))
+by_lexer verbosity GivesIt IsFor rules set modes said own answer (bytes, (gives, (are, warned))) done same =
+    inr (bytes, (gives, by_rules verbosity IsFor rules bytes set modes said own answer are warned done same))
 
 -- there is no lexer
 pub no_lexer : (verbosity : Verbosity) (GivesIt : List ℕ → Given → Type 0) (IsFor : ModeRules → List (List ℕ) → Answer → Type 0) (rules : List ℕ) (answer : Answer)
     → BytesAnswer GivesIt (RulesOf verbosity RulesRefused) rules answer → BytesAnswer GivesIt (RulesOf verbosity (LexerOf IsFor)) rules answer
 no_lexer verbosity GivesIt IsFor rules answer (inl none) = inl none
-no_lexer verbosity GivesIt IsFor rules answer (inr (bytes, (gives, inl bad))) = inr (bytes, (gives, inl bad))
-no_lexer verbosity GivesIt IsFor rules answer (inr (bytes, (gives, inr (words, (warned, (own, ((modes, (rs, (say, refused))), same))))))) =
-    inr (bytes, (gives, inr (words, (warned, (own, ((modes, (rs, (say, inl refused))), same))))))
+no_lexer verbosity GivesIt IsFor rules answer (inr (bytes, (gives, none))) = inr (bytes, (gives, no_rules verbosity IsFor rules bytes answer none))

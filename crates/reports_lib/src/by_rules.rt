@@ -199,8 +199,12 @@ fn warned_lexer(
     }
 }
 
-// The lexer of the rules that these bytes are; or what is answered, if there is none.
-fn lexer_of_bytes(
+/// The lexer of the rules that these bytes are, in a file of this name; or what is answered, if there is none.
+///
+/// # Errors
+///
+/// `AllocError` if a request for memory was refused.
+pub fn lexer_of_bytes(
     alloc: Global,
     verbosity: Verbosity,
     name: &str,

@@ -20,7 +20,8 @@ mod warning_json;
 mod warnings;
 
 pub use by_rules::{
-    NO_TEXT, WarnedLexer, lexer_by_name, line_refused, rules_refused, unread, warnings_said,
+    NO_TEXT, WarnedLexer, lexer_by_name, lexer_of_bytes, line_refused, rules_refused, unread,
+    warnings_said,
 };
 pub use file_lexer::{FileLexer, mode_name, mode_named, name_of, with_names};
 pub use json_line::{begun_object, ended_line, push_json, write_mode, write_number, write_string};

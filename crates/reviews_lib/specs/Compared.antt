@@ -97,7 +97,15 @@ DifferenceAnswer old r modes new s others answer =
 abbrev pub other_of : List (List ℕ) → List ℕ
 other_of files = unwrap_or (slice_get files 0) []
 
+-- these rules are compared with those that these bytes are, in another file of this name
+abbrev pub OtherAnswer : Verbosity → List ℕ → ModeRules → List (List ℕ) → List ℕ → List ℕ → Answer → Type 0
+OtherAnswer verbosity rules r modes other bytes answer = RulesOf verbosity (LexerOf (λ s others. DifferenceAnswer rules r modes other s others)) other bytes answer
+
+-- the rules that these bytes are, in a file of this name, are compared with those of another
+abbrev pub BytesCompared : Verbosity → List ℕ → List ℕ → List ℕ → List ℕ → Answer → Type 0
+BytesCompared verbosity rules bytes other others answer =
+    RulesOf verbosity (LexerOf (λ r modes. OtherAnswer verbosity rules r modes other others)) rules bytes answer
+
 -- these rules are compared with those of the other file
 abbrev pub ComparedAnswer : (List ℕ → Given → Type 0) → Verbosity → List ℕ → ModeRules → List (List ℕ) → List ℕ → Answer → Type 0
-ComparedAnswer Gives verbosity rules r modes other answer =
-    BytesAnswer Gives (RulesOf verbosity (LexerOf (λ s others. DifferenceAnswer rules r modes other s others))) other answer
+ComparedAnswer Gives verbosity rules r modes other answer = BytesAnswer Gives (OtherAnswer verbosity rules r modes) other answer

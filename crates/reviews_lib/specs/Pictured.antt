@@ -12,7 +12,9 @@ use Rattle.lalrpop_verdicts.specs.Smallest.{IsCanonical, IsSmallest}
 use Rattle.reports_lib.specs.Answer.{Answer, refusal, about}
 use Rattle.reviews_lib.specs.Compared.{token_text}
 use Rattle.reports_lib.specs.ItemLines.{mode_named, name_at}
+use Rattle.reports_lib.specs.NamedRules.{LexerOf, RulesOf}
 use Rattle.lexdfa_lib.specs.Command.{has}
+use Rattle.lexdfa_lib.specs.declared.command.Verbosity.{Verbosity}
 
 -- the automaton recognizes the trees with these precedences, and has the fewest states and edges, in their order
 abbrev pub IsSmallestFor : List Tree → List ℕ → List Row → Type 0
@@ -76,3 +78,7 @@ abbrev pub PictureAnswer : List ℕ → Option (List ℕ) → ModeRules → List
 PictureAnswer file given r modes answer =
     ((text : List ℕ) × (IsDrawn r modes given text × (answer ≡ record { status = 0; out = text; err = [] })))
     ⊎ ((name : List ℕ) × (IsMissing r given name × (answer ≡ refusal 4 (about file (no_rule name)))))
+
+-- the same for the rules that these bytes are, in a file of this name
+abbrev pub BytesPictured : Verbosity → Option (List ℕ) → List ℕ → List ℕ → Answer → Type 0
+BytesPictured verbosity given file bytes answer = RulesOf verbosity (LexerOf (PictureAnswer file given)) file bytes answer

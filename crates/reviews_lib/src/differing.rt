@@ -2,11 +2,11 @@
 ghost use Rattle.std.specs.Prelude.{◌≡◌, map, string_bytes, IfOk};
 ghost use Rattle.lexdfa_lib.specs.Streams.{GivesWhole};
 ghost use Rattle.reports_lib.specs.NamedRules.{ByLexer};
-ghost use Rattle.reviews_lib.specs.Compared.{ComparedAnswer, other_of};
+ghost use Rattle.reviews_lib.specs.Compared.{BytesCompared, ComparedAnswer, OtherAnswer, other_of};
 
 use crate::compared::difference_reply;
-use lexdfa_lib::{Files, Verbosity};
-use reports_lib::{FileLexer, Reply, lexer_by_name};
+use lexdfa_lib::{Files, Verbosity, bytes_of};
+use reports_lib::{FileLexer, Reply, lexer_by_name, lexer_of_bytes, unread};
 use std::alloc::{AllocError, Global};
 
 // The name of the other file of rules: the first name after RULES, or the empty string if there is none.
@@ -16,6 +16,58 @@ fn other_of<'name>(names: &[&'name str]) -> &'name str
     match names.first() {
         Some(name) => *name,
         None => "",
+    }
+}
+
+// What is answered where the rules that these bytes are, in the other file, say something else than these.
+fn compare_bytes(
+    alloc: Global,
+    verbosity: Verbosity,
+    name: &str,
+    rules: &FileLexer,
+    other: &str,
+    bytes: &[u8],
+) -> Result<Reply, AllocError>
+    ensures answer { IfOk result (OtherAnswer verbosity name.now rules.now.lexer
+        (map string_bytes rules.now.modes.items) other.now bytes.now) }
+{
+    match lexer_of_bytes(alloc, verbosity, other, bytes)? {
+        Ok(found) => {
+            difference_reply(alloc, name, rules, other, &found.lexer)?.after(0, found.said)
+        }
+        Err(reply) => Ok(reply),
+    }
+}
+
+/// What is answered where the rules that these bytes are, in a file of this name, are compared with those of another.
+///
+/// ```
+/// use lexdfa_lib::Verbosity;
+/// use reviews_lib::difference_answer;
+///
+/// let reply = difference_answer(alloc, Verbosity::Warnings, "old", b"A = 'a'\n", "new", b"B = 'a'\n")?;
+/// assert_eq!(reply.out(), b"\"a\" is A in old, and B in new\n"); // as `tokens --diff old new`
+/// ```
+///
+/// # Errors
+///
+/// `AllocError` if a request for memory was refused.
+pub fn difference_answer(
+    alloc: Global,
+    verbosity: Verbosity,
+    name: &str,
+    bytes: &[u8],
+    other: &str,
+    others: &[u8],
+) -> Result<Reply, AllocError>
+    ensures answer { IfOk result
+        (BytesCompared verbosity name.now bytes.now other.now others.now) }
+{
+    match lexer_of_bytes(alloc, verbosity, name, bytes)? {
+        Ok(found) => {
+            compare_bytes(alloc, verbosity, name, &found.lexer, other, others)?.after(0, found.said)
+        }
+        Err(reply) => Ok(reply),
     }
 }
 
@@ -31,11 +83,9 @@ fn compare_with<F: Files>(
     ensures answer { IfOk result (ComparedAnswer (GivesWhole (F.gives files.now)) verbosity
         name.now rules.now.lexer (map string_bytes rules.now.modes.items) other.now) }
 {
-    match lexer_by_name(alloc, verbosity, files, other)? {
-        Ok(found) => {
-            difference_reply(alloc, name, rules, other, &found.lexer)?.after(0, found.said)
-        }
-        Err(reply) => Ok(reply),
+    match bytes_of(alloc, files, other)? {
+        Ok(bytes) => compare_bytes(alloc, verbosity, name, rules, other, &bytes),
+        Err(reason) => unread(alloc, other, reason.as_str()),
     }
 }
 

@@ -12,8 +12,8 @@ mod review_lines;
 mod warnings;
 
 pub use compared::{difference_reply, push_token};
-pub use differing::compare;
+pub use differing::{compare, difference_answer};
 pub use listing::{Listing, check_answer, list_rules};
-pub use pictured::draw;
+pub use pictured::{draw, picture_answer};
 pub use reports_lib::{LineForm, Reply};
 pub use review_lines::{clash_report, has_findings, review_text};

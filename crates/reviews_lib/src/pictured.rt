@@ -9,15 +9,15 @@ ghost use Rattle.reports_lib.specs.Answer.{about, refusal};
 ghost use Rattle.reports_lib.specs.ItemLines.{mode_named};
 ghost use Rattle.lexdfa_lib.specs.Command.{has};
 ghost use Rattle.reports_lib.specs.NamedRules.{ByLexer};
-ghost use Rattle.reviews_lib.specs.Pictured.{ArePictures, IsDrawn, IsMissing, IsModePicture, IsRulePicture, IsSmallestIn, IsSmallestOf, PictureAnswer, label, labels, no_rule, rules_named};
+ghost use Rattle.reviews_lib.specs.Pictured.{ArePictures, BytesPictured, IsDrawn, IsMissing, IsModePicture, IsRulePicture, IsSmallestIn, IsSmallestOf, PictureAnswer, label, labels, no_rule, rules_named};
 
 use crate::compared::push_token;
 use lalrpop_lexer::lexer::dfa::{Dfa, NfaIndex, Precedence, build_dfa};
 use lalrpop_lexer::lexer::re::Regex;
 use lalrpop_rules::RuleLexer;
 use lalrpop_verdicts::{dot, minimized};
-use lexdfa_lib::{Files, Verbosity, WRONG_ARGUMENTS};
-use reports_lib::{FileLexer, Reply, about, lexer_by_name, mode_named, name_of};
+use lexdfa_lib::{Files, Verbosity, WRONG_ARGUMENTS, bytes_of};
+use reports_lib::{FileLexer, Reply, about, lexer_of_bytes, mode_named, name_of, unread};
 use std::alloc::{AllocError, Global};
 use std::slice;
 
@@ -180,24 +180,52 @@ fn first<'name>(names: &[&'name str]) -> Option<&'name str>
     names.first().copied()
 }
 
-// What is answered where pictures are wanted for Graphviz: of the smallest automata of all modes; or, if a name stands after
-// RULES, of each rule of this name alone. If no rule has it, this is said of the file.
+// What is answered where pictures are wanted for Graphviz: of the smallest automata of all modes; or, if a name is given, of each
+// rule of this name alone. If no rule has it, this is said of the file.
 fn picture_reply(
     alloc: Global,
     file: &str,
     rules: &FileLexer,
-    names: &[&str],
+    given: Option<&str>,
 ) -> Result<Reply, AllocError>
-    ensures answer { IfOk result
-        (PictureAnswer file.now (slice_get (map (λ n. n.now) names.now) 0)
+    ensures answer { IfOk result (PictureAnswer file.now (option_map (λ n. n.now) given.entry)
         rules.now.lexer (map string_bytes rules.now.modes.items)) }
 {
-    let given = first(names);
     if let Some(name) = missing(&rules.lexer, given) {
         return refused(alloc, file, name);
     }
     let text = drawing(alloc, rules, given)?;
     Ok(Reply::written(alloc, 0, text.into_bytes()))
+}
+
+/// What is answered where pictures are wanted of the automata of the rules that these bytes are, in a file of this name: of each mode; or,
+/// if the name of a rule is given, of the rules that have it.
+///
+/// ```
+/// use lexdfa_lib::Verbosity;
+/// use reviews_lib::picture_answer;
+///
+/// let reply = picture_answer(alloc, Verbosity::Warnings, "my.rules", b"A = 'a'\n", None)?; // as `tokens --dot my.rules`
+/// assert_eq!(reply.status(), 0);
+/// ```
+///
+/// # Errors
+///
+/// `AllocError` if a request for memory was refused.
+pub fn picture_answer(
+    alloc: Global,
+    verbosity: Verbosity,
+    name: &str,
+    bytes: &[u8],
+    given: Option<&str>,
+) -> Result<Reply, AllocError>
+    ensures answer { IfOk result
+        (BytesPictured verbosity (option_map (λ n. n.now) given.entry) name.now bytes.now) }
+{
+    match lexer_of_bytes(alloc, verbosity, name, bytes)? {
+        Ok(found) => { picture_reply(alloc, name, &found.lexer, given)?.after(0, found.said) }
+        Err(reply) => Ok(reply),
+    }
 }
 
 /// What is answered where pictures of the automata of a file of rules are wanted.
@@ -215,8 +243,8 @@ pub fn draw<F: Files>(
     ensures answer { IfOk result (ByLexer (GivesWhole (F.gives files.now)) verbosity
         (PictureAnswer rules.now (slice_get (map (λ n. n.now) names.now) 0)) rules.now) }
 {
-    match lexer_by_name(alloc, verbosity, files, rules)? {
-        Ok(found) => { picture_reply(alloc, rules, &found.lexer, names)?.after(0, found.said) }
-        Err(reply) => Ok(reply),
+    match bytes_of(alloc, files, rules)? {
+        Ok(bytes) => picture_answer(alloc, verbosity, rules, &bytes, first(names)),
+        Err(reason) => unread(alloc, rules, reason.as_str()),
     }
 }

@@ -1,7 +1,9 @@
 -- Cases of specs/Check.antt.
 use Rattle.std.proofs.Common.{◌≡◌, ℕ, inl, inr, true, List, [], ◌∷◌, refl, ap, arith}
 use Rattle.std.specs.Str.{IsUtf8}
-use Rattle.bajofeki_c.specs.Check.{IsChecked, IsFound}
+use Rattle.lexdfa_lib.specs.declared.layout.LineForm.TheVariants.{Json}
+use Rattle.bajofeki_c.specs.Answered.{IsAnswered}
+use Rattle.bajofeki_c.specs.Check.{IsChecked, IsCheckAnswer}
 use Rattle.bajofeki_c.specs.declared.check.Checked.{Checked}
 
 abbrev told : ℕ → ℕ → ℕ → Checked
@@ -16,13 +18,11 @@ module _ (rules : List ℕ) where
   bad_name bad = inr (bad, (refl, refl))
 
   -- a good name isn't refused
-  no_good_name_is_refused : IsUtf8 [] → ¬ IsFound [] rules true [] (told 10 0 0) [] → ¬ IsChecked [] rules true [] (told 10 0 0) []
-  no_good_name_is_refused utf8 none (inl (good, inl found)) = none found
-  no_good_name_is_refused utf8 none (inl (good, inr refused)) = let n : 10 ≡ 7 = ap (λ (c : Checked). c.code) refused.0 in omega (arith, n)
+  no_good_name_is_refused : IsUtf8 [] → ¬ IsAnswered (IsCheckAnswer Json [] rules) [] (told 10 0 0) [] → ¬ IsChecked [] rules true [] (told 10 0 0) []
+  no_good_name_is_refused utf8 none (inl (good, answered)) = none answered
   no_good_name_is_refused utf8 none (inr bad) = bad.0 utf8
 
-  -- where memory is refused, nothing is told of the rules
-  no_part_of_an_answer : ¬ IsFound [] rules true [] (told 7 1 1) [] → ¬ IsChecked [] rules true [] (told 7 1 1) []
-  no_part_of_an_answer none (inl (good, inl found)) = none found
-  no_part_of_an_answer none (inl (good, inr refused)) = let n : 1 ≡ 0 = ap (λ (c : Checked). c.found) refused.0 in omega (arith, n)
-  no_part_of_an_answer none (inr bad) = let n : 7 ≡ 10 = ap (λ (c : Checked). c.code) bad.1.0 in omega (arith, n)
+  -- of a bad name nothing is written
+  nothing_of_a_bad_name : ¬ IsUtf8 (255 ∷ []) → ¬ IsChecked (255 ∷ []) rules true [] (told 0 0 0) []
+  nothing_of_a_bad_name bad (inl (good, answered)) = bad good
+  nothing_of_a_bad_name bad (inr refused) = let n : 0 ≡ 10 = ap (λ (c : Checked). c.code) refused.1.0 in omega (arith, n)

@@ -1,21 +1,9 @@
-use Rattle.std.proofs.Common.{map, string_bytes}
+use Rattle.std.proofs.Common.{inr}
 use Rattle.std.proofs.lemmas.Result.{IfOk-weaker}
-use Rattle.lexdfa_lib.specs.Streams.{GivesWhole}
-use Rattle.reviews_lib.specs.Compared.{DifferenceAnswer}
-use Rattle.reports_lib.proofs.RuleLaws.{by_lexer, no_lexer}
 use Rattle.reviews_lib.proofs.differing.compare_with.Goals as goal
 
-pub returns-in_ok-difference_reply-in-Ok : goal.returns-in_ok-difference_reply-in-Ok
-returns-in_ok-difference_reply-in-Ok g c = record {
-  answer = IfOk-weaker c.after.result _ _
-      (λ answer same. by_lexer c.args.verbosity (GivesWhole (g.F.Files.gives c.args.files.now)) (λ s others. DifferenceAnswer c.args.name.now c.args.rules.now.lexer (map string_bytes c.args.rules.now.modes.items) c.args.other.now s others) c.args.other.now
-      c.in-Ok.found.lexer.lexer (map string_bytes c.in-Ok.found.lexer.modes.items) (string_bytes c.in-Ok.found.said) c.in_ok-difference_reply-in-Ok.field-0 answer
-      (rw c.in-Ok.is at c.in_ok-found.ensures.lexer) c.in_ok-difference_reply-in-Ok.ensures.answer same)
-      c.after.ensures.followed;
-}
-
-pub returns-in-Err : goal.returns-in-Err
-returns-in-Err g c = record {
-  answer = no_lexer c.args.verbosity (GivesWhole (g.F.Files.gives c.args.files.now)) (λ s others. DifferenceAnswer c.args.name.now c.args.rules.now.lexer (map string_bytes c.args.rules.now.modes.items) c.args.other.now s others) c.args.other.now c.in-Err.reply
-      (rw c.in-Err.is at c.in_ok-found.ensures.refused);
+pub returns-in-Ok : goal.returns-in-Ok
+returns-in-Ok g c = record {
+  answer = IfOk-weaker c.compare_bytes.result _ _ (λ answer is. inr (c.in-Ok.bytes.items, (rw c.in-Ok.is at c.in_ok-bytes.ensures.bytes, is)))
+      (rw c.deref.ensures.value at c.compare_bytes.ensures.answer);
 }
