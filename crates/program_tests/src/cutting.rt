@@ -1,4 +1,5 @@
-//! What named rules cut, what is written for it and how cutting ends, a reader that gives bytes bit by bit, and a writer that fails.
+//! What named rules cut, what is written for it and how cutting ends, with a reader that gives bytes bit by bit and may fail, and a writer
+//! that may fail.
 
 use lalrpop_lexer::Position;
 use lexdfa_lib::RunError;
@@ -6,44 +7,33 @@ use std::alloc::Global;
 use std::io;
 use std::io::{Read, Write};
 use tokens_lib::{
-    Console, CutEnd, Found, Layout, LineForm, Markup, OpenMode, Reader, RuleLexer, Sink, Source,
-    System, write_items, write_page,
+    Console, CutEnd, Found, Layout, LineForm, Markup, OpenMode, Reader, RuleLexer, System,
+    write_items, write_page,
 };
 
 /// More bytes than any text here has.
 pub(crate) const ALL: usize = 1000;
 
-/// How many bytes a read gives.
-pub(crate) const SIZES: &[usize] = &[1, 2, 3, 5, ALL];
+// How many bytes a read gives.
+const SIZES: &[usize] = &[1, 2, 3, 5, ALL];
 
 /// Gives some of its bytes a call, then ends or fails, and counts its calls.
 #[derive(Drop)]
 pub(crate) struct Fed<'a> {
     left: &'a [u8],
     // How many bytes a call gives at most.
-    pub(crate) at_once: usize,
+    at_once: usize,
     // Whether a call fails that has no bytes left; if it doesn't, the bytes end.
     fails: bool,
     calls: usize,
 }
 
 impl<'a> Fed<'a> {
-    /// Gives these bytes, then ends.
-    pub(crate) fn ending(left: &'a [u8], at_once: usize) -> Fed<'a> {
+    pub(crate) fn new(left: &'a [u8], at_once: usize, fails: bool) -> Fed<'a> {
         Fed {
             left,
             at_once,
-            fails: false,
-            calls: 0,
-        }
-    }
-
-    /// Gives these bytes, then fails.
-    pub(crate) fn failing(left: &'a [u8], at_once: usize) -> Fed<'a> {
-        Fed {
-            left,
-            at_once,
-            fails: true,
+            fails,
             calls: 0,
         }
     }
@@ -60,23 +50,31 @@ impl<'a> Read for Fed<'a> {
     }
 }
 
-/// Takes one byte a call while it has room, then fails, and counts its calls.
+// Takes one byte a call while it has room, then fails, and counts its calls. It takes no memory: it compares the bytes with those that it
+// should get.
 #[derive(Drop)]
-struct Full {
-    taken: Vec<u8>,
-    room: usize,
+struct Full<'a> {
+    wanted: &'a [u8],
     // How a call fails that finds no room; if it doesn't, it takes nothing.
     failure: Option<io::ErrorKind>,
+    // Whether another byte came than was wanted.
+    is_wrong: bool,
     calls: usize,
 }
 
-impl Write for Full {
+impl<'a> Write for Full<'a> {
     fn write(&mut self, buf: &[u8]) -> io::Result<usize> {
         self.calls = self.calls.saturating_add(1);
-        match self.failure {
-            _ if self.calls <= self.room => self.taken.write(&buf[..buf.len().min(1)]),
-            Some(kind) => Err(io::Error::from(kind)),
-            None => Ok(0),
+        match (buf.first(), self.wanted.split_first()) {
+            (Some(byte), Some((wanted, left))) => {
+                self.is_wrong = self.is_wrong || byte != wanted;
+                self.wanted = left;
+                Ok(1)
+            }
+            _ => match self.failure {
+                Some(kind) => Err(io::Error::from(kind)),
+                None => Ok(0),
+            },
         }
     }
 
@@ -95,14 +93,6 @@ pub(crate) const WORD_RULES: &[u8] =
 /// Names, and comments in comments.
 pub(crate) const COMMENT_RULES: &[u8] =
     b"NAME = /[a-z]+/\n[INITIAL COMMENT]\nOPEN push COMMENT = '/*'\n[COMMENT]\nCLOSE pop = '*/'\nREST skip = /[a-z]/";
-
-/// The lexer of a file of rules.
-pub(crate) fn lexer_of(alloc: Global, rules: &[u8]) -> Option<RuleLexer> {
-    match RuleLexer::from_file(alloc, rules) {
-        Ok(lexer) => Some(lexer),
-        Err(_) => None,
-    }
-}
 
 /// How cutting a text ends.
 #[derive(Clone, Copy, PartialEq, Eq)]
@@ -133,6 +123,12 @@ pub(crate) const FAULTY: Ended = Ended::Whole {
     has_fault: true,
     inside: None,
 };
+
+/// Cutting stops at this column of the first line.
+pub(crate) fn stopped(column: usize, found: Found) -> Ended {
+    let place = Position { line: 1, column };
+    Ended::Stopped { place, found }
+}
 
 fn end_of(end: &Result<CutEnd, RunError>) -> Ended {
     match end {
@@ -169,13 +165,17 @@ pub(crate) const JSON: Shape = Shape::Lines(LineForm::Json, None);
 /// Lines of JSON of a file, and of its faults too.
 pub(crate) const RECOVERING_JSON: Shape = Shape::Lines(LineForm::Json, Some("\"f\""));
 
+pub(crate) const HTML: Shape = Shape::Page(Markup::Html);
+
+pub(crate) const ANSI: Shape = Shape::Page(Markup::Ansi);
+
 // The lines or the page of what is read, by rules whose modes have no names.
-fn write_shape<S: Source, O: Sink>(
+fn write_shape(
     alloc: Global,
     lexer: &RuleLexer,
     shape: Shape,
-    reader: &mut Reader<S>,
-    console: &mut Console<O, Vec<u8>>,
+    reader: &mut Reader<System<Fed<'_>>>,
+    console: &mut Console<System<Full<'_>>, Vec<u8>>,
 ) -> Ended {
     match shape {
         Shape::Lines(form, file) => {
@@ -191,56 +191,64 @@ fn write_shape<S: Source, O: Sink>(
     }
 }
 
-/// What is written for what a reader gives, how cutting ends, and how often the reader is called.
-#[derive(Drop)]
-pub(crate) struct Answer {
-    pub(crate) written: Vec<u8>,
-    pub(crate) end: Ended,
-    pub(crate) calls: usize,
-}
-
-/// Cuts what a reader gives.
-pub(crate) fn cut(alloc: Global, lexer: &RuleLexer, shape: Shape, reader: Fed<'_>) -> Answer {
-    let mut reader = Reader::new(System(reader));
-    let mut console = Console::new(Vec::new(alloc), Vec::new(alloc));
-    let end = write_shape(alloc, lexer, shape, &mut reader, &mut console);
-    let (written, _) = console.into_sinks();
-    let System(source) = reader.into_source();
-    Answer {
-        written,
-        end,
-        calls: source.calls,
-    }
-}
-
-/// A writer that fails once it has these bytes, or finds no room after them.
+/// A text, whether a read fails after it, what is written of it, and how cutting ends. If a write fails, it is the first one after that.
+/// `settled` says how many bytes decide that it ends so, if it matters, since no more are read then.
 #[derive(Clone, Copy)]
-pub(crate) struct Room {
-    pub(crate) written: &'static [u8],
+pub(crate) struct Run<'a> {
+    pub(crate) rules: &'a [u8],
+    pub(crate) shape: Shape,
+    pub(crate) text: &'a [u8],
+    pub(crate) breaks: bool,
+    pub(crate) written: &'a [u8],
+    pub(crate) end: Ended,
     pub(crate) failure: Option<io::ErrorKind>,
+    pub(crate) settled: Option<usize>,
 }
 
-/// How often the reader is called, if the writer gets these bytes, fails, isn't called again, and the failure is told.
-pub(crate) fn reads_until_full(
-    alloc: Global,
-    lexer: &RuleLexer,
-    shape: Shape,
-    reader: Fed<'_>,
-    room: Room,
-) -> Option<usize> {
-    let mut reader = Reader::new(System(reader));
-    let writer = Full {
-        taken: Vec::new(alloc),
-        room: room.written.len(),
-        failure: room.failure,
+// How many reads give as many bytes, and one more that fails.
+fn reads(run: &Run<'_>, settled: usize, at_once: usize) -> usize {
+    let rounded = settled.saturating_add(at_once).saturating_sub(1);
+    let reads = rounded.checked_div(at_once).unwrap_or(0);
+    reads.saturating_add(usize::from(run.end == Ended::Unread))
+}
+
+// Whether the ends were called as often as they should be: the writer not after it failed, the reader no more than is needed.
+fn are_called(run: &Run<'_>, at_once: usize, source: &Fed<'_>, sink: &Full<'_>) -> bool {
+    let failed = usize::from(run.end == Ended::Unwritten);
+    sink.calls == run.written.len().saturating_add(failed)
+        && match run.settled {
+            Some(settled) => source.calls == reads(run, settled, at_once),
+            None => true,
+        }
+}
+
+fn is_so(alloc: Global, lexer: &RuleLexer, run: &Run<'_>, at_once: usize) -> bool {
+    let sink = Full {
+        wanted: run.written,
+        failure: run.failure,
+        is_wrong: false,
         calls: 0,
     };
-    let mut console = Console::new(System(writer), Vec::new(alloc));
-    let end = write_shape(alloc, lexer, shape, &mut reader, &mut console);
-    let (System(writer), _) = console.into_sinks();
+    let mut reader = Reader::new(System(Fed::new(run.text, at_once, run.breaks)));
+    let mut console = Console::new(System(sink), Vec::new(alloc));
+    let end = write_shape(alloc, lexer, run.shape, &mut reader, &mut console);
+    let (System(sink), _) = console.into_sinks();
     let System(source) = reader.into_source();
-    let stops = end == Ended::Unwritten
-        && writer.taken.as_slice() == room.written
-        && writer.calls == room.written.len().saturating_add(1);
-    if stops { Some(source.calls) } else { None }
+    end == run.end
+        && sink.wanted.is_empty()
+        && !sink.is_wrong
+        && are_called(run, at_once, &source, &sink)
+}
+
+/// Whether the run goes so, however many bytes a read gives.
+pub(crate) fn holds(alloc: Global, run: &Run<'_>) -> bool {
+    let Ok(lexer) = RuleLexer::from_file(alloc, run.rules) else {
+        return false;
+    };
+    for at_once in SIZES {
+        if !is_so(alloc, &lexer, run, *at_once) {
+            return false;
+        }
+    }
+    true
 }

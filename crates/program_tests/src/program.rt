@@ -27,8 +27,8 @@ impl Files for Named {
 
     fn open(&self, alloc: Global, name: &str) -> Result<System<Fed<'static>>, NoBytes> {
         match bytes_of(name) {
-            Some(bytes) if name.starts_with("torn") => Ok(System(Fed::failing(bytes, ALL))),
-            Some(bytes) => Ok(System(Fed::ending(bytes, ALL))),
+            Some(bytes) if name.starts_with("torn") => Ok(System(Fed::new(bytes, ALL, true))),
+            Some(bytes) => Ok(System(Fed::new(bytes, ALL, false))),
             None => Err(NoBytes::Because(String::from_str(alloc, "not found")?)),
         }
     }
@@ -53,7 +53,7 @@ fn words_of(alloc: Global, words: &str) -> Result<Vec<String>, AllocError> {
 }
 
 fn is_answered(alloc: Global, row: &Row, words: &[String], at_once: usize) -> bool {
-    let mut input = Reader::new(System(Fed::failing(row.input, at_once)));
+    let mut input = Reader::new(System(Fed::new(row.input, at_once, true)));
     let mut console = Console::new(Vec::new(alloc), Vec::new(alloc));
     let status = run(alloc, words, &Named, &mut input, &mut console);
     let (out, err) = console.into_sinks();
@@ -121,20 +121,6 @@ const ROWS: &[Row] = &[
         out: b"1:1 WORD \"if\"\n",
         err: b"tokens: torn.fault: read failed\n",
         status: 6,
-    },
-    Row {
-        words: "r nothing",
-        input: b"",
-        out: b"",
-        err: b"tokens: nothing: not found\n",
-        status: 6,
-    },
-    Row {
-        words: "r g",
-        input: b"",
-        out: b"1:1 WORD \"x\"\n",
-        err: b"",
-        status: 0,
     },
 ];
 

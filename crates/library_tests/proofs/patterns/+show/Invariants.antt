@@ -1,8 +1,0 @@
-use Rattle.std.proofs.Common.{◌+◌, ◌*◌}
-use Rattle.library_tests.proofs.patterns.+show.Given as goal
-
-abbrev pub decreases-show : goal.decreases-show
-decreases-show l = 2 * l.levels
-
-abbrev pub decreases-show_all : goal.decreases-show_all
-decreases-show_all l = 2 * l.levels + 1

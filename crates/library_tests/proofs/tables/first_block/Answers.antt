@@ -1,5 +1,0 @@
-use Rattle.std.proofs.lemmas.Str.{IsCharBoundary-start}
-use Rattle.library_tests.proofs.tables.first_block.Goals as goal
-
-pub find_ends-vain-requires : goal.find_ends-vain-requires
-find_ends-vain-requires c = record { boundary = IsCharBoundary-start c.args.text.now c.utf8.text }
