@@ -1,6 +1,6 @@
 -- What the program answers about rules, in an array.
 use Rattle.std.proofs.Common.{ℕ, List, inl, inr}
-use Rattle.std.specs.Prelude.{Result, Ok, Err, IfOk, OnErr}
+use Rattle.std.specs.Prelude.{◌⊎◌, Result, Ok, Err, IfOk, OnErr}
 use Rattle.reports_lib.specs.Answer.{Answer}
 use Rattle.bajofeki_c.specs.Answered.{IsAnswered, IsNotChecked, IsPut}
 use Rattle.bajofeki_c.specs.declared.check.Checked.{Checked}
