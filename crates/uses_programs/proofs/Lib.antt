@@ -1,7 +1,5 @@
 mod BadLines
 mod CutInMemory
 mod EndingLaws
-mod Lines
 mod Memory
 mod TextEndingLaws
-mod Words

@@ -1,5 +1,5 @@
 //! The lines and the page of a text by rules, and the lines of clashes.
-ghost use Rattle.std.specs.Prelude.{◌≡◌, ◌≢◌, false, true, map, string_bytes, IfOk, IfErr};
+ghost use Rattle.std.specs.Prelude.{◌≡◌, false, true, map, string_bytes, IfOk, IfErr};
 ghost use Rattle.lalrpop_rules.specs.ModeSet.{rules_of};
 ghost use Rattle.lalrpop_rules.specs.RuleSet.{names_of};
 ghost use Rattle.lexdfa_lib.specs.Streams.{Reading, Reads, Stream, opened};
@@ -71,23 +71,6 @@ pub fn page_of_text<O: Sink, E: Sink>(
 {
     let mut reader = Reader::new(text);
     write_page(alloc, lexer, markup, &mut reader, console)
-}
-
-// Whether cutting stopped at a fault: never, where a page is written.
-// Needs tokens_lib::write_page: written.
-pub fn stops<S: Source, O: Sink, E: Sink>(
-    alloc: Global,
-    lexer: &RuleLexer,
-    markup: Markup,
-    reader: &mut Reader<S>,
-    console: &mut Console<O, E>,
-) -> bool
-    ensures never { result ≢ true }
-{
-    matches!(
-        write_page(alloc, lexer, markup, reader, console),
-        Ok(CutEnd::Stopped { .. })
-    )
 }
 
 // The lines of all clashes of the rules, twice.

@@ -1,14 +1,12 @@
 //! The program `tokens` over files and streams of a caller.
 ghost use Rattle.std.specs.Prelude.{◌≡◌, ◌≢◌, ◌≤◌, ◌⊎◌, ◌∷◌, ◌++◌, ℕ, List, [], Some, true, false, codes, map, string_bytes, IfOk, IfErr, IfSome};
 ghost use Rattle.lexdfa_lib.specs.Streams.{AtEnd, NotOpened, Reading, Reads, Stream, opened};
-ghost use Rattle.tokens_lib.specs.Answer.{Answer, followed, refusal};
+ghost use Rattle.tokens_lib.specs.Answer.{Answer, followed};
 ghost use Rattle.lexdfa_lib.specs.Command.{options_of};
-ghost use Rattle.pieces_lib.specs.Console.{Answers, Fails};
+ghost use Rattle.pieces_lib.specs.Console.{Fails};
 ghost use Rattle.reports_lib.specs.NamedRules.{LexerOf, RulesOf};
 ghost use Rattle.tokens_lib.specs.Program.{IsAnswer, IsFirstAnswer};
 ghost use Rattle.pieces_lib.specs.TextAnswer.{PiecesAnswer};
-ghost use Rattle.lexdfa_lib.specs.Usage.{wrong_text};
-ghost use Rattle.lexdfa_lib.specs.declared.command.ArgumentsError.TheVariants.{NoRules};
 
 use lexdfa_lib::RunError;
 use std::alloc::{AllocError, Global};
@@ -75,24 +73,6 @@ pub fn run_in_memory<F: Files>(
     let status = run(alloc, words, files, &mut input, &mut console)?;
     let (out, err) = console.into_sinks();
     Ok(Given { status, out, err })
-}
-
-// Needs tokens_lib::run: answer, fails.
-/// The exit status of `tokens` without arguments: 4, after standard error was told that RULES is missing, whatever the files are.
-///
-/// # Errors
-///
-/// Those of `run`.
-pub fn without_arguments<F: Files, S: Source, O: Sink, E: Sink>(
-    alloc: Global,
-    files: &F,
-    input: &mut Reader<S>,
-    console: &mut Console<O, E>,
-) -> Result<u8, RunError>
-    ensures answer { IfOk result (λ status.
-        Answers (λ answer. answer ≡ refusal 4 (wrong_text NoRules)) console.old status console.new) }
-{
-    run(alloc, &[], files, input, console)
 }
 
 // Needs tokens_lib::run: fails.

@@ -1,57 +1,15 @@
 //! What the program says of files that give no lexer, said by a program of one's own.
-ghost use Rattle.std.specs.Prelude.{◌≡◌, ℕ, List, [], ◌∷◌, codes, length, string_bytes, IfOk, IfSome};
+ghost use Rattle.std.specs.Prelude.{◌≡◌, List, [], ◌∷◌, codes, length, string_bytes, IfOk, IfSome};
 ghost use Rattle.bajofeki_rules.specs.Lines.{lines};
 ghost use Rattle.lalrpop_rule_file.specs.FileModes.{Said};
 ghost use Rattle.lalrpop_rule_file.specs.RuleFile.{LinesSay, without_mark};
 ghost use Rattle.lalrpop_rule_file.specs.declared.warning.Warning.TheVariants.{ModeNotEntered};
-ghost use Rattle.tokens_lib.specs.Answer.{headed};
-ghost use Rattle.tokens_lib.specs.Reasons.{SaysBadLine, place_at, placed, refusal_text};
 ghost use Rattle.tokens_lib.specs.ModePlace.{section_place};
 ghost use Rattle.tokens_lib.specs.ItemLines.{object_line};
 ghost use Rattle.tokens_lib.specs.Warned.{AreWarnings, warning_members};
 
-use lalrpop_lexer::lexer::nfa::NfaConstructionError;
 use std::alloc::{AllocError, Global};
-use tokens_lib::{
-    ModeFile, RuleFile, RuleFileError, RulesError, bad_line_message, rules_message, warnings_json,
-    warnings_message,
-};
-
-// Needs tokens_lib::bad_line_message: message.
-pub fn said_of_a_line(
-    alloc: Global,
-    bytes: &[u8],
-    error: &RuleFileError,
-) -> Result<String, AllocError>
-    ensures said { IfOk result (λ message. (said : List ℕ)
-        × (SaysBadLine (lines (without_mark bytes.now)) error.now said
-        × (string_bytes message ≡ headed (codes "f") said))) }
-{
-    bad_line_message(alloc, "f", bytes, error)
-}
-
-// A rule that can't be compiled is told where it stands.
-// Needs tokens_lib::rules_message: message.
-pub fn said_of_a_rule(
-    alloc: Global,
-    bytes: &[u8],
-    file: &ModeFile<'_>,
-    rule: usize,
-    error: NfaConstructionError,
-) -> Result<String, AllocError>
-    ensures said { IfOk result (λ message. string_bytes message
-        ≡ headed (codes "f") (placed (lines (without_mark bytes.now))
-        (place_at file.now.places.items rule).line (place_at file.now.places.items rule).column
-        (refusal_text error))) }
-{
-    rules_message(
-        alloc,
-        "f",
-        bytes,
-        file,
-        &RulesError::NotCompiled { rule, error },
-    )
-}
+use tokens_lib::{ModeFile, RuleFile, warnings_json, warnings_message};
 
 // Nothing is said of a file that means all that it says.
 // Needs tokens_lib::warnings_message: message.

@@ -1,0 +1,5 @@
+mod Counted
+mod Counting
+mod Lines
+mod Tokens
+mod Words

@@ -1,9 +1,0 @@
-mod Counted
-mod Counting
-mod EditCosts
-mod Edits
-mod Joining
-mod ModePieces
-mod Pages
-mod ReadFiles
-mod Tokens

@@ -1,6 +1,0 @@
-use Rattle.std.proofs.Common.{[], refl}
-use Rattle.std.proofs.lemmas.Result.{IfOk-weaker}
-use Rattle.uses_library.proofs.cut_by_rules.begin.Goals as goal
-
-pub returns-clause-cost : goal.returns-clause-cost
-returns-clause-cost c = IfOk-weaker c.items.result _ _ (λ s cost. cost [] s refl) c.items.ensures.cost

@@ -1,5 +1,0 @@
-use Rattle.std.proofs.Common.{refl}
-use Rattle.uses_library.proofs.name_rules.name_of.Goals as goal
-
-pub returns-clause-some : goal.returns-clause-some
-returns-clause-some c = λ mode is. c.name.ensures.token mode c.args.text.now c.args.token.start c.args.token is refl

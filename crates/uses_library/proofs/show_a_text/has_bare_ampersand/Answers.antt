@@ -1,9 +1,0 @@
-use Rattle.std.proofs.Common.{codes}
-use Rattle.std.proofs.lemmas.Str.Pattern.{contains_text}
-use Rattle.uses_library.proofs.Pages.{never, no_bare_ampersand}
-use Rattle.uses_library.proofs.show_a_text.has_bare_ampersand.Goals as goal
-
-pub returns : goal.returns
-returns c = record {
-  never = never c.contains.result _ _ (codes "& ") (contains_text _ (codes "& ") _ c.contains.ensures.cases) c.deref.ensures (no_bare_ampersand _ c.in_ok-page.ensures.entities);
-}

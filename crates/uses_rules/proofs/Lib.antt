@@ -1,0 +1,7 @@
+mod Counting
+mod EditCosts
+mod Edits
+mod Joining
+mod ModePieces
+mod Pages
+mod ReadFiles
