@@ -111,7 +111,11 @@ fn push_name_array(source: &mut String, prefix: &str, names: &[String]) -> Resul
     ensures { OnOk result (string_bytes source.new
         ≡ string_bytes source.old ++ name_array prefix.now (map string_bytes names.now)) }
 {
-    push_filled(source, prefix, "#ifndef $_header\nstatic const char *const $_names[")?;
+    push_filled(
+        source,
+        prefix,
+        "#ifndef $_header\nstatic const char *const $_names[",
+    )?;
     push_decimal(source, names.len() as u64)?;
     source.push_str("] = {\n")?;
     push_quoted_names(source, names)?;
