@@ -8,6 +8,6 @@ returns c = record {
   checked = inl (
     c.in-Ok.ensures.cases.1,
     is_answered c.check_answer-answer.result (IsCheckAnswer (form_of c.args.is_json) c.args.name.now c.args.rules.now) c.args.out.now c.answer_into.new.out c.answer_into.result
-    (rw (c.in-Ok.ensures.cases.0, c.form_of.ensures) at c.check_answer-answer.ensures.answer) c.answer_into.ensures.put c.answer_into.ensures.refused,
+        (rw (c.in-Ok.ensures.cases.0, c.form_of.ensures) at c.check_answer-answer.ensures.answer) c.answer_into.ensures.put c.answer_into.ensures.refused,
   );
 }
