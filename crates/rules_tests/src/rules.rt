@@ -161,9 +161,10 @@ fn add_pieces(items: &mut RuleItems<'_>, line: &mut String) -> Result<(), AllocE
 // The pieces that are left after an error, which `next_item` gives, beginning with the one that was refused. A piece has one byte at least.
 fn add_rest(items: &mut RuleItems<'_>, line: &mut String, most: usize) -> Result<(), AllocError> {
     for _ in 0..=most {
-        match items.next_item()? {
-            Some(item) => add_piece(line, &item)?,
-            None => return Ok(()),
+        match items.next_item() {
+            Ok(Some(item)) => add_piece(line, &item)?,
+            Ok(None) => return Ok(()),
+            Err(AllocError) => return Err(AllocError),
         }
     }
     line.push_str("more pieces than bytes")
@@ -192,6 +193,24 @@ fn first(alloc: Global, lexer: &RuleLexer, text: &str) -> Result<String, AllocEr
     }
 }
 
+fn asked_of_text(
+    alloc: Global,
+    asked: Asked,
+    lexer: &RuleLexer,
+    text: &str,
+) -> Result<String, AllocError> {
+    match asked {
+        Asked::Pieces => pieces(alloc, lexer, text),
+        Asked::First => first(alloc, lexer, text),
+        Asked::Page => html(alloc, lexer, text),
+        Asked::Colours => ansi(alloc, lexer, text),
+        Asked::Change | Asked::Edited | Asked::Between => texts::edited(alloc, asked, lexer, text),
+        Asked::Stream => texts::in_chunks(alloc, lexer, text),
+        Asked::Counts => great::counts(alloc, lexer, text),
+        _ => great::depth(alloc, lexer, text),
+    }
+}
+
 fn asked_of(
     alloc: Global,
     asked: Asked,
@@ -200,15 +219,8 @@ fn asked_of(
 ) -> Result<String, AllocError> {
     let text = str::from_utf8(given).unwrap_or("?");
     match asked {
-        Asked::Pieces => pieces(alloc, lexer, text),
-        Asked::First => first(alloc, lexer, text),
-        Asked::Page => html(alloc, lexer, text),
-        Asked::Colours => ansi(alloc, lexer, text),
-        Asked::Change | Asked::Edited | Asked::Between => texts::edited(alloc, asked, lexer, text),
-        Asked::Stream => texts::in_chunks(alloc, lexer, text),
         Asked::Numbers | Asked::Cutter | Asked::Sources => emit::cut(alloc, asked, lexer, given),
-        Asked::Counts => great::counts(alloc, lexer, text),
-        Asked::Depth => great::depth(alloc, lexer, text),
+        _ => asked_of_text(alloc, asked, lexer, text),
     }
 }
 
