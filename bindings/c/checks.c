@@ -190,7 +190,7 @@ static void check_comparisons(void) {
         free(all);
         free(part);
     }
-    CHECK(bajofeki_rules_diff(NULL, NULL, 0, NULL, NULL, 0, NULL, 0).code == BAJOFEKI_REFUSED);
+    CHECK(bajofeki_rules_diff(NULL, NULL, 0, NULL, NULL, 0, NULL, 0).code == BAJOFEKI_CLEAN);
     CHECK(bajofeki_rules_diff(NULL, NULL, 0, NULL, NULL, 1, NULL, 0).code == BAJOFEKI_BAD_ARGUMENT);
     CHECK(bajofeki_rules_diff(NULL, NULL, 1, NULL, NULL, 0, NULL, 0).code == BAJOFEKI_BAD_ARGUMENT);
     CHECK(bajofeki_rules_diff("f", "", 0, "\xFF", "", 0, NULL, 0).code == BAJOFEKI_BAD_ARGUMENT);
