@@ -55,7 +55,7 @@ enum {
 
 /* What a check of rules, a comparison or a drawing came to: the status of `tokens --check`, `--diff` and `--dot`. */
 enum {
-    BAJOFEKI_CLEAN = 0,   /* nothing is wrong, or differs */
+    BAJOFEKI_CLEAN = 0,   /* nothing is wrong or differs */
     BAJOFEKI_FOUND = 1,   /* something was found, the file means something else than it seems to, or something differs */
     BAJOFEKI_REFUSED = 2, /* rules clash, or one can't be compiled */
     BAJOFEKI_UNREAD = 3,  /* a line is wrong, or a rule's text doesn't parse */

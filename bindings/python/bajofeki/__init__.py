@@ -467,7 +467,7 @@ def check(rules, name="rules", is_json=False):
 
 def diff(rules, other, name="rules", other_name="others"):
     """Compares two files of rules of these names, each of which is a str or bytes, as `tokens --diff` does: for each mode it tells the least
-    text of which they make different tokens.
+    text that they cut into different tokens.
 
     >>> diff("A = 'a'\\n", "B = 'a'\\n", "old.rules", "new.rules").findings
     ('"a" is A in old.rules, and B in new.rules',)

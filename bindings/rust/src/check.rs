@@ -51,7 +51,7 @@ pub fn check_json(rules: impl AsRef<[u8]>, name: &str) -> Checked {
     checked(rules.as_ref(), name, true)
 }
 
-/// Compares two files of rules of these names, as `tokens --diff` does: for each mode it tells the least text of which they make
+/// Compares two files of rules of these names, as `tokens --diff` does: for each mode it tells the least text that they cut into
 /// different tokens.
 ///
 /// ```

@@ -17,7 +17,7 @@ fn told(alloc: Global, reply: &Reply) -> Result<Vec<u8>, AllocError>
     Ok(bytes)
 }
 
-// How an answer is told of which these bytes are written.
+// What C is given for an answer that has this many bytes.
 fn checked_of(reply: &Reply, length: usize) -> Checked
     ensures code { result.code ≡ reply.now.status }
     ensures found { result.found ≡ length_of reply.now.out }

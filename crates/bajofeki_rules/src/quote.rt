@@ -74,7 +74,8 @@ const SHORT: usize = LANES + 2;
 
 // Appends the slice in quotes, if it is short and all of its characters are written as they are. Returns whether it did.
 fn push_short(bytes: &mut Vec<u8>, slice: &str) -> Result<bool, AllocError>
-    ensures quoted { IfOk result (λ done. done ≡ true → bytes.new.items ≡ bytes.old.items ++ quoted slice.now) }
+    ensures quoted { IfOk result (λ done. done ≡ true
+        → bytes.new.items ≡ bytes.old.items ++ quoted slice.now) }
     ensures same { IfOk result (λ done. done ≡ false → bytes.new.items ≡ bytes.old.items) }
 {
     let len = slice.len();

@@ -3,7 +3,7 @@
 //! Each line of standard input is an edit: two places in the text, `LINE:COLUMN`, and what comes in place of what lies between
 //! them, with escapes as in a pattern, so that `\n` is a line feed. For each edit it writes what changed: a line in bytes, such as
 //! `4..5 -> 4..6: 1 out, 1 in`, and a line for each piece that came, with its place, and `!` where no rule matches. With `--check`,
-//! the text is cut from nothing too after each edit, at once and in chunks, and it is an error if that gives other pieces or places.
+//! the whole text is cut again after each edit, at once and in chunks, and it is an error if that gives other pieces or places.
 //! The text of the file isn't changed.
 #![tactic(auto)]
 
@@ -70,12 +70,12 @@ fn show(rt: &impl Print, alloc: Global, text: &Document<'_>, change: &Change) ->
     Ok(())
 }
 
-// Whether the lines and columns up to the place, counted from nothing, are those of the text.
+// Whether the lines and columns up to the place, counted again, are those of the text.
 fn is_placed(text: &Document<'_>, at: usize) -> bool {
     text.position(at) == Position::get(text.text(), at)
 }
 
-// Whether a cut from nothing gives these pieces, at the places that the text says.
+// Whether a new cut gives these pieces, at the places that the text says.
 fn is_cut_so(alloc: Global, text: &Document<'_>, pieces: &[Item<'_>]) -> Result<bool, AllocError> {
     let mut rest = pieces.iter();
     for item in text.lexer().items(alloc, text.text())? {
@@ -126,7 +126,7 @@ fn is_given_so(alloc: Global, text: &Document<'_>, pieces: &[Item<'_>]) -> Resul
     Ok(gives(&mut chunks, &mut rest)? && rest.next().is_none())
 }
 
-// Cuts the text from nothing, and compares.
+// Cuts the whole text again, and compares.
 fn check(alloc: Global, text: &Document<'_>) -> Result<()> {
     let pieces = text.pieces(alloc, 0..text.text().len())?;
     ensure!(

@@ -419,7 +419,7 @@ fn longest_and_strongest(rt: HostRuntime) {
     expect_lines(&rt, rt.alloc(), Call::Lexer(Asked::AtOnce), AT_ONCE);
 }
 
-// The first text that is no pattern, or pattern that isn't compiled, or the least word on which two patterns clash.
+// The first text that isn't a pattern, or pattern that isn't compiled, or the least word on which two patterns clash.
 const REFUSED: &str = r#"
 '(a' (a => the text of pattern 1 does not parse: UnclosedGroup at byte 0
 'a' ^ => pattern 1 can't be compiled: LookAround
