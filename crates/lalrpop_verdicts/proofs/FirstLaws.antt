@@ -71,7 +71,7 @@ module _ (rows : List (List ℕ)) (classes : List ℕ) (h : AreClassesOf rows cl
         none j low (sym (earlier_row rows r j (omega arith)) ∙ same ∙ at_last p e)) (cases_lt p (length rows));
   }
 
-no_classes : AreClassesOf [] []
+pub no_classes : AreClassesOf [] []
 no_classes = record {
   same_length = refl;
   least = λ p l. absurd (omega arith);
@@ -87,10 +87,10 @@ no_firsts known places none e = record {
   missing = λ k g j l. absurd (omega arith);
 }
 
-equal_lists : (x y : Vec ℕ Global) → list_eq x y ≡ true → x.items ≡ y.items
+pub equal_lists : (x y : Vec ℕ Global) → list_eq x y ≡ true → x.items ≡ y.items
 equal_lists x y = (slice_eq-Decides Decides-eqb x.items y.items (list_eq x y) refl).0
 
-other_lists : (x y : Vec ℕ Global) → list_eq x y ≡ false → x.items ≢ y.items
+pub other_lists : (x y : Vec ℕ Global) → list_eq x y ≡ false → x.items ≢ y.items
 other_lists x y apart e = let same_lists : list_eq x y ≡ true = (slice_eq-Decides Decides-eqb x.items y.items (list_eq x y) refl).1 e in cc
 
 module _ {S : Type 0} (rows : List (List ℕ)) (known : HashMap (Vec ℕ Global) ℕ S) (places : List ℕ) (h : AreFirsts rows known places) (v : Vec ℕ Global) where

@@ -16,6 +16,7 @@ pub mod FirstLaws
 pub mod SplitLaws
 pub mod Marks
 pub mod StretchLaws
+pub mod NextClasses
 pub mod RoundLaws
 pub mod ShortestLaws
 pub mod LongestLaws

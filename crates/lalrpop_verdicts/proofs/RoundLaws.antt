@@ -11,7 +11,7 @@ use Rattle.lalrpop_dfa.specs.Dfa.{Row, StoredState, AreStored, step, IsWellForme
 use Rattle.lalrpop_dfa.proofs.EdgeTargets.{step_within}
 use Rattle.lalrpop_verdicts.specs.Answers.{accepted_at, accepted_by, answer_from}
 use Rattle.lalrpop_verdicts.specs.Internal.Classes.{AlikeFrom, AreAlikeClasses, AreClassesOf, AreLeads, AreTried, AreWithin, answer_row, leads_of, leads_row, other_at, row_at}
-use Rattle.lalrpop_verdicts.specs.Internal.Rounds.{IsRound}
+use Rattle.lalrpop_verdicts.specs.Internal.Rounds.{AreOwnRows, IsRound}
 use Rattle.lalrpop_verdicts.proofs.FirstLaws.{same_class, same_row}
 use Rattle.lalrpop_verdicts.proofs.StretchLaws.{contains_cases}
 
@@ -73,6 +73,26 @@ module _ (d : List Row) (vs : List ℕ) (tried : AreTried d vs) (f : ℕ → ℕ
       cc
 
 -- ---- a further round
+row_is : (d : List Row) (vs : List ℕ) (table : List (Vec ℕ Global)) (classes : List ℕ) → AreLeads d vs table → (p : ℕ) → p < length d
+    → row_at (map (leads_row classes) table) p ≡ map (λ t. get_or classes t 0) (leads_of d vs p)
+row_is d vs table classes leads p l = elim (slice_get_cases table p).1 [
+  | inl x ↦
+      (let m : p < length table = omega (arith, leads.same_length) in
+      let at : get_or table p x.0 ≡ x.0 = (let g : Some (get_or table p x.0) ≡ Some x.0 = sym (slice_get-get_or table p x.0 m) ∙ x.2 in cc) in
+      get_or-map (leads_row classes) table p x.0 [] m ∙ ap (leads_row classes) at ∙ ap (map (λ t. get_or classes t 0)) (leads.each p x.0 x.2))
+  | inr past ↦ absurd (omega (arith, past.0, leads.same_length))
+]
+
+pub own_rows : (d : List Row) (vs : List ℕ) (table : List (Vec ℕ Global)) (classes : List ℕ) → AreLeads d vs table → IsRound d classes → AreOwnRows (map (leads_row classes) table) classes
+own_rows d vs table classes leads h = record {
+  same_length = h.same_length ∙ sym count;
+  least = λ p l. h.least p (omega (arith, count));
+  own = λ p l. ap (λ row. get_or row 0 0) (row_is d vs table classes leads p (omega (arith, count)));
+}
+  where
+    count : length (map (leads_row classes) table) ≡ length d
+    count = length-map table (leads_row classes) ∙ leads.same_length
+
 module _ (d : List Row) (vs : List ℕ) (table : List (Vec ℕ Global)) (classes next : List ℕ) (formed : IsWellFormed d) (tried : AreTried d vs) (leads : AreLeads d vs table)
     (h : IsRound d classes) (on : AreClassesOf (map (leads_row classes) table) next) where
   abbrev class : ℕ → ℕ
@@ -87,21 +107,12 @@ module _ (d : List Row) (vs : List ℕ) (table : List (Vec ℕ Global)) (classes
   in_rows : (p : ℕ) → p < length d → p < length rows
   in_rows p l = omega (arith, count)
 
-  row_is : (p : ℕ) → p < length d → row_at rows p ≡ map class (leads_of d vs p)
-  row_is p l = elim (slice_get_cases table p).1 [
-    | inl x ↦
-        (let m : p < length table = omega (arith, leads.same_length) in
-        let at : get_or table p x.0 ≡ x.0 = (let g : Some (get_or table p x.0) ≡ Some x.0 = sym (slice_get-get_or table p x.0 m) ∙ x.2 in cc) in
-        get_or-map (leads_row classes) table p x.0 [] m ∙ ap (leads_row classes) at ∙ ap (map class) (leads.each p x.0 x.2))
-    | inr past ↦ absurd (omega (arith, past.0, leads.same_length))
-  ]
-
   pub rows_alike : (p q : ℕ) → p < length d → q < length d → row_at rows p ≡ row_at rows q → (class p ≡ class q) × ((c : ℕ) → class (step d p c) ≡ class (step d q c))
-  rows_alike p q a b e = leads_alike d vs tried class p q a b (sym (row_is p a) ∙ e ∙ row_is q b)
+  rows_alike p q a b e = leads_alike d vs tried class p q a b (sym (row_is d vs table classes leads p a) ∙ e ∙ row_is d vs table classes leads q b)
 
   alike_rows : (p q : ℕ) → p < length d → q < length d → AlikeFrom d p q → row_at rows p ≡ row_at rows q
   alike_rows p q a b alike =
-      row_is p a ∙ alike_leads d vs tried class p q a b (h.kept p q a b alike) (λ c. h.kept (step d p c) (step d q c) (step_within d p c formed a) (step_within d q c formed b) (λ w. alike (c ∷ w))) ∙ sym (row_is q b)
+      row_is d vs table classes leads p a ∙ alike_leads d vs tried class p q a b (h.kept p q a b alike) (λ c. h.kept (step d p c) (step d q c) (step_within d p c formed a) (step_within d q c formed b) (λ w. alike (c ∷ w))) ∙ sym (row_is d vs table classes leads q b)
 
   pub next_round : IsRound d next
   next_round = record {

@@ -6,14 +6,14 @@ mod shortest;
 mod split;
 mod stretches;
 
-ghost use Rattle.std.specs.Prelude.{◌≡◌, ℕ, length, map, slice_index, IfOk, OnOk, Vec};
+ghost use Rattle.std.specs.Prelude.{◌≡◌, ◌<◌, ◌↔◌, ℕ, length, map, slice_index, IfOk, IsTrue, OnOk, Vec};
 ghost use Rattle.std.specs.Global.{Global};
 ghost use Rattle.std.specs.List.{Contains};
 ghost use Rattle.std.specs.Option.{option_to_list};
 ghost use Rattle.lalrpop_dfa.specs.Dfa.{IsWellFormed};
 ghost use Rattle.lalrpop_verdicts.specs.Answers.{accepted_by};
 ghost use Rattle.lalrpop_verdicts.specs.Internal.Classes.{AreAlikeClasses, AreClassesOf, AreWithin, answer_row, leads_row};
-ghost use Rattle.lalrpop_verdicts.specs.Internal.Rounds.{IsRound};
+ghost use Rattle.lalrpop_verdicts.specs.Internal.Rounds.{AreOwnRows, IsNextClass, IsRound};
 ghost use Rattle.lalrpop_verdicts.specs.Internal.StateWalks.{AreAllLeads};
 
 use crate::answer::accepted_by;
@@ -23,6 +23,7 @@ use longest::longest_lengths;
 use shortest::shortest_lengths;
 use split::split;
 use std::alloc::{AllocError, Global};
+use std::collections::HashMap;
 use stretches::{leads, stretches};
 
 // The pattern that a state of this kind accepts, alone in a list, if there is one.
@@ -59,17 +60,66 @@ fn row_of(alloc: Global, targets: &[usize], classes: &[usize]) -> Result<Vec<usi
     Ok(row)
 }
 
+// Whether two states lead into the same classes. `one` and `other` are where they lead.
+fn lead_alike(classes: &[usize], one: &[usize], other: &[usize]) -> bool
+    requires one { AreWithin one.now (length classes.now) }
+    requires other { AreWithin other.now (length classes.now) }
+    ensures { IsTrue result ↔ (map (slice_index classes.now) one.now
+        ≡ map (slice_index classes.now) other.now) }
+{
+    if one.len() != other.len() {
+        return false;
+    }
+    for place in 0..one.len() {
+        if classes[one[place]] != classes[other[place]] {
+            return false;
+        }
+    }
+    true
+}
+
+// The class of a state after a round. Most often the state stays with the first one of its class, and nothing is looked up; the
+// map holds the first states of those that part from it.
+fn next_class(
+    alloc: Global,
+    moved: &mut HashMap<Vec<usize>, usize>,
+    table: &[Vec<usize>],
+    classes: &[usize],
+    state: usize,
+) -> Result<usize, AllocError>
+    requires own { AreOwnRows (map (leads_row classes.now) table.now) classes.now }
+    requires within { (v : Vec ℕ Global) → Contains table.now v
+        → AreWithin v.items (length classes.now) }
+    requires state { state < length table.now }
+    ensures { IfOk result (λ found. IsNextClass (map (leads_row classes.now) table.now)
+        (slice_index classes.now state) state found moved.old moved.new) }
+{
+    let first = classes[state];
+    if first == state || lead_alike(classes, &table[first], &table[state]) {
+        return Ok(first);
+    }
+    let row = row_of(alloc, &table[state], classes)?;
+    if let Some(found) = moved.get(&row) {
+        return Ok(*found);
+    }
+    moved.insert(row, state)?;
+    Ok(state)
+}
+
 // States that are in one class, and lead by each value to states in one class, stay in one class.
 fn round(alloc: Global, table: &[Vec<usize>], classes: &[usize]) -> Result<Vec<usize>, AllocError>
-    requires { (v : Vec ℕ Global) → Contains table.now v → AreWithin v.items (length classes.now) }
+    requires own { AreOwnRows (map (leads_row classes.now) table.now) classes.now }
+    requires within { (v : Vec ℕ Global) → Contains table.now v
+        → AreWithin v.items (length classes.now) }
     ensures { IfOk result (λ found. AreClassesOf
         (map (leads_row classes.now) table.now) found.items) }
 {
-    let mut next = FirstEqual::with_capacity(alloc, table.len())?;
-    for targets in table {
-        next.push(row_of(alloc, targets, classes)?)?;
+    let mut moved = HashMap::new(alloc);
+    let mut next = Vec::with_capacity(alloc, table.len())?;
+    for state in 0..table.len() {
+        next.push(next_class(alloc, &mut moved, table, classes, state)?)?;
     }
-    Ok(next.into_places())
+    Ok(next)
 }
 
 /// For each state the state itself, and each state that a value leads to from it.

@@ -1,14 +1,21 @@
 use Rattle.std.proofs.Common.{◌≡◌, List, ℕ, ◌∙◌, ap, length, map, subst, sym}
 use Rattle.lalrpop_verdicts.specs.Internal.Classes.{AreClassesOf, AreWithin, leads_row}
-use Rattle.lalrpop_verdicts.proofs.RoundLaws.{last_round, leads_within, next_round, room_shrinks}
+use Rattle.lalrpop_verdicts.specs.Internal.Rounds.{AreOwnRows}
+use Rattle.lalrpop_verdicts.proofs.RoundLaws.{last_round, leads_within, next_round, own_rows, room_shrinks}
 use Rattle.lalrpop_dfa.proofs.Totals.{told_apart, told_same}
 use Rattle.lalrpop_verdicts.proofs.classes.classes_by.Goals as goal
 
 pub loop-classes-init : goal.loop-classes-init
 loop-classes-init c = c.in_ok-classes.ensures
 
-pub round-requires : goal.round-requires
-round-requires c =
+pub round-requires-clause-own : goal.round-requires-clause-own
+round-requires-clause-own c =
+    let table = c.args.table.now in
+    let own = own_rows c.args.dfa.now c.requires.leads.values table c.loop-classes.classes.items c.requires.leads.leads c.loop-classes.invariant in
+    subst (λ (cs : List ℕ). AreOwnRows (map (leads_row cs) table) cs) (sym c.deref.ensures.value) own
+
+pub round-requires-clause-within : goal.round-requires-clause-within
+round-requires-clause-within c =
     let d = c.args.dfa.now in
     let values = c.requires.leads.values in
     let tried = c.requires.leads.tried in

@@ -1,6 +1,7 @@
-use Rattle.std.proofs.Common.{map, take}
-use Rattle.lalrpop_verdicts.specs.Internal.Classes.{AreFirsts, leads_row}
+use Rattle.std.proofs.Common.{map}
+use Rattle.lalrpop_verdicts.specs.Internal.Classes.{leads_row}
+use Rattle.lalrpop_verdicts.proofs.NextClasses.{AreNextClasses}
 use Rattle.lalrpop_verdicts.proofs.classes.round.Given as goal
 
-abbrev pub invariant-loop-targets : goal.invariant-loop-targets
-invariant-loop-targets l = AreFirsts (map (leads_row l.classes) (take l.targets-index l.table)) l.next.known l.next.places.items
+abbrev pub invariant-loop-state : goal.invariant-loop-state
+invariant-loop-state l = AreNextClasses (map (leads_row l.classes) l.table) l.classes l.state l.moved l.next.items
