@@ -14,7 +14,7 @@ use Rattle.lalrpop_emit.specs.Internal.AheadRows.{IsRowOf, IsClosed, IsStepAt, I
 
 -- ---- rows and standings
 
-standing_of : (a : AheadNumbers) (t : TableNumbers) (h : IsAheadOf a t) (row : ℕ) → IsRowOf a row → (s : Standing) × StandsFor a h.standings row s
+pub standing_of : (a : AheadNumbers) (t : TableNumbers) (h : IsAheadOf a t) (row : ℕ) → IsRowOf a row → (s : Standing) × StandsFor a h.standings row s
 standing_of a t h row (k, is, in_cells) =
     let small : k * (a.width + 1) < length h.standings * (a.width + 1) = omega (arith, is, in_cells, h.size) in
     let within : k < length h.standings = lt_of_mul-lt-mul_right (a.width + 1) small in

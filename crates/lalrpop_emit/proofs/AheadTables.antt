@@ -1,10 +1,10 @@
 -- The numbers of a table that runs ahead, page by page and row by row.
-use Rattle.std.proofs.Common.{◌≡◌, ℕ, ◌+◌, ◌*◌, ◌-◌, ◌/◌, ◌%◌, ◌<◌, ◌≤◌, List, Some, length, slice_index, subst, sym, ap, ◌∙◌, arith, ⊎_elim}
-use Rattle.std.specs.Prelude.{slice_get, min, max}
+use Rattle.std.proofs.Common.{◌≡◌, ℕ, zero, suc, inl, inr, ◌+◌, ◌*◌, ◌-◌, ◌/◌, ◌%◌, ◌<◌, ◌≤◌, List, Some, length, slice_index, subst, sym, ap, ◌∙◌, arith, ⊎_elim}
+use Rattle.std.specs.Prelude.{slice_get, min, max, IsTrue}
 use Rattle.std.proofs.lemmas.Bool.{cases_lt}
 use Rattle.lalrpop_dense.specs.DenseTable.{TableNumbers, block_of_page, character_class}
-use Rattle.lalrpop_emit.specs.Ahead.{AheadNumbers, Begin, IsAheadOf, Standing, StandsFor, within_column}
-use Rattle.lalrpop_emit.specs.Internal.Lists.{IsRightRow}
+use Rattle.lalrpop_emit.specs.Ahead.{AheadNumbers, Begin, CanWait, IsAheadOf, IsCounted, Standing, StandsFor, by_column, is_waiting, within_column}
+use Rattle.lalrpop_emit.specs.Internal.Lists.{IsRightRow, patience_in}
 
 -- ---- pages
 
@@ -63,26 +63,54 @@ few_beyond t width columns below c low high = omega (arith, columns, below c low
 
 -- ---- rows
 
-right_row : (a : AheadNumbers) (t : TableNumbers) (standings : List Standing)
-    → ((k : ℕ) (s : Standing) → slice_get standings k ≡ Some s → IsRightRow a t standings (k * (a.width + 1)) s)
-    → (row : ℕ) (s : Standing) → StandsFor a standings row s → IsRightRow a t standings row s
-right_row a t standings rows row s (k, at, place) = subst (λ (r : ℕ). IsRightRow a t standings r s) (sym place) (rows k s at)
+module _ (a : AheadNumbers) (t : TableNumbers) (standings : List Standing) (patience : List ℕ) (columns : 130 ≤ a.width)
+    (rows : (k : ℕ) (s : Standing) → slice_get standings k ≡ Some s → IsRightRow a t standings patience (k * (a.width + 1)) s) where
+  right_row : (row : ℕ) (s : Standing) → StandsFor a standings row s → IsRightRow a t standings patience row s
+  right_row row s (k, at, place) = subst (λ (r : ℕ). IsRightRow a t standings patience r s) (sym place) (rows k s at)
 
--- if the row of each standing is right, the numbers are those of the table
-pub ahead_by_rows : (a : AheadNumbers) (t : TableNumbers) (standings : List Standing) → 130 ≤ a.width
-    → ((c : ℕ) → 128 ≤ c → c < 1114112 → 128 + character_class t c < within_column a.width) → length a.cells ≡ length standings * (a.width + 1)
-    → StandsFor a standings a.start Begin
-    → ((k : ℕ) (s : Standing) → slice_get standings k ≡ Some s → IsRightRow a t standings (k * (a.width + 1)) s)
-    → IsAheadOf a t
-ahead_by_rows a t standings columns beyond size begins rows = record {
-  standings = standings;
-  columns = columns;
-  beyond = beyond;
-  size = size;
-  begins = begins;
-  leads = λ row s h. (right_row a t standings rows row s h).leads;
-  rules = λ row s h. (right_row a t standings rows row s h).rule;
-  told = λ row s h. (right_row a t standings rows row s h).told;
-  ends = λ row s h. (right_row a t standings rows row s h).ends;
-  lost = λ row s h. (right_row a t standings rows row s h).lost;
-}
+  abbrev patience_of : Standing → ℕ
+  patience_of s = patience_in patience (t.width + 1) s
+
+  -- a row that isn't counted can't wait for longer than the list says
+  waits_less : (n row : ℕ) (s : Standing) → StandsFor a standings row s → ¬ IsCounted a row → IsTrue (is_waiting t s) → CanWait t a.width n s → n ≤ patience_of s
+  waits_less zero row s here short waits can = omega arith
+  waits_less (suc n) row s here short waits (column, (few, (next_waits, can))) =
+      let right = right_row row s here in
+      let next = by_column t a.width s column in
+      let there = right.leads column (omega (arith, few, columns)) in
+      let less = right.counted.fewer short waits column few next_waits in
+      let own = right.counted.short short waits in
+      let next_short : ¬ IsCounted a (slice_index a.cells (row + column)) =
+      λ counted. (let long = ((right_row (slice_index a.cells (row + column)) next there).counted.counted counted).1 in omega (arith, long, less, own)) in
+      omega (arith, less, waits_less n (slice_index a.cells (row + column)) next there next_short next_waits can)
+
+  -- so one that can for long is counted
+  long_counted : (row : ℕ) (s : Standing) → StandsFor a standings row s → IsTrue (is_waiting t s) → CanWait t a.width 16 s → IsCounted a row
+  long_counted row s here waits can = elim (cases_lt 0 row) [
+    | inl some ↦ elim (cases_lt (a.waiting * (a.width + 1)) row) [
+      | inl past ↦ absurd (none (λ counted. omega (arith, counted.1, past)))
+      | inr within ↦ (some, within)
+    ]
+    | inr first ↦ absurd (none (λ counted. omega (arith, counted.0, first)))
+  ]
+    where
+      none : ¬ IsCounted a row → ⊥
+      none short = omega (arith, waits_less 16 row s here short waits can, (right_row row s here).counted.short short waits)
+
+  -- if the row of each standing is right, the numbers are those of the table
+  pub ahead_by_rows : ((c : ℕ) → 128 ≤ c → c < 1114112 → 128 + character_class t c < within_column a.width) → length a.cells ≡ length standings * (a.width + 1)
+      → StandsFor a standings a.start Begin → IsAheadOf a t
+  ahead_by_rows beyond size begins = record {
+    standings = standings;
+    columns = columns;
+    beyond = beyond;
+    size = size;
+    begins = begins;
+    leads = λ row s h. (right_row row s h).leads;
+    rules = λ row s h. (right_row row s h).rule;
+    told = λ row s h. (right_row row s h).told;
+    ends = λ row s h. (right_row row s h).ends;
+    lost = λ row s h. (right_row row s h).lost;
+    waits = λ row s h counted. ((right_row row s h).counted.counted counted).0;
+    long = long_counted;
+  }

@@ -38,9 +38,11 @@ pub mod Found
 pub mod AheadLists
 pub mod Steps
 pub mod StepWalks
+pub mod WaitingRows
 pub mod Memos
 pub mod MemoCosts
 pub mod ModeMemos
+pub mod CutBegins
 pub mod Steady
 pub mod Told
 pub mod RowLists

@@ -1,21 +1,21 @@
 -- What is noted of a text, one bit more at a time.
-use Rattle.std.proofs.Common.{◌≡◌, ℕ, zero, suc, ◌+◌, ◌*◌, ◌/◌, ◌%◌, ◌^◌, ◌<◌, ◌≤◌, ◌⊎◌, inl, inr, List, length, get_or, set, refl, sym, ap, subst, ◌∙◌, arith}
-use Rattle.std.specs.Prelude.{slice_index, bit_or, true, false}
+use Rattle.std.proofs.Common.{◌≡◌, ℕ, zero, suc, ◌+◌, ◌-◌, ◌*◌, ◌/◌, ◌%◌, ◌^◌, ◌<◌, ◌≤◌, ◌⊎◌, inl, inr, List, length, get_or, set, refl, sym, ap, subst, ◌∙◌, arith}
+use Rattle.std.specs.Prelude.{slice_index, bit_or}
 use Rattle.std.specs.Char.{encode_utf8}
 use Rattle.std.specs.Int.{bit_at}
-use Rattle.std.proofs.lemmas.Bool.{cases_lt, cases_eq}
+use Rattle.std.proofs.lemmas.Bool.{cases_lt, cases_eq, cond-false, le-ltb}
 use Rattle.std.proofs.lemmas.List.{get_or-set_same, get_or-set_other}
 use Rattle.std.proofs.lemmas.List.Sums.{sum_by-le, sum_by-set}
-use Rattle.std.proofs.Math.Nat.{lt-div-mul-add, mul-le-mul_right}
+use Rattle.std.proofs.Math.Nat.{div-mul-le_self, lt-div-mul-add, lt_of_mul-lt-mul_right, mul-le-mul_right}
 use Rattle.std.proofs.lemmas.Nat.{div-mul-add, one_shl}
 use Rattle.std.proofs.lemmas.Nat.Bits.{bit_at_or, bit_at-lt, bit_at-pow_other, bit_at-pow_same}
 use Rattle.std.proofs.lemmas.Str.{encode_ascii}
 use Rattle.lalrpop_dense.specs.DenseTable.{TableNumbers}
-use Rattle.lalrpop_emit.specs.Ahead.{AheadNumbers, IsAheadOf}
-use Rattle.lalrpop_emit.specs.Ahead.Standing.{Begin}
+use Rattle.lalrpop_emit.specs.Ahead.{AheadNumbers}
 use Rattle.lalrpop_emit.specs.Internal.AheadRows.{IsRowOf}
 use Rattle.lalrpop_emit.specs.Internal.Characters.{IsCharacterAt}
-use Rattle.lalrpop_emit.specs.Internal.Memo.{IsPassed, IsNoted, IsMemoFor, IsRoomy, NothingFrom, memo_word, noted_count, set_below, set_bits}
+use Rattle.lalrpop_emit.specs.Internal.Memo.{IsPassed, IsNoted, IsMemoFor, IsRoomy, IsWaitingRow, NothingFrom, memo_word, noted_count, set_below, set_bits}
+use Rattle.lalrpop_emit.specs.NumberedRules.{row_words}
 use Rattle.lalrpop_emit.proofs.CharacterBytes.{bytes_at, encode_two, encode_three, encode_four, none_first}
 use Rattle.lalrpop_emit.proofs.Steps.{same_character, character_fits}
 use Rattle.lalrpop_emit.proofs.Walks.{character_size}
@@ -69,18 +69,35 @@ same_parts x y z u w small small2 e =
     let first : x ≡ z = sym (div-mul-add x w y small) ∙ ap (λ (n : ℕ). n / w) e ∙ div-mul-add z w u small2 in
     (first, omega (arith, e, ap (λ (n : ℕ). n * w) first))
 
+less_by_product : (k rows w : ℕ) → k * w + w ≤ rows → 0 < w → k < rows / w
+less_by_product k rows w fits some = elim (cases_lt k (rows / w)) [
+  | inl less ↦ less
+  | inr more ↦
+      let low : rows / w * w ≤ k * w = mul-le-mul_right w more in
+      absurd (omega (arith, low, fits, lt-div-mul-add {a = rows} {b = w} some))
+]
+
 row_by_number : (a : AheadNumbers) (row : ℕ) → IsRowOf a row → row ≡ row / (a.width + 1) * (a.width + 1)
 row_by_number a row (k, is, within) =
     let number : row / (a.width + 1) ≡ k = ap (λ (n : ℕ). n / (a.width + 1)) (omega (arith, is)) ∙ div-mul-add k (a.width + 1) 0 (omega arith) in
     is ∙ ap (λ (n : ℕ). n * (a.width + 1)) (sym number)
 
-same_place : (a : AheadNumbers) (text : List ℕ) (row at row2 at2 : ℕ) → IsRowOf a row → IsRowOf a row2 → IsPassed text at → IsPassed text at2
+pub row_above : (a : AheadNumbers) (row : ℕ) → IsRowOf a row → 0 < row → a.width < row
+row_above a row (zero, is, within) some = absurd (omega (arith, is, some))
+row_above a row (suc k, is, within) some = omega (arith, is)
+
+-- only the first row has the number 0
+pub number_above : (width row : ℕ) → width < row → 0 < row / (width + 1)
+number_above width row above = less_by_product 0 row (width + 1) (omega (arith, above)) (omega arith)
+
+same_place : (a : AheadNumbers) (text : List ℕ) (row at row2 at2 : ℕ) → IsRowOf a row → 0 < row → IsRowOf a row2 → 0 < row2 → IsPassed text at → IsPassed text at2
     → memo_word a (length text) row at ≡ memo_word a (length text) row2 at2 → at / 64 % 64 ≡ at2 / 64 % 64 → (row ≡ row2) × (at ≡ at2)
-same_place a text row at row2 at2 is is2 p p2 word bit =
+same_place a text row at row2 at2 is some is2 some2 p p2 word bit =
     let fits = character_fits text p.before p.character p.here in
     let fits2 = character_fits text p2.before p2.character p2.here in
-    let parts = same_parts (row / (a.width + 1)) (at / 4096) (row2 / (a.width + 1)) (at2 / 4096) (length text / 4096 + 1) (omega (arith, fits, p.place)) (omega (arith, fits2, p2.place)) word in (
-      row_by_number a row is ∙ ap (λ (n : ℕ). n * (a.width + 1)) parts.0 ∙ sym (row_by_number a row2 is2),
+    let parts = same_parts (row / (a.width + 1) - 1) (at / 4096) (row2 / (a.width + 1) - 1) (at2 / 4096) (length text / 4096 + 1) (omega (arith, fits, p.place)) (omega (arith, fits2, p2.place)) word in
+    let number : row / (a.width + 1) ≡ row2 / (a.width + 1) = omega (arith, parts.0, number_above a.width row (row_above a row is some), number_above a.width row2 (row_above a row2 is2 some2)) in (
+      row_by_number a row is ∙ ap (λ (n : ℕ). n * (a.width + 1)) number ∙ sym (row_by_number a row2 is2),
       passed_same text at at2 p p2 (omega (arith, parts.1, bit)),
     )
 
@@ -93,10 +110,10 @@ set_bit old k i small is = elim (cases_eq i k) [
       inl (omega (arith, is, bit_at_or old (1 * 2 ^ k % 2 ^ 64) i, ap (λ (n : ℕ). bit_at n i) one, bit_at-pow_other k i other))
 ]
 
-pub memo_more : (a : AheadNumbers) (t : TableNumbers) (text memo : List ℕ) (row at word : ℕ) → IsRowOf a row → IsPassed text at → NothingFrom a t text row at → IsMemoFor a t text memo
+pub memo_more : (a : AheadNumbers) (t : TableNumbers) (text memo : List ℕ) (row at word : ℕ) → IsRowOf a row → 0 < row → IsPassed text at → NothingFrom a t text row at → IsMemoFor a t text memo
     → word ≡ memo_word a (length text) row at → word < length memo
     → IsMemoFor a t text (set memo word (bit_or (get_or memo word 0) (1 * 2 ^ (at / 64 % 64) % 2 ^ 64)))
-memo_more a t text memo row at word is p nothing right word_is within row2 at2 is2 p2 noted =
+memo_more a t text memo row at word is some p nothing right word_is within row2 at2 is2 some2 p2 noted =
     let bits = bit_or (get_or memo word 0) (1 * 2 ^ (at / 64 % 64) % 2 ^ 64) in
     let word2 = memo_word a (length text) row2 at2 in
     elim (cases_eq word2 word) [
@@ -104,25 +121,25 @@ memo_more a t text memo row at word is p nothing right word_is within row2 at2 i
           let there : bit_at bits (at2 / 64 % 64) ≡ 1 =
           ap (λ (n : ℕ). bit_at n (at2 / 64 % 64)) (sym (get_or-set_same memo word bits 0 within) ∙ ap (slice_index (set memo word bits)) (sym same)) ∙ noted in
           elim (set_bit (get_or memo word 0) (at / 64 % 64) (at2 / 64 % 64) (omega arith) there) [
-            | inl old ↦ right row2 at2 is2 p2 (ap (λ (n : ℕ). bit_at (slice_index memo n) (at2 / 64 % 64)) same ∙ old)
+            | inl old ↦ right row2 at2 is2 some2 p2 (ap (λ (n : ℕ). bit_at (slice_index memo n) (at2 / 64 % 64)) same ∙ old)
             | inr bit ↦
-                let place = same_place a text row at row2 at2 is is2 p p2 (sym word_is ∙ sym same) (sym bit) in
+                let place = same_place a text row at row2 at2 is some is2 some2 p p2 (sym word_is ∙ sym same) (sym bit) in
                 subst (λ (r : ℕ). NothingFrom a t text r at2) place.0 (subst (NothingFrom a t text row) place.1 nothing)
           ]
-      | inr other ↦ right row2 at2 is2 p2 (ap (λ (n : ℕ). bit_at n (at2 / 64 % 64)) (sym (get_or-set_other memo word word2 bits 0 other)) ∙ noted)
+      | inr other ↦ right row2 at2 is2 some2 p2 (ap (λ (n : ℕ). bit_at n (at2 / 64 % 64)) (sym (get_or-set_other memo word word2 bits 0 other)) ∙ noted)
     ]
 
 -- ---- what is set by one bit more
 
-module _ (a : AheadNumbers) (text memo : List ℕ) (row at word : ℕ) (is : IsRowOf a row) (p : IsPassed text at) (word_is : word ≡ memo_word a (length text) row at) (within : word < length memo) where
+module _ (a : AheadNumbers) (text memo : List ℕ) (row at word : ℕ) (is : IsRowOf a row) (some : 0 < row) (p : IsPassed text at) (word_is : word ≡ memo_word a (length text) row at) (within : word < length memo) where
   abbrev old_word : ℕ
   old_word = get_or memo word 0
 
   abbrev new_word : ℕ
   new_word = bit_or old_word (1 * 2 ^ (at / 64 % 64) % 2 ^ 64)
 
-  pub noted_others : (row2 at2 : ℕ) → IsRowOf a row2 → IsPassed text at2 → IsNoted (set memo word new_word) a (length text) row2 at2 → IsNoted memo a (length text) row2 at2 ⊎ (at2 ≡ at)
-  noted_others row2 at2 is2 p2 noted =
+  pub noted_others : (row2 at2 : ℕ) → IsRowOf a row2 → 0 < row2 → IsPassed text at2 → IsNoted (set memo word new_word) a (length text) row2 at2 → IsNoted memo a (length text) row2 at2 ⊎ (at2 ≡ at)
+  noted_others row2 at2 is2 some2 p2 noted =
       let word2 = memo_word a (length text) row2 at2 in
       elim (cases_eq word2 word) [
         | inl same ↦
@@ -130,7 +147,7 @@ module _ (a : AheadNumbers) (text memo : List ℕ) (row at word : ℕ) (is : IsR
             ap (λ (n : ℕ). bit_at n (at2 / 64 % 64)) (sym (get_or-set_same memo word new_word 0 within) ∙ ap (slice_index (set memo word new_word)) (sym same)) ∙ noted in
             elim (set_bit old_word (at / 64 % 64) (at2 / 64 % 64) (omega arith) there) [
               | inl old ↦ inl (ap (λ (n : ℕ). bit_at (slice_index memo n) (at2 / 64 % 64)) same ∙ old)
-              | inr bit ↦ inr (sym (same_place a text row at row2 at2 is is2 p p2 (sym word_is ∙ sym same) (sym bit)).1)
+              | inr bit ↦ inr (sym (same_place a text row at row2 at2 is some is2 some2 p p2 (sym word_is ∙ sym same) (sym bit)).1)
             ]
         | inr other ↦ inl (ap (λ (n : ℕ). bit_at n (at2 / 64 % 64)) (sym (get_or-set_other memo word word2 new_word 0 other)) ∙ noted)
       ]
@@ -173,12 +190,12 @@ set_bits_one : (old k : ℕ) → k < 64 → bit_at old k ≡ 0 → set_bits (bit
 unfolding set_bits
 set_bits_one old k small clear = one_above old k 64 small clear small
 
-module _ (a : AheadNumbers) (text memo : List ℕ) (row at word : ℕ) (is : IsRowOf a row) (p : IsPassed text at) (word_is : word ≡ memo_word a (length text) row at) (within : word < length memo) where
+module _ (a : AheadNumbers) (text memo : List ℕ) (row at word : ℕ) (is : IsRowOf a row) (some : 0 < row) (p : IsPassed text at) (word_is : word ≡ memo_word a (length text) row at) (within : word < length memo) where
   abbrev more_noted : List ℕ
   more_noted = set memo word (bit_or (get_or memo word 0) (1 * 2 ^ (at / 64 % 64) % 2 ^ 64))
 
   pub count_more : noted_count memo ≤ noted_count more_noted
-  count_more = omega (arith, count_by_word a text memo row at word is p word_is within, set_bits_more (get_or memo word 0) (at / 64 % 64) (omega arith))
+  count_more = omega (arith, count_by_word a text memo row at word is some p word_is within, set_bits_more (get_or memo word 0) (at / 64 % 64) (omega arith))
 
   pub count_one : ¬ IsNoted memo a (length text) row at → noted_count more_noted ≡ noted_count memo + 1
   count_one clear =
@@ -189,37 +206,36 @@ module _ (a : AheadNumbers) (text memo : List ℕ) (row at word : ℕ) (is : IsR
         | inl set_is ↦ absurd (clear (sym same ∙ set_is))
         | inr other ↦ omega (arith, other, bit_at-lt (get_or memo word 0) (at / 64 % 64))
       ] in
-      omega (arith, count_by_word a text memo row at word is p word_is within, set_bits_one (get_or memo word 0) (at / 64 % 64) (omega arith) none)
+      omega (arith, count_by_word a text memo row at word is some p word_is within, set_bits_one (get_or memo word 0) (at / 64 % 64) (omega arith) none)
 
 -- ---- room
 
-less_by_product : (k rows w : ℕ) → k * w + w ≤ rows → 0 < w → k < rows / w
-less_by_product k rows w fits some = elim (cases_lt k (rows / w)) [
-  | inl less ↦ less
-  | inr more ↦
-      let low : rows / w * w ≤ k * w = mul-le-mul_right w more in
-      absurd (omega (arith, low, fits, lt-div-mul-add {a = rows} {b = w} some))
-]
+pub words_of_row : (size : ℕ) → 64 ≤ size → row_words size ≡ size / 4096 + 1
+words_of_row size large = cond-false _ 0 (size / 4096 + 1) (le-ltb size 64 large)
 
--- the row of an open token has words of its own
-pub row_has_room : (a : AheadNumbers) (size : ℕ) (memo : List ℕ) (row : ℕ) → IsRowOf a row → row < a.ends → IsRoomy a size memo
-    → row / (a.width + 1) < length memo / (size / 4096 + 1)
-row_has_room a size memo row (k, row_is, within) before roomy =
-    let number : row / (a.width + 1) ≡ k = ap (λ (n : ℕ). n / (a.width + 1)) (omega (arith, row_is)) ∙ div-mul-add k (a.width + 1) 0 (omega arith) in
-    let among : k < (a.ends + a.width) / (a.width + 1) = less_by_product k (a.ends + a.width) (a.width + 1) (omega (arith, row_is, before)) (omega arith) in
-    let words : (k + 1) * (size / 4096 + 1) ≤ (a.ends + a.width) / (a.width + 1) * (size / 4096 + 1) = mul-le-mul_right (size / 4096 + 1) (omega (arith, among)) in
-    let there : k < length memo / (size / 4096 + 1) = less_by_product k (length memo) (size / 4096 + 1) (omega (arith, words, roomy)) (omega arith) in
-    omega (arith, number, there)
+has_room : (number waiting each words : ℕ) → 0 < number → number ≤ waiting → 0 < each → waiting * each ≤ words → number - 1 < words / each
+has_room zero waiting each words some few least fits = absurd (omega (arith, some))
+has_room (suc k) waiting each words some few least fits =
+    let all : (k + 1) * each ≤ waiting * each = mul-le-mul_right each (omega (arith, few)) in
+    let below : k < words / each = less_by_product k words each (omega (arith, all, fits)) least in
+    omega (arith, below)
 
--- the row that a text begins in is one of these
-pub some_room : (a : AheadNumbers) (t : TableNumbers) (size : ℕ) (memo : List ℕ) → IsAheadOf a t → IsRoomy a size memo → 0 < length memo
-some_room a t size memo h roomy = elim (cases_lt a.start a.ends) [
-  | inl before ↦
-      let some : 1 ≤ (a.ends + a.width) / (a.width + 1) = less_by_product 0 (a.ends + a.width) (a.width + 1) (omega (arith, before)) (omega arith) in
-      let words : 1 * (size / 4096 + 1) ≤ (a.ends + a.width) / (a.width + 1) * (size / 4096 + 1) = mul-le-mul_right (size / 4096 + 1) some in
-      omega (arith, words, roomy)
-  | inr behind ↦ let ends : false ≡ true = (h.ends a.start Begin h.begins).1 behind in cc
-]
+-- a row that waits has words of its own
+pub row_has_room : (a : AheadNumbers) (size : ℕ) (memo : List ℕ) (row : ℕ) → 64 ≤ size → IsWaitingRow a row → IsRoomy a size memo
+    → row / (a.width + 1) - 1 < length memo / (size / 4096 + 1)
+row_has_room a size memo row large (is, (some, within)) roomy =
+    let number = row / (a.width + 1) in
+    let below : number * (a.width + 1) < (a.waiting + 1) * (a.width + 1) = omega (arith, within, row_by_number a row is) in
+    let few : number < a.waiting + 1 = lt_of_mul-lt-mul_right (a.width + 1) below in
+    let fits : a.waiting * (size / 4096 + 1) ≤ length memo = subst (λ (n : ℕ). a.waiting * n ≤ length memo) (words_of_row size large) roomy in
+    has_room number a.waiting (size / 4096 + 1) (length memo) (number_above a.width row (row_above a row is some)) (omega (arith, few)) (omega arith) fits
+
+-- so then the memo isn't empty
+pub some_room : (a : AheadNumbers) (size : ℕ) (memo : List ℕ) (row : ℕ) → 64 ≤ size → IsWaitingRow a row → IsRoomy a size memo → 0 < length memo
+some_room a size memo row large waits roomy =
+    let there = row_has_room a size memo row large waits roomy in
+    let all : 1 * (size / 4096 + 1) ≤ length memo / (size / 4096 + 1) * (size / 4096 + 1) = mul-le-mul_right (size / 4096 + 1) (omega (arith, there)) in
+    omega (arith, all, div-mul-le_self (length memo) (size / 4096 + 1))
 
 -- ---- no more bits than 64 for each word
 

@@ -1,5 +1,5 @@
 -- Runs of the mode on top, as the text is cut on.
-use Rattle.std.proofs.Common.{◌≡◌, ℕ, ◌-◌, ◌<◌, ◌≤◌, List, length, sym, subst, ◌∙◌, inr, arith, ⊎_elim}
+use Rattle.std.proofs.Common.{◌≡◌, ℕ, ◌-◌, ◌*◌, ◌<◌, ◌≤◌, List, length, sym, subst, ◌∙◌, inr, arith, ⊎_elim}
 use Rattle.std.specs.Prelude.{slice_get, Some}
 use Rattle.lalrpop_dense.specs.DenseTable.{TableNumbers}
 use Rattle.lalrpop_emit.specs.Ahead.{AheadNumbers}
@@ -20,10 +20,9 @@ of_mode n mode P a t at_a at_t h b u at_b at_u =
 -- only the bits have changed
 pub room_same : (old new : Run) → IsSameBlock old new → new.word ≡ old.word → HasRoom old → HasRoom new
 room_same old new same word h = record {
-  columns = subst (λ v. 6144 ≤ length v.items) (sym same.columns) h.columns;
-  rows = subst (λ v. 6144 ≤ length v.items) (sym same.rows) h.rows;
-  ends = subst (λ v. 96 ≤ length v.items) (sym same.ends) h.ends;
-  length = omega (arith, same.length, h.length);
+  columns = subst (λ v. length new.rows.items ≤ length v.items) (sym same.columns) (subst (λ v. length v.items ≤ length old.columns.items) (sym same.rows) h.columns);
+  ends = subst (λ v. length new.rows.items ≤ length v.items * 64) (sym same.ends) (subst (λ v. length v.items ≤ length old.ends.items * 64) (sym same.rows) h.ends);
+  length = subst (λ v. new.length ≤ length v.items) (sym same.rows) (omega (arith, same.length, h.length));
   word = omega (arith, word, same.length, h.word);
 }
 
@@ -42,7 +41,7 @@ module _ (n : NumberedRules) (at : ℕ) (text : List ℕ) where
   -- a later mode came on top
   pub before_since : (run : Run) (since : ℕ) → at ≤ since → IsRunBefore n at text run → IsRunBefore n since text (record run { since = since })
   before_since run since later h = record {
-    room = record { columns = h.room.columns; rows = h.room.rows; ends = h.room.ends; length = h.room.length; word = h.room.word };
+    room = record { columns = h.room.columns; ends = h.room.ends; length = h.room.length; word = h.room.word };
     behind = omega (arith, later, h.behind);
     since = omega arith;
     block = λ a t at_a at_t. block_since a t text run since (h.block a t at_a at_t);

@@ -220,14 +220,20 @@ read_ahead_arrays p k (a ∷ xs) (b ∷ bs) r s ha hb e =
     let rest = read_ahead_arrays p (k + 1) xs bs r s (All-tail IsStorableAhead a xs ha) (All-tail IsStorableAhead b bs hb) first.1 in
     ((first.0, rest.0), rest.1)
 
+abbrev before_text : AheadNumbers → List ℕ
+before_text a = decimal a.before ++ codes "},\n"
+
+abbrev waiting_text : AheadNumbers → List ℕ
+waiting_text a = decimal a.waiting ++ (field a.before ++ codes "},\n")
+
 abbrev ends_text : AheadNumbers → List ℕ
-ends_text a = decimal a.ends ++ codes "},\n"
+ends_text a = decimal a.ends ++ (field a.waiting ++ (field a.before ++ codes "},\n"))
 
 abbrev ahead_width_text : AheadNumbers → List ℕ
-ahead_width_text a = decimal a.width ++ (field a.ends ++ codes "},\n")
+ahead_width_text a = decimal a.width ++ (field a.ends ++ (field a.waiting ++ (field a.before ++ codes "},\n")))
 
 abbrev ahead_start_text : AheadNumbers → List ℕ
-ahead_start_text a = decimal a.start ++ (field a.width ++ (field a.ends ++ codes "},\n"))
+ahead_start_text a = decimal a.start ++ (field a.width ++ (field a.ends ++ (field a.waiting ++ (field a.before ++ codes "},\n"))))
 
 -- a number up to the comma after it
 read_field : (m n : ℕ) (r s : List ℕ) → m < 2 ^ 64 → n < 2 ^ 64 → decimal m ++ (44 ∷ 32 ∷ r) ≡ decimal n ++ (44 ∷ 32 ∷ s) → (m ≡ n) × (r ≡ s)
@@ -242,9 +248,13 @@ read_ahead_row p k a b r s same ha hb e =
     (peel (decimal a.start) (codes ", " ++ ahead_width_text a) (decimal b.start) (codes ", " ++ ahead_width_text b) r s (append_cancel_left (codes ", ") (ahead_start_text a ++ r) (ahead_start_text b ++ s) numbers)) in
     let width = read_field a.width b.width (ends_text a ++ r) (ends_text b ++ s) ha.width hb.width
     (peel (decimal a.width) (codes ", " ++ ends_text a) (decimal b.width) (codes ", " ++ ends_text b) r s start.1) in
-    let ends = read_decimal 125 a.ends b.ends (codes ",\n") r s refl ha.ends hb.ends
-    (peel (decimal a.ends) (codes "},\n") (decimal b.ends) (codes "},\n") r s width.1) in
-    (same_ahead a b start.0 width.0 ends.0 same, ends.1)
+    let ends = read_field a.ends b.ends (waiting_text a ++ r) (waiting_text b ++ s) ha.ends hb.ends
+    (peel (decimal a.ends) (codes ", " ++ waiting_text a) (decimal b.ends) (codes ", " ++ waiting_text b) r s width.1) in
+    let waiting = read_field a.waiting b.waiting (before_text a ++ r) (before_text b ++ s) (omega (arith, ha.waiting)) (omega (arith, hb.waiting))
+    (peel (decimal a.waiting) (codes ", " ++ before_text a) (decimal b.waiting) (codes ", " ++ before_text b) r s ends.1) in
+    let before = read_decimal 125 a.before b.before (codes ",\n") r s refl ha.before hb.before
+    (peel (decimal a.before) (codes "},\n") (decimal b.before) (codes "},\n") r s waiting.1) in
+    (same_ahead a b start.0 width.0 ends.0 waiting.0 before.0 same, before.1)
 
 read_ahead_rows : (p : List ℕ) (k : ℕ) (xs bs : List AheadNumbers) (r s : List ℕ) → HaveSameCells xs bs → All IsStorableAhead xs → All IsStorableAhead bs
     → ahead_rows p k xs ++ r ≡ ahead_rows p k bs ++ s → xs ≡ bs

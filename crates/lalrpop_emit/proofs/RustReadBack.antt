@@ -58,8 +58,14 @@ read_tables (t ∷ ts) (u ∷ us) r s ht hu e =
 abbrev ahead_cells_end : AheadNumbers → List ℕ
 ahead_cells_end a = list_field (codes "            cells") a.cells ++ codes "        },\n"
 
+abbrev before_end : AheadNumbers → List ℕ
+before_end a = number_field (codes "            before") a.before ++ ahead_cells_end a
+
+abbrev waiting_end : AheadNumbers → List ℕ
+waiting_end a = number_field (codes "            waiting") a.waiting ++ before_end a
+
 abbrev ends_end : AheadNumbers → List ℕ
-ends_end a = number_field (codes "            ends") a.ends ++ ahead_cells_end a
+ends_end a = number_field (codes "            ends") a.ends ++ waiting_end a
 
 abbrev ahead_width_end : AheadNumbers → List ℕ
 ahead_width_end a = number_field (codes "            width") a.width ++ ends_end a
@@ -76,12 +82,16 @@ read_ahead a b r s ha hb e =
     (append_cancel_left head _ _ (peel head (ahead_start_end a) head (ahead_start_end b) r s e))) in
     let width = read_number_field (codes "            width") a.width b.width (ends_end a ++ r) (ends_end b ++ s) ha.width hb.width
     (peel (number_field (codes "            width") a.width) (ends_end a) (number_field (codes "            width") b.width) (ends_end b) r s start.1) in
-    let ends = read_number_field (codes "            ends") a.ends b.ends (ahead_cells_end a ++ r) (ahead_cells_end b ++ s) ha.ends hb.ends
-    (peel (number_field (codes "            ends") a.ends) (ahead_cells_end a) (number_field (codes "            ends") b.ends) (ahead_cells_end b) r s width.1) in
+    let ends = read_number_field (codes "            ends") a.ends b.ends (waiting_end a ++ r) (waiting_end b ++ s) ha.ends hb.ends
+    (peel (number_field (codes "            ends") a.ends) (waiting_end a) (number_field (codes "            ends") b.ends) (waiting_end b) r s width.1) in
+    let waiting = read_number_field (codes "            waiting") a.waiting b.waiting (before_end a ++ r) (before_end b ++ s) (omega (arith, ha.waiting)) (omega (arith, hb.waiting))
+    (peel (number_field (codes "            waiting") a.waiting) (before_end a) (number_field (codes "            waiting") b.waiting) (before_end b) r s ends.1) in
+    let before = read_number_field (codes "            before") a.before b.before (ahead_cells_end a ++ r) (ahead_cells_end b ++ s) ha.before hb.before
+    (peel (number_field (codes "            before") a.before) (ahead_cells_end a) (number_field (codes "            before") b.before) (ahead_cells_end b) r s waiting.1) in
     let tail = codes "        },\n" in
     let cells = read_list_field (codes "            cells") a.cells b.cells (tail ++ r) (tail ++ s) (below 32 a.cells (lit< tt) ha.cells) (below 32 b.cells (lit< tt) hb.cells)
-    (peel (list_field (codes "            cells") a.cells) tail (list_field (codes "            cells") b.cells) tail r s ends.1) in
-    (same_ahead a b start.0 width.0 ends.0 cells.0, append_cancel_left tail r s cells.1)
+    (peel (list_field (codes "            cells") a.cells) tail (list_field (codes "            cells") b.cells) tail r s before.1) in
+    (same_ahead a b start.0 width.0 ends.0 waiting.0 before.0 cells.0, append_cancel_left tail r s cells.1)
 
 no_ahead : (a : AheadNumbers) (r s : List ℕ) → ahead_text a ++ r ≡ codes "    ]" ++ s → ⊥
 unfolding ahead_text

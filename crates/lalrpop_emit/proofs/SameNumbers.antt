@@ -68,9 +68,11 @@ same_pages (t ∷ ts) [] same = absurd same
 same_pages (t ∷ ts) (u ∷ us) same =
     ap (λ (x : List ℕ). x ∷ pages_of ts) same.0.pages ∙ ap (λ (xs : List (List ℕ)). u.pages ∷ xs) (same_pages ts us same.1)
 
-pub same_ahead : (a b : AheadNumbers) → a.start ≡ b.start → a.width ≡ b.width → a.ends ≡ b.ends → a.cells ≡ b.cells → a ≡ b
-same_ahead a b s w e c =
+pub same_ahead : (a b : AheadNumbers) → a.start ≡ b.start → a.width ≡ b.width → a.ends ≡ b.ends → a.waiting ≡ b.waiting → a.before ≡ b.before → a.cells ≡ b.cells → a ≡ b
+same_ahead a b s w e n f c =
     ap (λ (x : ℕ). record a { start = x }) s
     ∙ ap (λ (x : ℕ). record a { start = b.start; width = x }) w
     ∙ ap (λ (x : ℕ). record a { start = b.start; width = b.width; ends = x }) e
+    ∙ ap (λ (x : ℕ). record b { waiting = x; before = a.before; cells = a.cells }) n
+    ∙ ap (λ (x : ℕ). record b { before = x; cells = a.cells }) f
     ∙ ap (λ (x : List ℕ). record b { cells = x }) c

@@ -29,46 +29,51 @@ module _ (s : Shape) where
   agains_length = length-map-range_with_len (λ k. Again (live_row s k)) 0 s.live
 
   pub all_standings : length (standings_of s) ≡ 2 * s.live + 3
-  all_standings = omega (arith, length-append ins (Ended ∷ agains), ins_length, agains_length)
+  all_standings = omega (arith, length-append ins (Begin ∷ Ended ∷ agains), ins_length, agains_length)
 
-  later : (k : ℕ) → at (k + 2) ≡ get_or (ins ++ (Ended ∷ agains)) k Lost
-  later k = let two : k + 2 ≡ suc (suc k) = omega arith in ap at two
+  later : (k : ℕ) → at (k + 1) ≡ get_or (ins ++ (Begin ∷ Ended ∷ agains)) k Lost
+  later k = let one : k + 1 ≡ suc k = omega arith in ap at one
 
-  pub at_in : (k : ℕ) → k < s.live → at (k + 2) ≡ In (live_row s k)
+  -- those behind the live rows
+  behind : (k : ℕ) → at (k + s.live + 1) ≡ get_or (Begin ∷ Ended ∷ agains) k Lost
+  behind k =
+      let rest : k + s.live - s.live ≡ k = omega arith in
+      later (k + s.live) ∙ get_or-append_right ins (Begin ∷ Ended ∷ agains) s.live (k + s.live) Lost ins_length (omega arith)
+      ∙ ap (λ (n : ℕ). get_or (Begin ∷ Ended ∷ agains) n Lost) rest
+
+  pub at_in : (k : ℕ) → k < s.live → at (k + 1) ≡ In (live_row s k)
   at_in k l =
-      later k ∙ get_or_append_left ins (Ended ∷ agains) Lost k (omega (arith, ins_length, l))
+      later k ∙ get_or_append_left ins (Begin ∷ Ended ∷ agains) Lost k (omega (arith, ins_length, l))
       ∙ get_or-map-range_with_len (λ k. In (live_row s k)) 0 s.live k k Lost l (omega arith)
 
+  pub at_begin : at (s.live + 1) ≡ Begin
+  at_begin = let place : s.live + 1 ≡ 0 + s.live + 1 = omega arith in ap at place ∙ behind 0
+
   pub at_ended : at (s.live + 2) ≡ Ended
-  at_ended =
-      let none : s.live - s.live ≡ 0 = omega arith in
-      later s.live ∙ get_or-append_right ins (Ended ∷ agains) s.live s.live Lost ins_length (omega arith) ∙ ap (λ (n : ℕ). get_or (Ended ∷ agains) n Lost) none
+  at_ended = let place : s.live + 2 ≡ 1 + s.live + 1 = omega arith in ap at place ∙ behind 1
 
   pub at_again : (k : ℕ) → k < s.live → at (k + s.live + 3) ≡ Again (live_row s k)
   at_again k l =
-      let place : k + s.live + 3 ≡ k + s.live + 1 + 2 = omega arith in
-      let one : k + s.live + 1 - s.live ≡ suc k = omega arith in
-      ap at place ∙ later (k + s.live + 1) ∙ get_or-append_right ins (Ended ∷ agains) s.live (k + s.live + 1) Lost ins_length (omega arith)
-      ∙ ap (λ (n : ℕ). get_or (Ended ∷ agains) n Lost) one
-      ∙ get_or-map-range_with_len (λ k. Again (live_row s k)) 0 s.live k k Lost l (omega arith)
+      let place : k + s.live + 3 ≡ suc (suc k) + s.live + 1 = omega arith in
+      ap at place ∙ behind (suc (suc k)) ∙ get_or-map-range_with_len (λ k. Again (live_row s k)) 0 s.live k k Lost l (omega arith)
 
   -- each place is one of these
   pub data Place (k : ℕ) : Type 0 where
     lost : k ≡ 0 → Place k
-    begin : k ≡ 1 → Place k
-    inside : (j : ℕ) → j < s.live → k ≡ j + 2 → Place k
+    inside : (j : ℕ) → j < s.live → k ≡ j + 1 → Place k
+    begin : k ≡ s.live + 1 → Place k
     ended : k ≡ s.live + 2 → Place k
     again : (j : ℕ) → j < s.live → k ≡ j + s.live + 3 → Place k
 
   pub place_cases : (k : ℕ) → k < 2 * s.live + 3 → Place k
   place_cases k l = elim (cases_lt k 1) [
     | inl zero ↦ lost (omega (arith, zero))
-    | inr some ↦ elim (cases_lt k 2) [
-      | inl one ↦ begin (omega (arith, some, one))
-      | inr two ↦ elim (cases_lt k (s.live + 2)) [
-        | inl less ↦ inside (k - 2) (omega (arith, less, two)) (omega (arith, two))
-        | inr past ↦ elim (cases_lt k (s.live + 3)) [
-          | inl end ↦ ended (omega (arith, end, past))
+    | inr some ↦ elim (cases_lt k (s.live + 1)) [
+      | inl less ↦ inside (k - 1) (omega (arith, less, some)) (omega (arith, some))
+      | inr past ↦ elim (cases_lt k (s.live + 2)) [
+        | inl first ↦ begin (omega (arith, first, past))
+        | inr beyond ↦ elim (cases_lt k (s.live + 3)) [
+          | inl end ↦ ended (omega (arith, end, beyond))
           | inr more ↦ again (k - s.live - 3) (omega (arith, more, l)) (omega (arith, more))
         ]
       ]
@@ -81,11 +86,11 @@ module _ (s : Shape) where
   -- a standing stands at its place
   pub at_place : (x : Standing) → 0 < s.stride → IsAmong s x → (place_in s x < 2 * s.live + 3) × (at (place_in s x) ≡ x)
   at_place Lost some h = (omega arith, refl)
-  at_place Begin some h = (omega arith, refl)
+  at_place Begin some h = (omega arith, at_begin)
   at_place Ended some h = (omega arith, at_ended)
   at_place (In row) some (k, l, is) =
       let number : row / s.stride - s.dead ≡ k = omega (arith, ap (λ (n : ℕ). n / s.stride) is, live_number k some) in
-      (omega (arith, number, l), ap (λ (n : ℕ). at (n + 2)) number ∙ at_in k l ∙ ap In (sym is))
+      (omega (arith, number, l), ap (λ (n : ℕ). at (n + 1)) number ∙ at_in k l ∙ ap In (sym is))
   at_place (Again row) some (k, l, is) =
       let number : row / s.stride - s.dead ≡ k = omega (arith, ap (λ (n : ℕ). n / s.stride) is, live_number k some) in
       (omega (arith, number, l), ap (λ (n : ℕ). at (n + s.live + 3)) number ∙ at_again k l ∙ ap Again (sym is))
@@ -93,8 +98,8 @@ module _ (s : Shape) where
   pub among_at : (k : ℕ) → k < 2 * s.live + 3 → IsAmong s (at k)
   among_at k l = elim (place_cases k l) [
     | lost is ↦ subst (λ (n : ℕ). IsAmong s (at n)) (sym is) tt
-    | begin is ↦ subst (λ (n : ℕ). IsAmong s (at n)) (sym is) tt
     | inside j small is ↦ subst (λ (n : ℕ). IsAmong s (at n)) (sym is) (subst (IsAmong s) (sym (at_in j small)) (j, small, refl))
+    | begin is ↦ subst (λ (n : ℕ). IsAmong s (at n)) (sym is) (subst (IsAmong s) (sym at_begin) tt)
     | ended is ↦ subst (λ (n : ℕ). IsAmong s (at n)) (sym is) (subst (IsAmong s) (sym at_ended) tt)
     | again j small is ↦ subst (λ (n : ℕ). IsAmong s (at n)) (sym is) (subst (IsAmong s) (sym (at_again j small)) (j, small, refl))
   ]

@@ -7,7 +7,7 @@ use Rattle.std.proofs.lemmas.Bool.Decides.{nat_tests}
 use Rattle.std.proofs.lemmas.List.{get_or_read}
 use Rattle.std.proofs.lemmas.Str.{encode_same}
 use Rattle.lalrpop_dense.specs.DenseTable.{TableNumbers, character_class}
-use Rattle.lalrpop_emit.specs.Ahead.{AheadNumbers, IsAheadOf, character_column, no_rule}
+use Rattle.lalrpop_emit.specs.Ahead.{AheadNumbers, IsAheadOf, character_column, no_rule, within_column}
 use Rattle.lalrpop_emit.specs.Internal.AheadRows.{IsRowOf}
 use Rattle.lalrpop_emit.specs.Internal.Characters.{IsCharacterAt}
 use Rattle.lalrpop_emit.specs.Internal.Memo.{IsStep, IsLastMatch, IsPassed, LeadTo, StopsAt, NothingWithin, NothingFrom}
@@ -18,13 +18,15 @@ use Rattle.lalrpop_emit.proofs.Walks.{character_size, scalar_below}
 
 -- ---- one step
 
-pub column_below : (a : AheadNumbers) (t : TableNumbers) (c : ℕ) → IsAheadOf a t → IsScalar c → character_column t c < a.width
-column_below a t c h scalar =
+pub column_few : (a : AheadNumbers) (t : TableNumbers) (c : ℕ) → IsAheadOf a t → IsScalar c → character_column t c < within_column a.width
+column_few a t c h scalar =
     ⊎_elim
-    (λ (ascii : c < 128). subst (λ (n : ℕ). n < a.width) (sym (cond-true _ c (128 + character_class t c) (lt-ltb c 128 ascii))) (omega (arith, ascii, h.columns)))
-    (λ (other : 128 ≤ c).
-    subst (λ (n : ℕ). n < a.width) (sym (cond-false _ c (128 + character_class t c) (le-ltb c 128 other))) (omega (arith, h.beyond c other (scalar_below c scalar))))
+    (λ (ascii : c < 128). subst (λ (n : ℕ). n < within_column a.width) (sym (cond-true _ c (128 + character_class t c) (lt-ltb c 128 ascii))) (omega (arith, ascii, h.columns)))
+    (λ (other : 128 ≤ c). subst (λ (n : ℕ). n < within_column a.width) (sym (cond-false _ c (128 + character_class t c) (le-ltb c 128 other))) (h.beyond c other (scalar_below c scalar)))
     (cases_lt c 128)
+
+pub column_below : (a : AheadNumbers) (t : TableNumbers) (c : ℕ) → IsAheadOf a t → IsScalar c → character_column t c < a.width
+column_below a t c h scalar = omega (arith, column_few a t c h scalar, h.columns)
 
 -- one character stands at a place
 pub same_character : (text : List ℕ) (at c d : ℕ) → IsCharacterAt text at c → IsCharacterAt text at d → c ≡ d

@@ -11,7 +11,7 @@ use Rattle.bajofeki_rules.specs.Stack.{actions_of}
 use Rattle.lalrpop_dense.specs.DenseTable.{TableNumbers}
 use Rattle.lalrpop_emit.specs.Ahead.{AheadNumbers}
 use Rattle.lalrpop_emit.specs.Names.{IsName, distinct_names, kinds_of, place_of_name}
-use Rattle.lalrpop_emit.specs.NumberedRules.{NumberedRules, IsStorable, IsStorableAhead, actions_of_rules, first_places, action_numbers}
+use Rattle.lalrpop_emit.specs.NumberedRules.{AreCounted, NumberedRules, IsStorable, IsStorableAhead, actions_of_rules, first_places, action_numbers}
 use Rattle.lalrpop_emit.specs.Internal.Lists.{AreModeTables, AreSmall, LeadBelow}
 use Rattle.lalrpop_emit.specs.Internal.Walking.{IsDrivable, AreRulesBelow, AreActionsAt, CanRunAhead}
 use Rattle.lalrpop_emit.proofs.ActionNumbers.{actions_at, count_places}
@@ -37,6 +37,7 @@ pub record AreMade (r : ModeRules) (n : NumberedRules) : Type 0 where
   pub few_modes : r.modes < 2 ^ 16
   pub tables : AreModeTables r n.tables
   pub all_ahead : length n.ahead ≡ length n.tables
+  pub counted : AreCounted n.ahead
   pub run_ahead : (m : ℕ) (a : AheadNumbers) (t : TableNumbers) → slice_get n.ahead m ≡ Some a → slice_get n.tables m ≡ Some t → CanRunAhead a t
   pub ahead : All IsStorableAhead n.ahead
 
@@ -67,6 +68,7 @@ storable r n h = record {
 pub drivable : (r : ModeRules) (n : NumberedRules) → AreMade r n → IsDrivable n
 drivable r n h = record {
   as_many = h.all_ahead;
+  counted = h.counted;
   ahead = h.run_ahead;
   some = omega (arith, h.modes, h.some_mode);
   walkable = λ m t at. let mode = (h.tables m t at).of_mode in walkable t mode.automaton mode.right;

@@ -1,6 +1,6 @@
 -- cases: proofs/Cases/Ahead.antt
 -- A table that runs on past the ends of tokens, a byte at a time: what is known at each place of a text, and where the next byte leads.
-use Rattle.std.specs.Prelude.{◌≡◌, ◌≢◌, ℕ, ◌+◌, ◌-◌, ◌*◌, ◌<◌, ◌≤◌, ◌↔◌, ◌==◌, Bool, true, false, IsTrue, List, length, nat_lt, slice_get, slice_index, Option, Some, None, if◌then◌else◌}
+use Rattle.std.specs.Prelude.{◌≡◌, ◌≢◌, ℕ, zero, suc, ◌+◌, ◌-◌, ◌*◌, ◌<◌, ◌≤◌, ◌↔◌, ◌==◌, Bool, true, false, IsTrue, List, length, nat_lt, slice_get, slice_index, Option, Some, None, if◌then◌else◌}
 use Rattle.std.specs.List.{fold}
 use Rattle.lalrpop_dense.specs.DenseTable.{TableNumbers, character_class}
 -- what is known at a place: src/standing.rt says what each variant means
@@ -80,6 +80,17 @@ abbrev pub is_lost : Standing → Bool
 is_lost Lost = true
 is_lost s = false
 
+-- a token is open, and doesn't end here
+abbrev pub is_waiting : TableNumbers → Standing → Bool
+is_waiting t (In row) = if accepts t row then false else true
+is_waiting t s = false
+
+-- this many characters can follow, after each of which it is so
+abbrev pub CanWait : TableNumbers → ℕ → ℕ → Standing → Type 0
+CanWait t width zero s = Unit {0}
+CanWait t width (suc n) s =
+    (column : ℕ) × ((column < within_column width) × (IsTrue (is_waiting t (by_column t width s column)) × CanWait t width n (by_column t width s column)))
+
 -- the rule of the token, if it ends here
 abbrev pub rule_at : TableNumbers → Standing → Option ℕ
 rule_at t (In row) = if accepts t row then Some (slice_index t.cells (row + t.width)) else None
@@ -88,12 +99,14 @@ rule_at t s = None
 
 -- ---- in numbers
 
--- where the row of `Begin` begins, how many columns there are, where the first row of an end begins, and for each row a cell for each column, and
--- one for the rule
+-- where the row of `Begin` begins, how many columns there are, where the first row of an end begins; how many rows wait long, and how many those of
+-- the modes before do; and for each row a cell for each column, and one for the rule
 pub record AheadNumbers : Type 0 where
   pub start : ℕ
   pub width : ℕ
   pub ends : ℕ
+  pub waiting : ℕ
+  pub before : ℕ
   pub cells : List ℕ
 
 -- no rule has this number
@@ -107,6 +120,10 @@ rule_number (Some rule) = rule
 -- the row stands for what is known; the list has what each row stands for
 abbrev pub StandsFor : AheadNumbers → List Standing → ℕ → Standing → Type 0
 StandsFor a standings row s = (k : ℕ) × (slice_get standings k ≡ Some s) × (row ≡ k * (a.width + 1))
+
+-- the row is counted among those that wait long
+abbrev pub IsCounted : AheadNumbers → ℕ → Type 0
+IsCounted a row = (0 < row) × (row ≤ a.waiting * (a.width + 1))
 
 -- the numbers are those of the table
 pub record IsAheadOf (a : AheadNumbers) (t : TableNumbers) : Type 0 where
@@ -124,3 +141,6 @@ pub record IsAheadOf (a : AheadNumbers) (t : TableNumbers) : Type 0 where
   pub ends : (row : ℕ) (s : Standing) → StandsFor a standings row s → (IsTrue (is_end s) ↔ (a.ends ≤ row))
   -- the row of `Lost` begins at 0
   pub lost : (row : ℕ) (s : Standing) → StandsFor a standings row s → (IsTrue (is_lost s) ↔ (row ≡ 0))
+  -- those that are counted come right after it: they wait, and among them are all that can wait for 16 characters more
+  pub waits : (row : ℕ) (s : Standing) → StandsFor a standings row s → IsCounted a row → IsTrue (is_waiting t s)
+  pub long : (row : ℕ) (s : Standing) → StandsFor a standings row s → IsTrue (is_waiting t s) → CanWait t a.width 16 s → IsCounted a row

@@ -1,12 +1,10 @@
 -- cases: proofs/Cases/ByteCut.antt
 -- A cut of a text of bytes that goes on, a piece at a time.
-use Rattle.std.specs.Prelude.{◌≡◌, ℕ, ◌+◌, ◌-◌, ◌*◌, ◌/◌, ◌^◌, true, false, List, length, max, min, Option, Some, None, take, reverse}
-use Rattle.std.specs.List.{fold}
+use Rattle.std.specs.Prelude.{◌≡◌, ℕ, ◌+◌, ◌-◌, ◌*◌, ◌^◌, true, false, List, length, min, Option, Some, None, take, reverse}
 use Rattle.lalrpop_rules.specs.Modes.{ModeRules}
 use Rattle.bajofeki_rules.specs.Stack.{Stack}
-use Rattle.lalrpop_emit.specs.Ahead.{AheadNumbers}
 use Rattle.lalrpop_emit.specs.BytePieces.{Fits, IsModePiece, StopsAt, piece_actions, after_piece}
-use Rattle.lalrpop_emit.specs.NumberedRules.{NumberedRules}
+use Rattle.lalrpop_emit.specs.NumberedRules.{NumberedRules, row_words, waiting_rows}
 use Rattle.lalrpop_emit.specs.declared.numbered_piece.NumberedPiece.{NumberedPiece}
 -- a cutter: where it goes on, and what it has found of the text; and that this is true of a text, by these numbers. Before the first
 -- piece it is so for each text, and each call keeps it so for the text that it is given: no more is to be known of it
@@ -39,19 +37,10 @@ IsTooDeep r kinds text c d = StopsAt r kinds 1024 text false (place_of c) (stack
 
 -- ---- the memo, in which it is noted from where no match comes
 
--- how many rows of a table that runs ahead begin before those of ends: a token is open in no other
-abbrev pub open_rows : AheadNumbers → ℕ
-open_rows a = a.ends / (a.width + 1)
-
--- the most that the table of a mode has
-abbrev pub most_open_rows : NumberedRules → ℕ
-most_open_rows n = fold (λ most a. max most (open_rows a)) 0 n.ahead
-
 -- how many words of 64 bits a cutter's memo has
 abbrev pub memo_words : ByteCut → ℕ
 memo_words c = length c.memo
 
--- it has a bit for each mode, each of the most open rows of a mode, and each 64 bytes of a text of this size, in no more words than can
--- be counted
+-- it has those of each row that waits long, of all modes, in no more words than can be counted
 abbrev pub HasMemoFor : NumberedRules → ℕ → ByteCut → Type 0
-HasMemoFor n size c = memo_words c ≡ min (most_open_rows n * (size / 4096 + 1) * length n.tables) (2 ^ 64 - 1)
+HasMemoFor n size c = memo_words c ≡ min (waiting_rows n.ahead * row_words size) (2 ^ 64 - 1)

@@ -127,7 +127,7 @@ ahead_arrays prefix k (a ∷ aheads) = ahead_cells prefix k a ++ ahead_arrays pr
 -- the table of mode k that runs ahead: its cells, and its other numbers
 unfoldable pub ahead_row : List ℕ → ℕ → AheadNumbers → List ℕ
 ahead_row prefix k a =
-    filled prefix (codes "    {$_ahead_cells_") ++ (decimal k ++ (field a.start ++ (field a.width ++ (field a.ends ++ codes "},\n"))))
+    filled prefix (codes "    {$_ahead_cells_") ++ (decimal k ++ (field a.start ++ (field a.width ++ (field a.ends ++ (field a.waiting ++ (field a.before ++ codes "},\n"))))))
 
 -- those from mode k on
 abbrev pub ahead_rows : List ℕ → ℕ → List AheadNumbers → List ℕ

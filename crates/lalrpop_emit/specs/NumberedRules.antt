@@ -1,7 +1,7 @@
 -- cases: proofs/Cases/NumberedRules.antt
 -- What a lexer is in numbers.
-use Rattle.std.specs.Prelude.{◌≡◌, ℕ, ◌+◌, ◌*◌, ◌<◌, ◌^◌, Bool, List, [], ◌∷◌, ◌++◌, length, map, slice_get, Some}
-use Rattle.std.specs.List.{All, range_with_len}
+use Rattle.std.specs.Prelude.{◌≡◌, ℕ, ◌+◌, ◌*◌, ◌/◌, ◌<◌, ◌^◌, Bool, List, [], ◌∷◌, ◌++◌, length, map, nat_lt, if◌then◌else◌, slice_get, take, Some}
+use Rattle.std.specs.List.{All, range_with_len, sum_by}
 use Rattle.lalrpop_dense.specs.DenseTable.{TableNumbers, IsTableFor}
 use Rattle.lalrpop_lexer.specs.Dfa.{Row}
 use Rattle.lalrpop_lexer.specs.Rules.{IsBuiltFrom}
@@ -49,9 +49,22 @@ pub record IsTableOfMode (r : ModeRules) (m : ℕ) (t : TableNumbers) : Type 0 w
   pub recognizes : IsBuiltFrom (trees_in r m) r.precedences automaton
   pub right : IsTableFor t automaton
 
+-- how many rows of all the tables wait long
+abbrev pub waiting_rows : List AheadNumbers → ℕ
+waiting_rows aheads = sum_by (λ a. a.waiting) aheads
+
+-- how many words of a memo a row has for a text of this size: a bit for each 64 bytes
+abbrev pub row_words : ℕ → ℕ
+row_words size = if nat_lt size 64 then 0 else (size / 4096 + 1)
+
+-- each table has the number of rows that wait long in those before it
+abbrev pub AreCounted : List AheadNumbers → Type 0
+AreCounted aheads = (m : ℕ) (a : AheadNumbers) → slice_get aheads m ≡ Some a → a.before ≡ waiting_rows (take m aheads)
+
 -- for each mode there is a table that runs ahead, and it belongs to the mode's table
 pub record AreAheadOf (aheads : List AheadNumbers) (tables : List TableNumbers) : Type 0 where
   pub all : length aheads ≡ length tables
+  pub counted : AreCounted aheads
   pub each : (m : ℕ) (a : AheadNumbers) (t : TableNumbers) → slice_get aheads m ≡ Some a → slice_get tables m ≡ Some t → IsAheadOf a t
 
 -- the numbers are those of the rules
@@ -77,6 +90,8 @@ pub record IsStorableAhead (a : AheadNumbers) : Type 0 where
   pub start : a.start < 2 ^ 64
   pub width : a.width < 2 ^ 64
   pub ends : a.ends < 2 ^ 64
+  pub waiting : a.waiting < 2 ^ 32
+  pub before : a.before < 2 ^ 64
   pub cells : All (λ n. n < 2 ^ 32) a.cells
   pub all_cells : length a.cells < 2 ^ 64
 

@@ -76,8 +76,10 @@ ahead_text a =
     ++ (number_field (codes "            start") a.start
     ++ (number_field (codes "            width") a.width
     ++ (number_field (codes "            ends") a.ends
+    ++ (number_field (codes "            waiting") a.waiting
+    ++ (number_field (codes "            before") a.before
     ++ (list_field (codes "            cells") a.cells
-    ++ codes "        },\n"))))
+    ++ codes "        },\n"))))))
 
 abbrev pub ahead_texts : List AheadNumbers → List ℕ
 ahead_texts [] = []

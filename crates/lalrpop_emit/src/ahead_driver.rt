@@ -12,12 +12,9 @@ use crate::ahead_rows::fill;
 use crate::ahead_table::AheadLists as Ahead;
 use crate::driver::Match;
 use crate::lane_ends::ends_of;
-use crate::run::{AheadCell, MOST, Run};
+use crate::run::{AheadCell, LEAST, Run};
 use crate::standing::NO_RULE;
 use crate::table_lists::TableLists as Table;
-
-// The least bytes of a block: a word for each of the six walks. Each block has a multiple of them.
-const LEAST: usize = 384;
 
 // Writes a bit for each row: whether it is one of an end. Rows after the last 64 have none.
 fn mark_ends(rows: &[AheadCell], least: usize, ends: &mut [u64])
@@ -75,7 +72,7 @@ pub(crate) fn fill_block(
     requires classes { AreClasses (list_numbers table.now) }
     requires parts { (words : ℕ) × (0 < words) × (size ≡ 384 * words) }
     requires left { at + size ≤ length text.now }
-    requires most { size ≤ 6144 }
+    requires most { size ≤ length run.old.rows.items }
     requires room { HasRoom run.old }
     ensures run { IsRunThrough (ahead_numbers ahead.now) (list_numbers table.now) text.now run.new }
     ensures place { IsAtPlace ahead.now.ends run.new 0 }
@@ -194,7 +191,7 @@ pub(crate) fn block_length(text: &[u8], at: usize, mode: u16, run: &Run) -> usiz
     requires behind { (run.now.base ≤ at) × (run.now.since ≤ at) }
     ensures parts { (words : ℕ) × (result ≡ 384 * words) }
     ensures left { at + result ≤ length text.now }
-    ensures most { result ≤ 6144 }
+    ensures most { result ≤ length run.now.rows.items }
 {
     if at - run.since < LEAST {
         return 0;
@@ -203,5 +200,5 @@ pub(crate) fn block_length(text: &[u8], at: usize, mode: u16, run: &Run) -> usiz
     if is_inside && (at == run.base || run.bits != 0 || run.word == run.length / 64) {
         return 0;
     }
-    MOST.min(text.len() - at).min(at - run.since) / LEAST * LEAST
+    run.rows.len().min(text.len() - at).min(at - run.since) / LEAST * LEAST
 }

@@ -3,7 +3,7 @@ ghost use Rattle.std.specs.Prelude.{◌≡◌, ◌<◌, ◌≤◌, ℕ, List, le
 ghost use Rattle.lalrpop_rules.specs.Modes.{ModeRules};
 ghost use Rattle.bajofeki_rules.specs.Stack.{start};
 ghost use Rattle.lalrpop_emit.specs.ByteCut.{GivesBytePiece, HasMemoFor, IsCutOf, IsTooDeep, memo_words, place_of, stack_in};
-ghost use Rattle.lalrpop_emit.specs.NumberedRules.{AreNumbersOf};
+ghost use Rattle.lalrpop_emit.specs.NumberedRules.{AreNumbersOf, NumberedRules};
 
 use crate::driver::{State, Step, memo_size, next};
 use crate::numbered_piece::NumberedPiece;
@@ -16,6 +16,12 @@ use thiserror::Error;
 
 // How many modes may lie below the one on top, as in an emitted lexer.
 const ROOM: usize = 1024;
+
+const BEGINNING: State = State {
+    at: 0,
+    mode: 0,
+    depth: 0,
+};
 
 /// The next token would put a mode on top of more than 1024 others.
 ///
@@ -31,8 +37,9 @@ pub struct TooDeep;
 /// A cut of a text of bytes that goes on, a piece at a time, as calls of an emitted lexer's `next` do. It borrows neither the
 /// numbers nor the text: each call is given both, and they are the same at each call.
 ///
-/// Where no match comes it notes that, for all pieces that are still to be cut: its memo has a bit for each mode, each row in
-/// which a token can be open, and each 64 bytes of the text. What new bits pay for is proved of its parts, not of its calls.
+/// Where no match comes it notes that, for all pieces that are still to be cut: its memo has a bit for each 64 bytes of the text and
+/// each row of a mode that waits long, in which a token is open that may not end for 16 characters more. What new bits pay for is
+/// proved of its parts, not of its calls.
 ///
 /// ```
 /// use lalrpop_emit::{ByteCutter, LexerNumbers};
@@ -80,20 +87,47 @@ impl ByteCutter {
     {
         // What is known of the numbers.
         let _ = &numbers.tables;
-        let state = State {
-            at: 0,
-            mode: 0,
-            depth: 0,
+        let mut cutter = ByteCutter {
+            state: BEGINNING,
+            below: vec![in alloc; 0u16; ROOM]?,
+            run: Run::new(alloc),
+            memo: Vec::new(alloc),
         };
-        let below = vec![in alloc; 0u16; ROOM]?;
-        let run = Run::new(alloc)?;
-        let memo = vec![in alloc; 0u64; memo_size(numbers, size)]?;
-        Ok(ByteCutter {
-            state,
-            below,
-            run,
-            memo,
-        })
+        cutter.restart(numbers, size)?;
+        Ok(cutter)
+    }
+
+    /// Goes back to before the first piece, of another text of `size` bytes, by these numbers or others. The memory that there is
+    /// serves again, so a cutter for many short texts takes little time for each.
+    ///
+    /// ```
+    /// use lalrpop_emit::{ByteCutter, LexerNumbers};
+    ///
+    /// let numbers = LexerNumbers::new(alloc, &rules)?;
+    /// let mut cutter = ByteCutter::new(alloc, &numbers, 0)?;
+    /// for line in text.split(|byte| *byte == b'\n') {
+    ///     cutter.restart(&numbers, line.len())?;
+    ///     while let Ok(Some(piece)) = cutter.next_piece(&numbers, line) {}
+    /// }
+    /// ```
+    ///
+    /// # Errors
+    ///
+    /// `AllocError` if more memory is needed, and was refused. Then the cutter is before the first piece too, but notes may be
+    /// missing that make long texts quick.
+    pub fn restart(&mut self, numbers: &LexerNumbers, size: usize) -> Result<(), AllocError>
+        requires cut { (n : NumberedRules) × ((text : List ℕ) × IsCutOf n text self.old) }
+        ensures place { place_of self.new ≡ 0 }
+        ensures stack { stack_in self.new ≡ start }
+        ensures cut { (text : List ℕ) → IsCutOf numbers.now text self.new }
+        ensures memo { OnOk result (HasMemoFor numbers.now size self.new) }
+    {
+        // What is known of the numbers.
+        let _ = &numbers.tables;
+        self.state = BEGINNING;
+        self.memo.clear();
+        self.run.restart(size)?;
+        self.memo.resize(memo_size(numbers, size), 0)
     }
 
     /// Where the next piece begins, in bytes.

@@ -384,7 +384,6 @@ fn push_ahead_arrays(
     Ok(())
 }
 
-#[tactic(auto, unfolding(crate::specs::CSource::ahead_row))]
 fn push_ahead_row(
     source: &mut String,
     prefix: &str,
@@ -399,6 +398,8 @@ fn push_ahead_row(
     push_field(source, ahead.start)?;
     push_field(source, ahead.width)?;
     push_field(source, ahead.ends)?;
+    push_field(source, ahead.waiting)?;
+    push_field(source, ahead.before)?;
     source.push_str("},\n")?;
     Ok(())
 }

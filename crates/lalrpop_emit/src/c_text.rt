@@ -29,12 +29,15 @@ typedef struct {
 pub(crate) const AHEAD: &str = "#ifndef $_header
 
 /* The table of a mode that runs ahead: it reads each byte, on past the ends of tokens. Its cells lead from a row by a column to
-   a row; after those of a row stands the rule of the token that ends there. */
+   a row; after those of a row stands the rule of the token that ends there. A row waits long if a token is open in it that may not
+   end for 16 characters more. Those rows come right after the first one. */
 typedef struct {
     const $_ahead_cell *cells;
     size_t start;
     size_t width;
-    size_t ends;  /* from this row on a token ended before the last byte */
+    size_t ends;     /* from this row on a token ended before the last byte */
+    size_t waiting;  /* how many rows wait long */
+    size_t before;   /* how many do in the tables of the modes before */
 } $_ahead;
 ";
 
@@ -78,7 +81,7 @@ typedef struct {
     uint16_t mode;         /* the mode on top */
     uint16_t below[1024];  /* the modes below it */
     size_t depth;          /* how many they are */
-    uint64_t *memo;        /* an equal part for each mode, in which a bit says that no match comes */
+    uint64_t *memo;        /* a part for each mode, in which a bit says that no match comes */
     size_t memo_size;      /* in words; 0 if there is none */
     $_run run;
 } $_lexer;
@@ -117,8 +120,8 @@ $_open const char *$_name(int kind);
 #define $_apart static
 #endif
 
-/* A memo of one mode. It has a bit for each row and each 64 bytes of the text: whether no match comes if a walk passes there in
-   this row. That is so wherever the walk began. */
+/* A memo of one mode. It has a bit for each row that waits long and each 64 bytes of the text: whether no match comes if a walk
+   passes there in this row. That is so wherever the walk began. */
 typedef struct {
     uint64_t *words;
     size_t count;
@@ -252,15 +255,20 @@ $_inline uint32_t $_rule_of(const $_ahead *ahead, size_t row) {
     return (uint32_t)ahead->cells[row + ahead->width];
 }
 
-/* How many words a memo of this many rows has for a text of this size: a bit for each row and each 64 bytes. */
+/* How many words of a memo each row has for a text of this size: a bit for each 64 bytes. */
+$_inline size_t $_row_words(size_t size) {
+    return size < 64 ? 0 : size / 4096 + 1;
+}
+
+/* How many words this many rows have. */
 $_inline size_t $_memo_words(size_t rows, size_t size) {
-    return $_product(rows, size / 4096 + 1);
+    return $_product(rows, $_row_words(size));
 }
 
 /* The word of the memo in which the walk's bit is; `words`, which is after the last one, if the memo has none. */
 $_inline size_t $_word_of(const $_ahead *ahead, size_t size, $_walker walk, size_t words) {
-    size_t row_words = size / 4096 + 1;
-    size_t number = walk.row / (ahead->width + 1);
+    size_t row_words = $_row_words(size);
+    size_t number = walk.row / (ahead->width + 1) - 1;
     if (number >= words / row_words) {
         return words;
     }
@@ -683,23 +691,14 @@ $_inline size_t $_block_length(const $_lexer *lexer) {
     return $_min($_min($_most, lexer->length - lexer->at), lexer->at - run->since) / $_least * $_least;
 }
 
-/* How many rows in which a token is open the greatest table that runs ahead has; only of these it is noted that no match
-   comes. */
-static size_t $_most_rows(void) {
-    size_t most = 0;
-    size_t mode;
-    for (mode = 0; mode < $_modes; mode++) {
-        size_t rows = $_aheads[mode].ends / ($_aheads[mode].width + 1);
-        most = most < rows ? rows : most;
-    }
-    return most;
-}
-
-/* The part of the memo for the mode on top. Each mode has an equal one. */
+/* The part of the memo for the mode on top: the words of its rows that wait long, after those of the modes before. */
 $_inline $_memo $_memo_part(const $_lexer *lexer) {
-    $_memo memo = {NULL, lexer->memo_size / $_modes};
+    const $_ahead *ahead = &$_aheads[lexer->mode];
+    size_t from = $_min($_memo_words(ahead->before, lexer->length), lexer->memo_size);
+    size_t to = $_min($_memo_words(ahead->before + ahead->waiting, lexer->length), lexer->memo_size);
+    $_memo memo = {NULL, to - from};
     if (memo.count > 0) {
-        memo.words = lexer->memo + lexer->mode * memo.count;
+        memo.words = lexer->memo + from;
     }
     return memo;
 }
@@ -797,7 +796,8 @@ $_open $_lexer $_begin(const char *text, size_t length) {
 
 /* How many words of 64 bits the memo of a text of `length` bytes takes. */
 $_open size_t $_memo_size(size_t length) {
-    return $_product($_memo_words($_most_rows(), length), $_modes);
+    const $_ahead *last = &$_aheads[$_modes - 1];
+    return $_memo_words(last->before + last->waiting, length);
 }
 
 /* As $_begin, with the same pieces, in time that grows with the length of the text alone. For that the lexer notes in the memo

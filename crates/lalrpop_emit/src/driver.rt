@@ -14,9 +14,8 @@
 //! The same holds of `longest_match.rt`, and of `ahead_columns.rt`, `ahead_rows.rt`, `flag_ends.rt` and `ahead_driver.rt`, which cut
 //! a text in blocks. But here `ahead_driver.rt` calls `ends_of` of `lane_ends.rt`: stable Rust has no vectors, so an emitted lexer has
 //! that of `flag_ends.rt`, whose contract is the same.
-ghost use Rattle.std.specs.Prelude.{◌≡◌, [], None, IsFalse, ◌+◌, ◌-◌, ◌*◌, ◌/◌, ◌^◌, ◌<◌, ◌≤◌, ℕ, List, Some, length, take, drop, slice_get, IsTrue, IfSome, ◌↔◌, ◌⊎◌, MatchOption, min, max};
+ghost use Rattle.std.specs.Prelude.{◌≡◌, [], None, IsFalse, ◌+◌, ◌-◌, ◌*◌, ◌^◌, ◌<◌, ◌≤◌, ℕ, List, Some, length, take, drop, slice_get, IsTrue, IfSome, ◌↔◌, MatchOption, min, max};
 ghost use Rattle.std.specs.Char.{encode_utf8, IsScalar};
-ghost use Rattle.std.specs.List.{All};
 ghost use Rattle.std.specs.Option.{option_map};
 ghost use Rattle.lalrpop_hir.specs.Tree.{Tree};
 ghost use Rattle.lalrpop_hir.specs.Longest.{IsLongest};
@@ -27,10 +26,9 @@ ghost use Rattle.lalrpop_rules.specs.Pieces.{IsFault};
 ghost use Rattle.bajofeki_rules.specs.Stack.{Stack, act_all, actions_of};
 ghost use Rattle.lalrpop_rules.specs.Modes.{ModeRules};
 ghost use Rattle.bajofeki_rules.specs.declared.action.Action.{Action};
-ghost use Rattle.lalrpop_emit.specs.ByteCut.{most_open_rows};
 ghost use Rattle.lalrpop_emit.specs.BytePieces.{Fits};
 ghost use Rattle.lalrpop_emit.specs.BytePositions.{byte_position_of};
-ghost use Rattle.lalrpop_emit.specs.NumberedRules.{AreNumbersOf};
+ghost use Rattle.lalrpop_emit.specs.NumberedRules.{AreNumbersOf, row_words, waiting_rows};
 ghost use Rattle.lalrpop_emit.specs.Internal.Characters.{IsCharacterAt, IsFollowing};
 ghost use Rattle.lalrpop_emit.specs.Internal.Driving.{IsState, ComesNext, GoesOn, GoesOnIf, stack_of};
 ghost use Rattle.lalrpop_emit.specs.Internal.Lists.{list_numbers};
@@ -39,6 +37,7 @@ ghost use Rattle.lalrpop_emit.specs.Internal.Running.{IsRunOf, IsTokenAt};
 ghost use Rattle.lalrpop_emit.specs.Internal.Walking.{AreRulesBelow, AreActionsAt};
 
 use crate::ahead_driver::{block_length, fill_block, known, resume, take};
+use crate::ahead_table::AheadLists as Ahead;
 use crate::byte_positions::BytePosition as Position;
 use crate::longest_match::{fault_end, longest, memo_words};
 use crate::numbered_piece::NumberedPiece;
@@ -209,39 +208,24 @@ fn act(numbers: &Numbers, first: usize, state: &mut State, below: &mut [u16])
     }
 }
 
-// How many rows in which a token is open the greatest table that runs ahead has; only of these it is noted that no match comes.
-fn most_rows(numbers: &Numbers) -> usize
-    ensures each { All (λ a. a.ends / (a.width + 1) ≤ result) numbers.now.ahead }
-    ensures most { result ≡ most_open_rows numbers.now }
-{
-    let mut most = 0;
-    'tables: for ahead in numbers.ahead.iter() {
-        most = most.max(ahead.ends / (ahead.width + 1));
-    }
-    most
-}
-
-// How many words the memo for a text of this size has: for each mode as many as the greatest table has use for.
+// How many words the memo for a text of this size has: those of the rows that wait long, of all modes.
 pub(crate) fn memo_size(numbers: &Numbers, size: usize) -> usize
-    ensures each { All (λ a. (result ≡ usize.MAX)
-        ⊎ (a.ends / (a.width + 1) * (size / 4096 + 1) ≤ result / length numbers.now.tables)) numbers.now.ahead }
-    ensures size { result
-        ≡ min (most_open_rows numbers.now * (size / 4096 + 1) * length numbers.now.tables)
-        (2 ^ 64 - 1) }
+    ensures size { result ≡ min (waiting_rows numbers.now.ahead * row_words size) (2 ^ 64 - 1) }
 {
-    memo_words(most_rows(numbers), size).saturating_mul(numbers.tables.len())
+    let last = &numbers.ahead[numbers.ahead.len() - 1];
+    memo_words(last.before + last.waiting, size)
 }
 
-// Where the mode's part of a memo of `words` words begins and ends. All modes have equal parts.
-fn memo_part(words: usize, modes: usize, mode: u16) -> (usize, usize)
-    requires { mode < modes }
-    ensures from { result.0 ≡ mode * (words / modes) }
-    ensures to { result.1 ≡ result.0 + words / modes }
-    ensures within { result.1 ≤ words }
+// Where the part of the table begins and ends in a memo of `words` words for a text of this size: after those of the modes before.
+fn memo_part(ahead: &Ahead, size: usize, words: usize) -> (usize, usize)
+    requires { ahead.now.before + ahead.now.waiting < 2 ^ 64 }
+    ensures from { result.0 ≡ min (ahead.now.before * row_words size) words }
+    ensures to { result.1 ≡ min ((ahead.now.before + ahead.now.waiting) * row_words size) words }
+    ensures order { (result.0 ≤ result.1) × (result.1 ≤ words) }
 {
-    let size = words / modes;
-    let from = mode as usize * size;
-    (from, from + size)
+    let from = memo_words(ahead.before, size).min(words);
+    let to = memo_words(ahead.before + ahead.waiting, size).min(words);
+    (from, to)
 }
 
 // Where the longest match from the place on ends, and its rule, by a new block or without. `None` if nothing matches there.
@@ -277,7 +261,7 @@ fn found(
             return token;
         }
     }
-    let (from, to) = memo_part(memo.len(), numbers.tables.len(), mode);
+    let (from, to) = memo_part(ahead, text.len(), memo.len());
     longest(ahead, table, text, at, &mut memo[from..to])
 }
 
@@ -327,7 +311,7 @@ fn fault(numbers: &Numbers, text: &[u8], state: &mut State, memo: &mut [u64]) ->
     let table = &numbers.tables[state.mode as usize];
     let ahead = &numbers.ahead[state.mode as usize];
     let start = state.at;
-    let (from, to) = memo_part(memo.len(), numbers.tables.len(), state.mode);
+    let (from, to) = memo_part(ahead, text.len(), memo.len());
     state.at = fault_end(ahead, table, text, start, &mut memo[from..to]);
     NumberedPiece {
         kind: None,

@@ -1,10 +1,11 @@
 //! The longest match at a place, a character at a time, by a table that runs ahead.
 //!
 //! A memo makes this quick where matches are short but much must be read to find that no longer one comes. It has a bit for each
-//! row and each 64 bytes of the text: whether no match comes if a walk passes there in this row. That is so wherever the walk
-//! began. So a walk stops where the bit is set; and where one has read on in vain, it sets the bits on its way. The caller lends the
-//! memory: `memo_words` words, or fewer, of which each is 0 at first. If there is a bit for each row and each 64 bytes, each bit pays
-//! for 64 bytes that are read in vain, and only 128 more in each call aren't paid for.
+//! row that waits long, in which a token is open that may not end for 16 characters more, and each 64 bytes of the text: whether no
+//! match comes if a walk passes there in this row. That is so wherever the walk began. So a walk stops where the bit is set; and
+//! where one has read on in vain, it sets the bits on its way. The caller lends the memory: `memo_words` words, or fewer, of which
+//! each is 0 at first. If there are all, each bit pays for 64 bytes that are read in vain, and only 192 more in each call aren't paid
+//! for.
 ghost use Rattle.std.specs.Prelude.{◌≡◌, ◌≢◌, ◌↔◌, ◌+◌, ◌-◌, ◌*◌, ◌/◌, ◌^◌, ◌<◌, ◌≤◌, ◌⊎◌, ℕ, List, length, min, take, drop, slice_index, IfSome, IsTrue, MatchOption};
 ghost use Rattle.std.specs.Char.{encode_utf8};
 ghost use Rattle.std.specs.Option.{option_map};
@@ -18,8 +19,9 @@ ghost use Rattle.lalrpop_emit.specs.Ahead.{IsAheadOf, character_column, no_rule}
 ghost use Rattle.lalrpop_emit.specs.Internal.AheadRows.{IsRowOf};
 ghost use Rattle.lalrpop_emit.specs.Internal.Characters.{IsCharacterAt};
 ghost use Rattle.lalrpop_emit.specs.Internal.Lists.{ahead_numbers, list_numbers};
-ghost use Rattle.lalrpop_emit.specs.Internal.Memo.{IsInVain, IsLastMatch, IsMemoFor, IsNoted, IsPassed, IsReadTo, IsRoomy, IsStep, NothingFrom, StopsAt, memo_word, noted_count};
+ghost use Rattle.lalrpop_emit.specs.Internal.Memo.{IsInVain, IsLastMatch, IsMemoFor, IsNoted, IsPassed, IsReadTo, IsRoomy, IsStep, IsWaitingRow, NothingFrom, StopsAt, memo_word, noted_count};
 ghost use Rattle.lalrpop_emit.specs.Internal.Walking.{AreRulesBelow};
+ghost use Rattle.lalrpop_emit.specs.NumberedRules.{row_words};
 
 use crate::ahead_columns::column_of;
 use crate::ahead_table::AheadLists as Ahead;
@@ -90,7 +92,8 @@ fn walked(ahead: &Ahead, table: &Table, text: &[u8], walk: Walk) -> Option<Walk>
         (λ next. IsStep (ahead_numbers ahead.now) (list_numbers table.now) text.now walk.row walk.at
         next.row next.at) }
     ensures place { IfSome result (λ next. (walk.at < next.at) × (next.at ≤ length text.now)) }
-    ensures row { IfSome result (λ next. IsRowOf (ahead_numbers ahead.now) next.row) }
+    ensures row { IfSome result (λ next.
+        IsRowOf (ahead_numbers ahead.now) next.row × (0 < next.row)) }
 {
     if walk.at >= text.len() {
         return None;
@@ -116,23 +119,31 @@ fn rule_of(ahead: &Ahead, row: usize) -> AheadCell
     ahead.cells[row + ahead.width]
 }
 
-// How many words a memo has for a text of this size, if the table has `rows` rows: a bit for each row and each 64 bytes.
-pub(crate) fn memo_words(rows: usize, size: usize) -> usize
-    ensures { result ≡ min (rows * (size / 4096 + 1)) usize.MAX }
+// How many words of a memo each row has for a text of this size: a bit for each 64 bytes.
+fn row_words(size: usize) -> usize
+    ensures { result ≡ row_words size }
 {
-    rows.saturating_mul(size / 4096 + 1)
+    if size < 64 { 0 } else { size / 4096 + 1 }
+}
+
+// How many words this many rows have.
+pub(crate) fn memo_words(rows: usize, size: usize) -> usize
+    ensures { result ≡ min (rows * row_words size) usize.MAX }
+{
+    rows.saturating_mul(row_words(size))
 }
 
 // The word of the memo in which the walk's bit is. `None` if a memo of `words` words doesn't have it.
 fn word_of(ahead: &Ahead, size: usize, walk: Walk, words: usize) -> Option<usize>
     requires narrow { ahead.now.width + 1 < 2 ^ 64 }
-    requires place { walk.at ≤ size }
-    ensures { MatchOption result (words / (size / 4096 + 1) ≤ walk.row / (ahead.now.width + 1))
+    requires row { ahead.now.width < walk.row }
+    requires place { (64 ≤ walk.at) × (walk.at ≤ size) }
+    ensures { MatchOption result (words / (size / 4096 + 1) ≤ walk.row / (ahead.now.width + 1) - 1)
         (λ word. (word ≡ memo_word (ahead_numbers ahead.now) size walk.row walk.at)
         × (word < words)) }
 {
-    let row_words = size / 4096 + 1;
-    let number = walk.row / (ahead.width + 1);
+    let row_words = row_words(size);
+    let number = walk.row / (ahead.width + 1) - 1;
     if number >= words / row_words {
         return None;
     }
@@ -142,10 +153,11 @@ fn word_of(ahead: &Ahead, size: usize, walk: Walk, words: usize) -> Option<usize
 // Whether it is noted that no match comes.
 fn is_noted(ahead: &Ahead, size: usize, walk: Walk, memo: &[u64]) -> bool
     requires narrow { ahead.now.width + 1 < 2 ^ 64 }
-    requires place { walk.at ≤ size }
+    requires row { IsRowOf (ahead_numbers ahead.now) walk.row × (0 < walk.row) }
+    requires place { (64 ≤ walk.at) × (walk.at ≤ size) }
     ensures noted { IsTrue result
         → IsNoted memo.now (ahead_numbers ahead.now) size walk.row walk.at }
-    ensures not_noted { IsRowOf (ahead_numbers ahead.now) walk.row → walk.row < ahead.now.ends
+    ensures not_noted { IsWaitingRow (ahead_numbers ahead.now) walk.row
         → IsRoomy (ahead_numbers ahead.now) size memo.now
         → IsNoted memo.now (ahead_numbers ahead.now) size walk.row walk.at → IsTrue result }
 {
@@ -168,18 +180,19 @@ fn passes(walk: Walk, next: Walk) -> bool
 // Notes that no match comes. Where the memo has room, that sets one bit, and no other.
 fn note(ahead: &Ahead, text: &[u8], walk: Walk, memo: &mut [u64])
     requires narrow { ahead.now.width + 1 < 2 ^ 64 }
-    requires place { walk.at ≤ length text.now }
-    requires row { IsRowOf (ahead_numbers ahead.now) walk.row }
+    requires place { (64 ≤ walk.at) × (walk.at ≤ length text.now) }
+    requires row { IsRowOf (ahead_numbers ahead.now) walk.row × (0 < walk.row) }
     requires passed { IsPassed text.now walk.at }
     ensures right { (t : TableNumbers)
         → NothingFrom (ahead_numbers ahead.now) t text.now walk.row walk.at
         → IsMemoFor (ahead_numbers ahead.now) t text.now memo.old
         → IsMemoFor (ahead_numbers ahead.now) t text.now memo.new }
-    ensures others { (row at : ℕ) → IsRowOf (ahead_numbers ahead.now) row → IsPassed text.now at
+    ensures others { (row at : ℕ) → IsRowOf (ahead_numbers ahead.now) row → 0 < row
+        → IsPassed text.now at
         → IsNoted memo.new (ahead_numbers ahead.now) (length text.now) row at
         → IsNoted memo.old (ahead_numbers ahead.now) (length text.now) row at ⊎ (at ≡ walk.at) }
     ensures never_fewer { noted_count memo.old ≤ noted_count memo.new }
-    ensures one_more { walk.row < ahead.now.ends
+    ensures one_more { IsWaitingRow (ahead_numbers ahead.now) walk.row
         → IsRoomy (ahead_numbers ahead.now) (length text.now) memo.old
         → ¬ IsNoted memo.old (ahead_numbers ahead.now) (length text.now) walk.row walk.at
         → noted_count memo.new ≡ noted_count memo.old + 1 }
@@ -203,7 +216,7 @@ fn note_walk(ahead: &Ahead, table: &Table, text: &[u8], from: Walk, end: usize, 
     ensures paid { IsRoomy (ahead_numbers ahead.now) (length text.now) memo.old
         → IsInVain (ahead_numbers ahead.now) (list_numbers table.now) text.now memo.old end
         from.row from.at
-        → end / 64 + noted_count memo.old ≤ from.at / 64 + noted_count memo.new + 1 }
+        → end / 64 + noted_count memo.old ≤ from.at / 64 + noted_count memo.new + 2 }
 {
     let mut walk = from;
     'again: while walk.at < end {
@@ -290,7 +303,7 @@ fn match_to(ahead: &Ahead, start: usize, last: Walk) -> Option<Match>
 }
 
 // Reads on from the start until no match comes, and notes where that was in vain. Bits that are new pay for what was read in
-// vain, 64 bytes each, all but the last 128.
+// vain, 64 bytes each, all but the last 192.
 fn read_and_note(
     ahead: &Ahead,
     table: &Table,
@@ -314,7 +327,7 @@ fn read_and_note(
     ensures size { length memo.new ≡ length memo.old }
     ensures paid { IsRoomy (ahead_numbers ahead.now) (length text.now) memo.old
         → result.end + 64 * noted_count memo.old
-        ≤ result.last.at + 64 * noted_count memo.new + 128 }
+        ≤ result.last.at + 64 * noted_count memo.new + 192 }
 {
     let reading = read_on(ahead, table, text, start, memo);
     if !memo.is_empty() && reading.last.at / 64 < reading.end / 64 {

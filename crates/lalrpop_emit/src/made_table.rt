@@ -113,6 +113,7 @@ fn made_table(alloc: Global, dfa: &Dfa, classes: CharacterClasses) -> Result<Tab
         IsRegular (list_numbers table) (length dfa.now) (3 * length dfa.now)) }
     ensures storable { IfOk result (λ table. IsStorableTable (list_numbers table)) }
     ensures width { IfOk result (λ table. table.width ≡ length classes.firsts.items) }
+    ensures accept { IfOk result (λ table. table.accept ≡ 2 * length dfa.now * (table.width + 1)) }
 {
     let width = classes.firsts.len();
     let count = dfa.states().len();
@@ -152,6 +153,7 @@ pub(crate) fn made_tables(alloc: Global, dfa: &Dfa) -> Result<ModeTable, EmitErr
         stride: width + 1,
         dead: count,
         live: 2 * count,
+        waiting: count,
     };
     let ahead = regular_ahead(alloc, &table, shape)?;
     Ok(ModeTable { table, ahead })

@@ -14,12 +14,14 @@ use crate::standing::{Standing, by_column, rule_number};
 use crate::table_lists::TableLists;
 use std::alloc::{AllocError, Global};
 
-/// The rows of a regular table: how long each is, how many are dead, and how many are live.
+/// The rows of a regular table: how long each is, how many are dead, how many are live, and how many of these
+/// wait, all of which are taken to wait long.
 #[derive(Clone, Copy)]
 pub(crate) struct Shape {
     pub(crate) stride: usize,
     pub(crate) dead: usize,
     pub(crate) live: usize,
+    pub(crate) waiting: usize,
 }
 
 // Where the live row with this number begins.
@@ -40,8 +42,8 @@ fn place_in(shape: Shape, standing: Standing) -> usize
 {
     match standing {
         Standing::Lost => 0,
-        Standing::Begin => 1,
-        Standing::In(row) => (row as usize / shape.stride).saturating_sub(shape.dead) + 2,
+        Standing::Begin => shape.live + 1,
+        Standing::In(row) => (row as usize / shape.stride).saturating_sub(shape.dead) + 1,
         Standing::Ended => shape.live + 2,
         Standing::Again(row) => {
             (row as usize / shape.stride).saturating_sub(shape.dead) + shape.live + 3
@@ -84,8 +86,8 @@ fn standing_list(alloc: Global, shape: Shape) -> Result<Vec<Standing>, AllocErro
 {
     let mut standings = Vec::new(alloc);
     standings.push(Standing::Lost)?;
-    standings.push(Standing::Begin)?;
     push_in(&mut standings, shape)?;
+    standings.push(Standing::Begin)?;
     standings.push(Standing::Ended)?;
     push_again(&mut standings, shape)?;
     Ok(standings)
@@ -171,6 +173,8 @@ pub(crate) fn regular_ahead(
     requires few { (2 * shape.live + 3) * (table.now.width + 131) ≤ 2 ^ 30 }
     requires small { (shape.dead + shape.live) * shape.stride < 2 ^ 32 }
     requires narrow { table.now.width ≤ 255 }
+    requires waiting { shape.waiting ≤ shape.live }
+    requires accept { table.now.accept ≡ (shape.dead + shape.waiting) * shape.stride }
     ensures right { IfOk result
         (λ ahead. CanRunAhead (ahead_numbers ahead) (list_numbers table.now)) }
     ensures storable { IfOk result (λ ahead. IsStorableAhead (ahead_numbers ahead)) }
@@ -179,9 +183,11 @@ pub(crate) fn regular_ahead(
     let standings = standing_list(alloc, shape)?;
     let cells = all_cells(alloc, table, shape, width, &standings)?;
     Ok(AheadLists {
-        start: width + 1,
+        start: (shape.live + 1) * (width + 1),
         width,
         ends: (shape.live + 2) * (width + 1),
+        waiting: shape.waiting,
+        before: 0,
         cells,
     })
 }

@@ -1,5 +1,5 @@
 //! A block of a text that a table has run through.
-ghost use Rattle.std.specs.Prelude.{◌≡◌, IfOk};
+ghost use Rattle.std.specs.Prelude.{◌≡◌};
 ghost use Rattle.lalrpop_emit.specs.Internal.Running.{HasRoom, HasNoEnd};
 
 use std::alloc::{AllocError, Global};
@@ -9,6 +9,9 @@ pub(crate) type AheadCell = u32;
 
 /// No block has more bytes than this.
 pub(crate) const MOST: usize = 6144;
+
+/// The least bytes of a block: a word for each of the six walks. Each block has a multiple of them.
+pub(crate) const LEAST: usize = 384;
 
 /// A block of a text that a table has run through, ahead of the tokens that are cut in it.
 #[derive(Debug, Drop)]
@@ -34,26 +37,48 @@ pub(crate) struct Run {
 }
 
 impl Run {
-    /// Room for a block, and none yet.
-    ///
-    /// # Errors
-    ///
-    /// `AllocError` if a request for memory was refused.
-    pub(crate) fn new(alloc: Global) -> Result<Run, AllocError>
-        ensures room { IfOk result HasRoom }
-        ensures none { IfOk result HasNoEnd }
-        ensures begins { IfOk result (λ run. (run.length ≡ 0) × (run.base ≡ 0) × (run.since ≡ 0)) }
+    /// No block, and no room for one.
+    pub(crate) fn new(alloc: Global) -> Run
+        ensures room { HasRoom result }
+        ensures none { HasNoEnd result }
+        ensures begins { (result.length ≡ 0) × (result.base ≡ 0) × (result.since ≡ 0) }
     {
-        Ok(Run {
+        Run {
             base: 0,
             length: 0,
             mode: 0,
             since: 0,
             word: 0,
             bits: 0,
-            columns: vec![in alloc; 0u16; MOST]?,
-            rows: vec![in alloc; 0; MOST]?,
-            ends: vec![in alloc; 0u64; MOST / 64]?,
-        })
+            columns: Vec::new(alloc),
+            rows: Vec::new(alloc),
+            ends: Vec::new(alloc),
+        }
+    }
+
+    /// Leaves the block, and makes room for those of a text of `size` bytes, if there is less.
+    ///
+    /// # Errors
+    ///
+    /// `AllocError` if a request for memory was refused.
+    pub(crate) fn restart(&mut self, size: usize) -> Result<(), AllocError>
+        requires room { HasRoom self.old }
+        ensures room { HasRoom self.new }
+        ensures none { HasNoEnd self.new }
+        ensures begins { (self.new.length ≡ 0) × (self.new.base ≡ 0) × (self.new.since ≡ 0) }
+    {
+        self.base = 0;
+        self.length = 0;
+        self.mode = 0;
+        self.since = 0;
+        self.word = 0;
+        self.bits = 0;
+        let room = MOST.min(size) / LEAST * LEAST;
+        if self.rows.len() < room {
+            self.columns.resize(room, 0)?;
+            self.ends.resize(room / 64, 0)?;
+            self.rows.resize(room, 0)?;
+        }
+        Ok(())
     }
 }

@@ -145,6 +145,8 @@ fn push_ahead(source: &mut String, ahead: &AheadLists) -> Result<(), AllocError>
     push_number_field(source, "            start", ahead.start)?;
     push_number_field(source, "            width", ahead.width)?;
     push_number_field(source, "            ends", ahead.ends)?;
+    push_number_field(source, "            waiting", ahead.waiting)?;
+    push_number_field(source, "            before", ahead.before)?;
     push_list_field(source, "            cells", &ahead.cells)?;
     source.push_str("        },\n")?;
     Ok(())

@@ -179,12 +179,17 @@ struct Numbers {
 }
 
 // The table of a mode that runs ahead: it reads each byte, on past the ends of tokens. Its cells lead from a row by a column to a
-// row; after those of a row stands the rule of the token that ends there.
+// row; after those of a row stands the rule of the token that ends there. A row waits long if a token is open in it that may not end
+// for 16 characters more. Those rows come right after the first one.
 struct Ahead {
     start: usize,
     width: usize,
     // From this row on a token ended before the last byte.
     ends: usize,
+    // How many rows wait long.
+    waiting: usize,
+    // How many do in the tables of the modes before.
+    before: usize,
     cells: &'static [AheadCell],
 }
 
@@ -199,6 +204,9 @@ const NO_RULE: AheadCell = 65535;
 
 // No block has more bytes than this.
 const MOST: usize = 6144;
+
+// The least bytes of a block: a word for each of the six walks. Each block has a multiple of them.
+const LEAST: usize = 384;
 
 // A block of a text that a table has run through, ahead of the tokens that are cut in it.
 struct Run {
@@ -366,25 +374,17 @@ fn act(numbers: &Numbers, first: usize, state: &mut State, below: &mut [u16]) {
     }
 }
 
-// How many rows in which a token is open the greatest table that runs ahead has; only of these it is noted that no match comes.
-fn most_rows(numbers: &Numbers) -> usize {
-    let mut most = 0;
-    for ahead in numbers.ahead.iter() {
-        most = most.max(ahead.ends / (ahead.width + 1));
-    }
-    most
-}
-
-// How many words the memo for a text of this size has: for each mode as many as the greatest table has use for.
+// How many words the memo for a text of this size has: those of the rows that wait long, of all modes.
 fn memo_size(numbers: &Numbers, size: usize) -> usize {
-    memo_words(most_rows(numbers), size).saturating_mul(numbers.tables.len())
+    let last = &numbers.ahead[numbers.ahead.len() - 1];
+    memo_words(last.before + last.waiting, size)
 }
 
-// Where the mode's part of a memo of `words` words begins and ends. All modes have equal parts.
-fn memo_part(words: usize, modes: usize, mode: u16) -> (usize, usize) {
-    let size = words / modes;
-    let from = mode as usize * size;
-    (from, from + size)
+// Where the part of the table begins and ends in a memo of `words` words for a text of this size: after those of the modes before.
+fn memo_part(ahead: &Ahead, size: usize, words: usize) -> (usize, usize) {
+    let from = memo_words(ahead.before, size).min(words);
+    let to = memo_words(ahead.before + ahead.waiting, size).min(words);
+    (from, to)
 }
 
 // Where the longest match from the place on ends, and its rule, by a new block or without. `None` if nothing matches there.
@@ -406,7 +406,7 @@ fn found(
             return token;
         }
     }
-    let (from, to) = memo_part(memo.len(), numbers.tables.len(), mode);
+    let (from, to) = memo_part(ahead, text.len(), memo.len());
     longest(ahead, table, text, at, &mut memo[from..to])
 }
 
@@ -433,7 +433,7 @@ fn fault(numbers: &Numbers, text: &[u8], state: &mut State, memo: &mut [u64]) ->
     let table = &numbers.tables[state.mode as usize];
     let ahead = &numbers.ahead[state.mode as usize];
     let start = state.at;
-    let (from, to) = memo_part(memo.len(), numbers.tables.len(), state.mode);
+    let (from, to) = memo_part(ahead, text.len(), memo.len());
     state.at = fault_end(ahead, table, text, start, &mut memo[from..to]);
     NumberedPiece {
         kind: None,
@@ -580,15 +580,20 @@ fn rule_of(ahead: &Ahead, row: usize) -> AheadCell {
     ahead.cells[row + ahead.width]
 }
 
-// How many words a memo has for a text of this size, if the table has `rows` rows: a bit for each row and each 64 bytes.
+// How many words of a memo each row has for a text of this size: a bit for each 64 bytes.
+fn row_words(size: usize) -> usize {
+    if size < 64 { 0 } else { size / 4096 + 1 }
+}
+
+// How many words this many rows have.
 fn memo_words(rows: usize, size: usize) -> usize {
-    rows.saturating_mul(size / 4096 + 1)
+    rows.saturating_mul(row_words(size))
 }
 
 // The word of the memo in which the walk's bit is. `None` if a memo of `words` words doesn't have it.
 fn word_of(ahead: &Ahead, size: usize, walk: Walk, words: usize) -> Option<usize> {
-    let row_words = size / 4096 + 1;
-    let number = walk.row / (ahead.width + 1);
+    let row_words = row_words(size);
+    let number = walk.row / (ahead.width + 1) - 1;
     if number >= words / row_words {
         return None;
     }
@@ -678,7 +683,7 @@ fn match_to(ahead: &Ahead, start: usize, last: Walk) -> Option<Match> {
 }
 
 // Reads on from the start until no match comes, and notes where that was in vain. Bits that are new pay for what was read in
-// vain, 64 bytes each, all but the last 128.
+// vain, 64 bytes each, all but the last 192.
 fn read_and_note(
     ahead: &Ahead,
     table: &Table,
@@ -933,9 +938,6 @@ fn ends_of(rows: &[AheadCell], least: usize) -> u64 {
     bits_of(&flags_of(rows, least as AheadCell))
 }
 
-// The least bytes of a block: a word for each of the six walks. Each block has a multiple of them.
-const LEAST: usize = 384;
-
 // Writes a bit for each row: whether it is one of an end. Rows after the last 64 have none.
 fn mark_ends(rows: &[AheadCell], least: usize, ends: &mut [u64]) {
     for word in 0..rows.len() / 64 {
@@ -1047,6 +1049,6 @@ fn block_length(text: &[u8], at: usize, mode: u16, run: &Run) -> usize {
     if is_inside && (at == run.base || run.bits != 0 || run.word == run.length / 64) {
         return 0;
     }
-    MOST.min(text.len() - at).min(at - run.since) / LEAST * LEAST
+    run.rows.len().min(text.len() - at).min(at - run.since) / LEAST * LEAST
 }
 "##;

@@ -1,7 +1,7 @@
 //! What is known at a place of a text where a table runs ahead, and where the next byte leads.
 ghost use Rattle.std.specs.Prelude.{◌≡◌, ◌≢◌, ◌+◌, slice_index, IsTrue, Some};
 ghost use Rattle.lalrpop_dense.specs.DenseTable.{AreClasses};
-ghost use Rattle.lalrpop_emit.specs.Ahead.{Begin, accepts, by_bad, by_class, by_column, by_within, is_end, is_live, is_lost, led, no_rule, opened, row_by, rule_at, rule_number};
+ghost use Rattle.lalrpop_emit.specs.Ahead.{Begin, accepts, by_bad, by_class, by_column, by_within, is_end, is_live, is_lost, is_waiting, led, no_rule, opened, row_by, rule_at, rule_number};
 ghost use Rattle.lalrpop_emit.specs.Internal.Lists.{list_numbers};
 
 use crate::driver::class;
@@ -158,6 +158,16 @@ pub(crate) fn is_lost(standing: Standing) -> bool
     ensures { result ≡ is_lost standing }
 {
     matches!(standing, Standing::Lost)
+}
+
+/// Whether a token is open, and doesn't end here.
+pub(crate) fn is_waiting(table: &TableLists, standing: Standing) -> bool
+    ensures { result ≡ is_waiting (list_numbers table.now) standing }
+{
+    match standing {
+        Standing::In(row) => !accepts(table, row),
+        Standing::Begin | Standing::Lost | Standing::Ended | Standing::Again(_) => false,
+    }
 }
 
 /// Whether the rule of the token that ends here, if one does, has a number that tells it from none.

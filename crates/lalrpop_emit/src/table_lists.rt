@@ -3,7 +3,7 @@ ghost use Rattle.std.specs.Prelude.{◌≡◌, ◌<◌, ◌^◌, ℕ, length, ma
 ghost use Rattle.std.specs.List.{All};
 ghost use Rattle.lalrpop_dense.specs.DenseTable.{IsTableFor, cell_numbers, table_numbers};
 ghost use Rattle.lalrpop_emit.specs.EmitErrors.{IsNumbersError, IsTooLarge};
-ghost use Rattle.lalrpop_emit.specs.NumberedRules.{IsStorableAhead, IsStorableTable};
+ghost use Rattle.lalrpop_emit.specs.NumberedRules.{AreCounted, IsStorableAhead, IsStorableTable};
 ghost use Rattle.lalrpop_emit.specs.Internal.Classes.{IsTableError};
 ghost use Rattle.lalrpop_emit.specs.Internal.Lists.{AreAheadTables, AreBelow, AreModeTables, FitsTable, IsModeTable, ahead_numbers, list_numbers};
 ghost use Rattle.lalrpop_emit.specs.Internal.Walking.{CanRunAhead};
@@ -168,6 +168,16 @@ pub(crate) struct ModeTables {
     pub(crate) aheads: Vec<AheadLists>,
 }
 
+// The table that runs ahead, where as many rows as this wait long in the modes before.
+fn placed(mut ahead: AheadLists, before: usize) -> AheadLists
+    ensures numbers { (result.start ≡ ahead.start) × (result.width ≡ ahead.width) × (result.ends ≡ ahead.ends)
+        × (result.waiting ≡ ahead.waiting) × (result.cells ≡ ahead.cells) }
+    ensures before { result.before ≡ before }
+{
+    ahead.before = before;
+    ahead
+}
+
 /// The numbers of the tables of each mode.
 ///
 /// # Errors
@@ -176,6 +186,7 @@ pub(crate) struct ModeTables {
 /// memory was refused.
 pub(crate) fn mode_tables(alloc: Global, rules: &RuleLexer) -> Result<ModeTables, EmitError>
     requires few { length rules.now.names < 2 ^ 16 }
+    requires few_modes { rules.now.modes < 2 ^ 16 }
     ensures modes { IfOk result (λ made. length made.tables.items ≡ rules.now.modes) }
     ensures tables { IfOk result (λ made.
         AreModeTables rules.now (map list_numbers made.tables.items)) }
@@ -184,15 +195,19 @@ pub(crate) fn mode_tables(alloc: Global, rules: &RuleLexer) -> Result<ModeTables
         AreAheadTables (map ahead_numbers made.aheads.items) (map list_numbers made.tables.items)) }
     ensures storable { IfOk result (λ made.
         All IsStorableAhead (map ahead_numbers made.aheads.items)) }
+    ensures counted { IfOk result (λ made. AreCounted (map ahead_numbers made.aheads.items)) }
     ensures fit { OnOk result ((m : ℕ) → m < rules.now.modes → FitsTable rules.now m) }
     ensures error { IfErr result (IsNumbersError rules.now) }
 {
     let mut tables = Vec::new(alloc);
     let mut aheads = Vec::new(alloc);
+    let mut waiting = 0;
     for mode in 0..rules.modes() {
         let made = mode_table(alloc, rules, mode)?;
         tables.push(made.table)?;
-        aheads.push(made.ahead)?;
+        let ahead = placed(made.ahead, waiting);
+        waiting += ahead.waiting;
+        aheads.push(ahead)?;
     }
     Ok(ModeTables { tables, aheads })
 }

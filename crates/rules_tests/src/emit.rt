@@ -1,5 +1,6 @@
 //! Lexers in numbers: the pieces of texts of bytes, which needn't be UTF-8, and the lexers as source files. Which bytes are characters is
 //! taken from RFC 3629.
+ghost use Rattle.lalrpop_emit.specs.ByteCut.{IsCutOf};
 
 use crate::calls::{Call, expect, expect_lines};
 use crate::rules::{Asked, Lines};
@@ -33,11 +34,36 @@ fn pieces(alloc: Global, numbers: &LexerNumbers, bytes: &[u8]) -> Result<String,
 }
 
 // The same pieces, cut one at a time.
+fn add_cut(
+    line: &mut String,
+    numbers: &LexerNumbers,
+    cutter: &mut ByteCutter,
+    text: &[u8],
+) -> Result<(), AllocError>
+    requires cut { IsCutOf numbers.now text.now cutter.old }
+    ensures cut { IsCutOf numbers.now text.now cutter.new }
+{
+    'pieces: while let Ok(Some(piece)) = cutter.next_piece(numbers, text) {
+        add_piece(line, &piece)?;
+    }
+    Ok(())
+}
+
 fn cut_on(alloc: Global, numbers: &LexerNumbers, text: &[u8]) -> Result<String, AllocError> {
     let mut cutter = ByteCutter::new(alloc, numbers, text.len())?;
     let mut line = String::new(alloc);
-    'pieces: while let Ok(Some(piece)) = cutter.next_piece(numbers, text) {
-        add_piece(&mut line, &piece)?;
+    add_cut(&mut line, numbers, &mut cutter, text)?;
+    Ok(line)
+}
+
+// The pieces of each line, by one cutter.
+fn cut_lines(alloc: Global, numbers: &LexerNumbers, text: &[u8]) -> Result<String, AllocError> {
+    let mut cutter = ByteCutter::new(alloc, numbers, 0)?;
+    let mut line = String::new(alloc);
+    'lines: for bytes in text.split(|byte| *byte == b'\n') {
+        cutter.restart(numbers, bytes.len())?;
+        add_cut(&mut line, numbers, &mut cutter, bytes)?;
+        line.push_str("| ")?;
     }
     Ok(line)
 }
@@ -66,6 +92,7 @@ pub(crate) fn cut(
     match LexerNumbers::new(alloc, lexer) {
         Ok(numbers) => match asked {
             Asked::Cutter => cut_on(alloc, &numbers, bytes),
+            Asked::Again => cut_lines(alloc, &numbers, bytes),
             Asked::Sources => sources(alloc, &numbers),
             _ => pieces(alloc, &numbers, bytes),
         },
@@ -128,6 +155,12 @@ const SIGNS: &[(&[u8], &str)] = &[(b"1<ab<c>>a", "0:1 1:1 3:2 1:1 3:1 2:1 2:1 !1
 
 const IN_BRACKETS: &[(&[u8], &str)] = &[(b"a((bb)b)!a", "0:1 1:1 2:1 4:2 3:1 4:1 3:1 !1 0:1 ")];
 
+// Each line begins in the first mode, whatever the one before ended in.
+const LINES: &[(&[u8], &str)] = &[(
+    b"aa(b\naa)\n\n(bb",
+    "0:2 1:1 4:1 | 0:2 !1 | | 1:1 4:2 | ",
+)];
+
 #[test]
 fn bytes_that_are_no_characters_are_faults(rt: HostRuntime) {
     expect(
@@ -159,6 +192,12 @@ fn bytes_that_are_no_characters_are_faults(rt: HostRuntime) {
         rt.alloc(),
         Call::By(Lines::Brackets, Asked::Cutter),
         IN_BRACKETS,
+    );
+    expect(
+        &rt,
+        rt.alloc(),
+        Call::By(Lines::Brackets, Asked::Again),
+        LINES,
     );
 }
 

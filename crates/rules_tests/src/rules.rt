@@ -21,6 +21,7 @@ pub(crate) enum Asked {
     Stream,
     Numbers,
     Cutter,
+    Again,
     Sources,
     Counts,
     Depth,
@@ -219,7 +220,9 @@ fn asked_of(
 ) -> Result<String, AllocError> {
     let text = str::from_utf8(given).unwrap_or("?");
     match asked {
-        Asked::Numbers | Asked::Cutter | Asked::Sources => emit::cut(alloc, asked, lexer, given),
+        Asked::Numbers | Asked::Cutter | Asked::Again | Asked::Sources => {
+            emit::cut(alloc, asked, lexer, given)
+        }
         _ => asked_of_text(alloc, asked, lexer, text),
     }
 }

@@ -1,9 +1,9 @@
 //! Cuts bytes by a lexer in numbers, as its source files in C and in Rust do.
-ghost use Rattle.std.specs.Prelude.{◌≡◌, ℕ, List, length, drop, map, string_bytes, true, IfOk, OnOk};
+ghost use Rattle.std.specs.Prelude.{◌≡◌, ℕ, List, length, drop, map, string_bytes, true, IfOk, IfSome, OnOk};
 ghost use Rattle.std.specs.Str.{IsCharBoundary};
 ghost use Rattle.bajofeki_rules.specs.Position.{position_of};
 ghost use Rattle.lalrpop_emit.specs.ByteCut.{IsCutOf, place_of};
-ghost use Rattle.lalrpop_emit.specs.BytePieces.{AreBytePieces, numbered};
+ghost use Rattle.lalrpop_emit.specs.BytePieces.{AreBytePieces, IsModePiece, numbered};
 ghost use Rattle.lalrpop_emit.specs.BytePositions.{byte_position_of};
 ghost use Rattle.lalrpop_emit.specs.CSource.{c_file};
 ghost use Rattle.lalrpop_emit.specs.EmitErrors.{HasTooLarge};
@@ -16,8 +16,8 @@ ghost use Rattle.bajofeki_rules.specs.Stack.{Stack, start};
 ghost use Rattle.lalrpop_rules.specs.declared.item.Item.{Item};
 
 use lalrpop_emit::{
-    ByteCutter, BytePieces, BytePosition, EmitError, LexerNumbers, TooDeep, byte_position,
-    c_source, rust_source,
+    ByteCutter, BytePieces, BytePosition, EmitError, LexerNumbers, NumberedPiece, TooDeep,
+    byte_position, c_source, rust_source,
 };
 use lalrpop_rules::RuleLexer;
 use std::alloc::{AllocError, Global};
@@ -66,6 +66,26 @@ pub fn piece_count(
             Err(TooDeep) => return Ok((count, false)),
         }
     }
+}
+
+// Needs lalrpop_emit::ByteCutter::restart: place, stack, cut.
+/// The first piece of another text, by a cutter that has cut one, also where more memory was refused.
+///
+/// # Errors
+///
+/// `TooDeep` if the piece puts more than 1024 modes on top of the first.
+pub fn first_of_another(
+    numbers: &LexerNumbers,
+    cutter: &mut ByteCutter,
+    text: &[u8],
+) -> Result<Option<NumberedPiece>, TooDeep>
+    requires cut { (n : NumberedRules) × ((before : List ℕ) × IsCutOf n before cutter.old) }
+    ensures first { IfOk result (λ first. IfSome first (λ piece. (r : ModeRules)
+        → AreNumbersOf r numbers.now
+        → IsModePiece r numbers.now.kinds text.now 0 start piece)) }
+{
+    let _ = cutter.restart(numbers, text.len());
+    cutter.next_piece(numbers, text)
 }
 
 // Needs lalrpop_emit::ByteCutter::place: place.

@@ -2,10 +2,10 @@
 use Rattle.std.proofs.Common.{◌≡◌, ℕ, List, [], ◌∷◌, ◌++◌, true, false, replicate, take, refl, inl, arith}
 use Rattle.std.specs.Prelude.{Some, None}
 use Rattle.lalrpop_dense.specs.DenseTable.{TableNumbers}
-use Rattle.lalrpop_emit.specs.Ahead.{within_column, standing_after, is_end, rule_at, by_column}
+use Rattle.lalrpop_emit.specs.Ahead.{within_column, standing_after, is_end, is_waiting, rule_at, by_column}
 use Rattle.lalrpop_emit.specs.Internal.Columns.{AreColumns}
 use Rattle.lalrpop_emit.proofs.AheadTokens.{IsNextEnd}
-use Rattle.lalrpop_emit.specs.Ahead.Standing.{Lost, Ended, In, Again}
+use Rattle.lalrpop_emit.specs.Ahead.Standing.{Begin, Lost, Ended, In, Again}
 
 -- one class each for `a` and `b`, and one for the rest; a row that is dead, that of the start, and one for each of the two rules
 abbrev a_or_b : TableNumbers
@@ -77,6 +77,20 @@ opens_after_c = refl
 
 not_ended_within_a_character : is_end (by_column a_or_b 133 (In 8) (within_column 133)) ≡ false
 not_ended_within_a_character = refl
+
+-- the row at 4 accepts nothing
+waits_at_4 : is_waiting a_or_b (In 4) ≡ true
+waits_at_4 = refl
+
+not_waiting_after_a : is_waiting a_or_b (In 8) ≡ false
+not_waiting_after_a = refl
+
+-- a token ended before the last byte, so another is open but this row isn't one that waits
+not_waiting_where_one_ended : is_waiting a_or_b (Again 4) ≡ false
+not_waiting_where_one_ended = refl
+
+not_waiting_at_the_beginning : is_waiting a_or_b Begin ≡ false
+not_waiting_at_the_beginning = refl
 
 -- ---- from end to end
 

@@ -1,5 +1,5 @@
 -- Cases of specs/ByteCut.antt.
-use Rattle.std.proofs.Common.{◌≡◌, ℕ, zero, suc, List, [], ◌∷◌, length, inl, refl, ap, arith}
+use Rattle.std.proofs.Common.{◌≡◌, ℕ, zero, suc, List, [], ◌∷◌, length, replicate, inl, refl, ap, arith}
 use Rattle.std.specs.Prelude.{Option, Some, None}
 use Rattle.lalrpop_hir.specs.Tree.{Tree}
 use Rattle.lalrpop_rules.specs.Found.{MatchesAt}
@@ -7,7 +7,7 @@ use Rattle.bajofeki_rules.specs.declared.action.Action.TheVariants.{Push, Pop}
 use Rattle.bajofeki_rules.specs.Stack.{Stack, start, actions_of}
 use Rattle.lalrpop_rules.specs.Modes.{ModeRules, trees_in}
 use Rattle.lalrpop_dense.specs.DenseTable.{TableNumbers}
-use Rattle.lalrpop_emit.specs.ByteCut.{ByteCut, GivesBytePiece, IsCutOf, IsTooDeep, place_of, stack_in}
+use Rattle.lalrpop_emit.specs.ByteCut.{ByteCut, GivesBytePiece, HasMemoFor, IsCutOf, IsTooDeep, place_of, stack_in}
 use Rattle.lalrpop_emit.specs.BytePieces.{Fits, IsBytePiece, rule_actions}
 use Rattle.lalrpop_emit.specs.NumberedRules.{NumberedRules}
 use Rattle.lalrpop_emit.specs.Internal.Running.{HasRoom}
@@ -138,3 +138,21 @@ no_cut_in_a_mode_that_is_not_there run below h = omega (arith, h.state.there.0)
 
 no_cut_with_more_modes_than_room : (n : NumberedRules) (run : Run) (below : List ℕ) → ¬ IsCutOf n (97 ∷ []) (cut_at run 0 1025 below)
 no_cut_with_more_modes_than_room n run below h = omega (arith, h.room, h.state.within)
+
+-- ---- the memo
+
+-- one mode, in whose table that runs ahead three rows wait
+abbrev three_waiting : TableNumbers → NumberedRules
+three_waiting t = record (one_mode t) { ahead = record { start = 8; width = 1; ends = 10; waiting = 3; before = 0; cells = [] } ∷ [] }
+
+abbrev with_words : Run → ℕ → ByteCut
+with_words run words = record (cut_at run 0 0 []) { memo = replicate words 0 }
+
+two_words_for_each_row : (t : TableNumbers) (run : Run) → HasMemoFor (three_waiting t) 4096 (with_words run 6)
+two_words_for_each_row t run = refl
+
+no_words_for_a_short_text : (t : TableNumbers) (run : Run) → HasMemoFor (three_waiting t) 63 (with_words run 0)
+no_words_for_a_short_text t run = refl
+
+no_word_less : (t : TableNumbers) (run : Run) → ¬ HasMemoFor (three_waiting t) 4096 (with_words run 5)
+no_word_less t run h = omega (arith, h)

@@ -55,7 +55,7 @@ row_of_the_third = refl
 
 -- a table that runs ahead, of two rows
 abbrev ahead : AheadNumbers
-ahead = record { start = 2; width = 1; ends = 4; cells = 0 ∷ 65535 ∷ 0 ∷ 65535 ∷ [] }
+ahead = record { start = 2; width = 1; ends = 4; waiting = 0; before = 3; cells = 0 ∷ 65535 ∷ 0 ∷ 65535 ∷ [] }
 
 -- the number that no rule has fits 16 bits, too
 narrow : cell_type (list_all is_narrow_ahead (ahead ∷ ahead ∷ [])) ≡ codes "uint16_t"
@@ -78,7 +78,7 @@ cells_of_the_third = refl
 none_ahead : ahead_arrays (codes "lex") 0 [] ≡ []
 none_ahead = refl
 
-ahead_of_the_third : ahead_row (codes "lex") 2 ahead ≡ codes "    {lex_ahead_cells_2, 2, 1, 4},\n"
+ahead_of_the_third : ahead_row (codes "lex") 2 ahead ≡ codes "    {lex_ahead_cells_2, 2, 1, 4, 0, 3},\n"
 unfolding ahead_row field filled digits chars lib.Utf8.encode
 ahead_of_the_third = refl
 

@@ -1,9 +1,11 @@
 -- Cases of specs/NumberedRules.antt.
-use Rattle.std.proofs.Common.{◌≡◌, [], ◌∷◌, codes, true, false, refl, arith, lit<}
+use Rattle.std.proofs.Common.{◌≡◌, ℕ, zero, suc, [], ◌∷◌, codes, true, false, refl, sym, ap, arith, lit<}
+use Rattle.std.proofs.lemmas.Option.{same_Some}
 use Rattle.lalrpop_dense.specs.DenseTable.{TableNumbers}
 use Rattle.lalrpop_rules.specs.Modes.{ModeRules}
 use Rattle.bajofeki_rules.specs.declared.action.Action.TheVariants.{Mode, Push, Pop}
-use Rattle.lalrpop_emit.specs.NumberedRules.{NumberedRules, AreAheadOf, AreNumbersOf, AreSameInFile, IsStorable, IsStorableTable, action_number, action_numbers, first_places, actions_of_rules}
+use Rattle.lalrpop_emit.specs.Ahead.{AheadNumbers}
+use Rattle.lalrpop_emit.specs.NumberedRules.{NumberedRules, AreAheadOf, AreCounted, AreNumbersOf, AreSameInFile, IsStorable, IsStorableAhead, IsStorableTable, action_number, action_numbers, first_places, actions_of_rules, row_words, waiting_rows}
 
 number_of_pop : action_number Pop ≡ 1
 number_of_pop = refl
@@ -81,5 +83,37 @@ no_table_more h = let other = h.blocks in cc
 no_table_without_one_ahead : ¬ AreAheadOf [] (wide_table ∷ [])
 no_table_without_one_ahead h = let same = h.all in cc
 
-one_ahead_of_none : ¬ AreAheadOf (record { start = 0; width = 0; ends = 0; cells = [] } ∷ []) []
+one_ahead_of_none : ¬ AreAheadOf (record { start = 0; width = 0; ends = 0; waiting = 0; before = 0; cells = [] } ∷ []) []
 one_ahead_of_none h = let same = h.all in cc
+
+-- ---- rows that wait
+
+abbrev three_wait : ℕ → AheadNumbers
+three_wait before = record { start = 0; width = 0; ends = 0; waiting = 3; before = before; cells = [] }
+
+rows_of_two : waiting_rows (three_wait 0 ∷ three_wait 3 ∷ []) ≡ 6
+rows_of_two = refl
+
+second_is_counted : AreCounted (three_wait 0 ∷ three_wait 3 ∷ [])
+second_is_counted zero a at = sym (ap (λ (b : AheadNumbers). b.before) (same_Some (three_wait 0) a at))
+second_is_counted (suc zero) a at = sym (ap (λ (b : AheadNumbers). b.before) (same_Some (three_wait 3) a at))
+second_is_counted (suc (suc m)) a at = cc
+
+second_is_not_counted : ¬ AreCounted (three_wait 0 ∷ three_wait 0 ∷ [])
+second_is_not_counted h = let before = h 1 (three_wait 0) refl in cc
+
+its_own_rows_do_not_count : ¬ AreCounted (three_wait 3 ∷ [])
+its_own_rows_do_not_count h = let before = h 0 (three_wait 3) refl in cc
+
+no_rows_past_32_bits : ¬ IsStorableAhead (record (three_wait 0) { waiting = 4294967296 })
+no_rows_past_32_bits h = omega (arith, h.waiting)
+
+-- no multiple of 64 but 0 lies in the text
+no_word_for_63_bytes : row_words 63 ≡ 0
+no_word_for_63_bytes = refl
+
+one_word_for_64_bytes : row_words 64 ≡ 1
+one_word_for_64_bytes = refl
+
+two_words_for_4096_bytes : row_words 4096 ≡ 2
+two_words_for_4096_bytes = refl

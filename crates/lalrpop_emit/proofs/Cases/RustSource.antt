@@ -50,8 +50,8 @@ a_list : list_field (codes "pages") (0 ∷ 12 ∷ []) ≡ codes "pages: &[\n0, 1
 unfolding list_field digits
 a_list = refl
 
-ahead_of_one_row : ahead_text (record { start = 0; width = 1; ends = 2; cells = 0 ∷ 65535 ∷ [] })
-    ≡ codes "        Ahead {\n            start: 0,\n            width: 1,\n            ends: 2,\n            cells: &[\n0, 65535, ],\n        },\n"
+ahead_of_one_row : ahead_text (record { start = 0; width = 1; ends = 2; waiting = 0; before = 3; cells = 0 ∷ 65535 ∷ [] })
+    ≡ codes "        Ahead {\n            start: 0,\n            width: 1,\n            ends: 2,\n            waiting: 0,\n            before: 3,\n            cells: &[\n0, 65535, ],\n        },\n"
 unfolding ahead_text number_field list_field digits
 ahead_of_one_row = refl
 
@@ -63,7 +63,7 @@ unfolding table_text list_field digits small
 table_of_one_page = refl
 
 ahead : AheadNumbers
-ahead = record { start = 0; width = 1; ends = 65536; cells = 65535 ∷ [] }
+ahead = record { start = 0; width = 1; ends = 65536; waiting = 0; before = 0; cells = 65535 ∷ [] }
 
 -- 65,535 still fits 16 bits
 narrow : cell_type (list_all is_narrow_ahead (ahead ∷ [])) ≡ codes "u16"

@@ -4,11 +4,11 @@ use Rattle.std.specs.List.{sum_by}
 use Rattle.std.specs.Char.{encode_utf8}
 use Rattle.std.specs.Int.{bit_at}
 use Rattle.lalrpop_dense.specs.DenseTable.{TableNumbers}
-use Rattle.lalrpop_emit.specs.Ahead.{AheadNumbers, character_column, no_rule}
+use Rattle.lalrpop_emit.specs.Ahead.{AheadNumbers, IsCounted, character_column, no_rule}
 use Rattle.lalrpop_emit.specs.Internal.AheadRows.{IsRowOf}
 use Rattle.lalrpop_emit.specs.Internal.Characters.{IsCharacterAt}
 use Rattle.lalrpop_emit.specs.Internal.Running.{OfMode}
-use Rattle.lalrpop_emit.specs.NumberedRules.{NumberedRules}
+use Rattle.lalrpop_emit.specs.NumberedRules.{NumberedRules, row_words}
 
 -- the character at the place leads from the row to one in which the same token is open: neither that of `Lost`, at 0, nor that of an end
 pub record IsStep (a : AheadNumbers) (t : TableNumbers) (text : List ℕ) (row at row2 at2 : ℕ) : Type 0 where
@@ -52,16 +52,16 @@ pub record IsPassed (text : List ℕ) (at : ℕ) : Type 0 where
   pub place : at ≡ before + length (encode_utf8 character)
   pub passes : before / 64 < at / 64
 
--- the word of the row and the place: each row has a bit for each 64 bytes of a text of this size
+-- the word of the row and the place: each row but the first has a bit for each 64 bytes of a text of this size
 abbrev pub memo_word : AheadNumbers → ℕ → ℕ → ℕ → ℕ
-memo_word a size row at = row / (a.width + 1) * (size / 4096 + 1) + at / 4096
+memo_word a size row at = (row / (a.width + 1) - 1) * (size / 4096 + 1) + at / 4096
 
 abbrev pub IsNoted : List ℕ → AheadNumbers → ℕ → ℕ → ℕ → Type 0
 IsNoted memo a size row at = bit_at (slice_index memo (memo_word a size row at)) (at / 64 % 64) ≡ 1
 
 -- what is noted holds of the text, wherever a walk began
 abbrev pub IsMemoFor : AheadNumbers → TableNumbers → List ℕ → List ℕ → Type 0
-IsMemoFor a t text memo = (row at : ℕ) → IsRowOf a row → IsPassed text at → IsNoted memo a (length text) row at → NothingFrom a t text row at
+IsMemoFor a t text memo = (row at : ℕ) → IsRowOf a row → 0 < row → IsPassed text at → IsNoted memo a (length text) row at → NothingFrom a t text row at
 
 -- ---- what is read in vain, and what pays for it
 
@@ -78,9 +78,13 @@ set_bits word = set_below word 64
 abbrev pub noted_count : List ℕ → ℕ
 noted_count memo = sum_by set_bits memo
 
--- there is a bit for each row in which a token is open, as those that begin before `ends` are, and each 64 bytes of a text of this size
+-- the row is one of those that wait long
+abbrev pub IsWaitingRow : AheadNumbers → ℕ → Type 0
+IsWaitingRow a row = IsRowOf a row × IsCounted a row
+
+-- each row that waits long has its words for a text of this size
 abbrev pub IsRoomy : AheadNumbers → ℕ → List ℕ → Type 0
-IsRoomy a size memo = (a.ends + a.width) / (a.width + 1) * (size / 4096 + 1) ≤ length memo
+IsRoomy a size memo = a.waiting * row_words size ≤ length memo
 
 -- this number of characters leads on from the row at the place to another
 abbrev pub LeadOn : AheadNumbers → TableNumbers → List ℕ → ℕ → ℕ → ℕ → ℕ → ℕ → Type 0
@@ -94,12 +98,13 @@ pub record IsReadTo (a : AheadNumbers) (t : TableNumbers) (text memo : List ℕ)
   pub lead : LeadOn a t text row at characters row_there end
   pub stop : StopsAt a t text row_there end ⊎ (IsPassed text end × IsNoted memo a (length text) row_there end)
 
--- this number of characters leads on from the row at the place to the end; before that none passes where a bit is set
+-- this number of characters leads on from the row at the place to the end, and no match ends; before the end none passes where a bit is set for a row that waits long
 abbrev pub LeadToEnd : AheadNumbers → TableNumbers → List ℕ → List ℕ → ℕ → ℕ → ℕ → ℕ → Type 0
 LeadToEnd a t text memo end zero row at = at ≡ end
 LeadToEnd a t text memo end (suc n) row at =
     (row2 : ℕ) × (at2 : ℕ)
-    × (IsStep a t text row at row2 at2 × (at2 < end → at / 64 < at2 / 64 → ¬ IsNoted memo a (length text) row2 at2) × LeadToEnd a t text memo end n row2 at2)
+    × (IsStep a t text row at row2 at2 × (slice_index a.cells (row2 + a.width) ≡ no_rule)
+    × (IsWaitingRow a row2 → at2 < end → at / 64 < at2 / 64 → ¬ IsNoted memo a (length text) row2 at2) × LeadToEnd a t text memo end n row2 at2)
 
 abbrev pub IsInVain : AheadNumbers → TableNumbers → List ℕ → List ℕ → ℕ → ℕ → ℕ → Type 0
 IsInVain a t text memo end row at = (n : ℕ) × LeadToEnd a t text memo end n row at
@@ -115,21 +120,21 @@ pub record Call : Type 0 where
 abbrev pub vain : Call → ℕ
 vain call = call.end - call.last
 
--- bits that are new pay for what it read in vain, 64 bytes each, all but the last 128
+-- bits that are new pay for what it read in vain, 64 bytes each, all but the last 192
 pub record IsPaid (call : Call) : Type 0 where
   pub behind : call.last ≤ call.end
   pub size : length call.after ≡ length call.before
-  pub paid : call.end + 64 * noted_count call.before ≤ call.last + 64 * noted_count call.after + 128
+  pub paid : call.end + 64 * noted_count call.before ≤ call.last + 64 * noted_count call.after + 192
 
 -- the first call finds this memo, and each further one that which the call before it left; each is paid for
 abbrev pub ArePaid : List ℕ → List Call → Type 0
 ArePaid memo [] = Unit {0}
 ArePaid memo (call ∷ calls) = (call.before ≡ memo) × IsPaid call × ArePaid call.after calls
 
--- the part of the mode: each of the modes has an equal one
-abbrev pub memo_part : ℕ → ℕ → List ℕ → List ℕ
-memo_part modes mode memo = take (length memo / modes) (drop (mode * (length memo / modes)) memo)
+-- the part of a table: the words of its rows that wait long, for a text of this size, after those of the tables before
+abbrev pub memo_part : AheadNumbers → ℕ → List ℕ → List ℕ
+memo_part a size memo = take (a.waiting * row_words size) (drop (a.before * row_words size) memo)
 
 -- what is noted in the part of each mode holds of the text, by the tables of that mode
 abbrev pub IsMemoOf : NumberedRules → List ℕ → List ℕ → Type 0
-IsMemoOf n text memo = (mode : ℕ) → OfMode n mode (λ a t. IsMemoFor a t text (memo_part (length n.tables) mode memo))
+IsMemoOf n text memo = (mode : ℕ) → OfMode n mode (λ a t. IsMemoFor a t text (memo_part a (length text) memo))

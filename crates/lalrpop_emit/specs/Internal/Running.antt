@@ -11,12 +11,11 @@ use Rattle.lalrpop_emit.specs.Internal.Walking.{AreRulesBelow}
 use Rattle.lalrpop_emit.specs.NumberedRules.{NumberedRules}
 use Rattle.lalrpop_emit.specs.declared.run.Run.{Run}
 
--- a block of 6144 bytes fits
+-- blocks fit of as many bytes as it has rows
 pub record HasRoom (run : Run) : Type 0 where
-  pub columns : 6144 ≤ length run.columns.items
-  pub rows : 6144 ≤ length run.rows.items
-  pub ends : 96 ≤ length run.ends.items
-  pub length : run.length ≤ 6144
+  pub columns : length run.rows.items ≤ length run.columns.items
+  pub ends : length run.rows.items ≤ length run.ends.items * 64
+  pub length : run.length ≤ length run.rows.items
   pub word : run.word ≤ run.length / 64
 
 -- 64 bits, for the rows from w * 64 on: each is set just if its row is one of an end

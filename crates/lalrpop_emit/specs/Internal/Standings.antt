@@ -9,10 +9,10 @@ use Rattle.lalrpop_emit.specs.declared.regular_ahead.Shape.{Shape}
 abbrev pub live_row : Shape → ℕ → ℕ
 live_row s k = (s.dead + k) * s.stride
 
--- one row for no token, one for the beginning, one for each live row, one for an end, and one for each live row again
+-- one row for no token, one for each live row, one for the beginning, one for an end, and one for each live row again
 abbrev pub standings_of : Shape → List Standing
 standings_of s =
-    Lost ∷ Begin ∷ (map (λ k. In (live_row s k)) (range_with_len 0 s.live) ++ (Ended ∷ map (λ k. Again (live_row s k)) (range_with_len 0 s.live)))
+    Lost ∷ (map (λ k. In (live_row s k)) (range_with_len 0 s.live) ++ (Begin ∷ Ended ∷ map (λ k. Again (live_row s k)) (range_with_len 0 s.live)))
 
 -- what the row with this number stands for
 abbrev pub standing_at : Shape → ℕ → Standing
@@ -21,8 +21,8 @@ standing_at s k = get_or (standings_of s) k Lost
 -- where each stands among them
 abbrev pub place_in : Shape → Standing → ℕ
 place_in s Lost = 0
-place_in s Begin = 1
-place_in s (In row) = row / s.stride - s.dead + 2
+place_in s Begin = s.live + 1
+place_in s (In row) = row / s.stride - s.dead + 1
 place_in s Ended = s.live + 2
 place_in s (Again row) = row / s.stride - s.dead + s.live + 3
 

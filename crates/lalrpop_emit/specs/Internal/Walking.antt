@@ -5,7 +5,7 @@ use Rattle.lalrpop_dense.specs.DenseTable.{TableNumbers, AreClasses, row_after}
 use Rattle.bajofeki_rules.specs.EnteredModes.{OneLeadsInto}
 use Rattle.bajofeki_rules.specs.declared.action.Action.{Action}
 use Rattle.lalrpop_emit.specs.Ahead.{AheadNumbers, IsAheadOf}
-use Rattle.lalrpop_emit.specs.NumberedRules.{NumberedRules, action_number}
+use Rattle.lalrpop_emit.specs.NumberedRules.{AreCounted, NumberedRules, action_number}
 
 -- each character has a class, and each word leads to a row
 pub record IsWalkable (t : TableNumbers) : Type 0 where
@@ -37,4 +37,5 @@ pub record IsDrivable (n : NumberedRules) : Type 0 where
   pub first : length n.first_actions ≡ length n.kinds
   pub actions : (i place : ℕ) → slice_get n.first_actions i ≡ Some place → (actions : List Action) × AreActionsAt n.actions (length n.tables) place actions
   pub as_many : length n.ahead ≡ length n.tables
+  pub counted : AreCounted n.ahead
   pub ahead : (m : ℕ) (a : AheadNumbers) (t : TableNumbers) → slice_get n.ahead m ≡ Some a → slice_get n.tables m ≡ Some t → CanRunAhead a t

@@ -14,7 +14,7 @@ rows_fit c =
     let old = c.args.run.now in
     let new = c.run_through.new in
     let rows = with_items_is old.rows new.rows (c.run_through.auto.rows ∙ ap length c.deref_mut-2.ensures.value ∙ sym old.rows.ok.0) in
-    omega (arith, c.requires.most, c.requires.room.rows, old.rows.ok, ap length rows, c.run_through.auto.rows, ap length c.deref_mut-2.ensures.value, ap length c.deref.ensures.value)
+    omega (arith, c.requires.most, old.rows.ok, ap length rows, c.run_through.auto.rows, ap length c.deref_mut-2.ensures.value, ap length c.deref.ensures.value)
 
 pub slice_bounds-mark_ends-end : goal.slice_bounds-mark_ends-end
 slice_bounds-mark_ends-end c = sym (length-take-le c.args.size c.deref.result.now (rows_fit (goal.at.slice_bounds-mark_ends-end c).After-deref))
@@ -55,7 +55,7 @@ returns-clause-place c =
     let old = c.args.run.now in
     let marked = c.mark_ends.new.ends in
     let ends = with_items_is old.ends marked (c.mark_ends.auto.ends ∙ ap length c.deref_mut-3.ensures.value ∙ sym old.ends.ok.0) in
-    let some : 0 < length (with_items old.ends marked).items = omega (arith, c.requires.room.ends, old.ends.ok, ap length ends, c.mark_ends.auto.ends, ap length c.deref_mut-3.ensures.value) in
+    let some : 0 < length (with_items old.ends marked).items = omega (arith, c.requires.parts.1, c.requires.most, c.requires.room.ends, old.ends.ok, ap length ends, c.mark_ends.auto.ends, ap length c.deref_mut-3.ensures.value) in
     at_beginning (ahead_numbers c.args.ahead.now) (list_numbers c.args.table.now) c.args.text.now _ (returns-clause-run c)
     (omega (arith, c.requires.parts.1, c.requires.parts.2)) refl
     (get_or_read (with_items old.ends marked).items 0 c.index.result.now some c.index.ensures 0)

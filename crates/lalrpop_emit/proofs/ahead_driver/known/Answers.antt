@@ -31,7 +31,7 @@ module _ (c : In_ok-end) (row : ℕ) (read : row ≡ slice_index_or c.next_end.n
   row_read =
       let inside = within c in
       let room = c.in_ok-end.ensures.room in
-      get_or_read c.next_end.new.run.rows.items (c.in_ok-end.end - 1) row (omega (arith, inside, room.length, room.rows)) read 0
+      get_or_read c.next_end.new.run.rows.items (c.in_ok-end.end - 1) row (omega (arith, inside, room.length)) read 0
 
   cell_there : row + c.args.ahead.now.width < length c.args.ahead.now.cells.items
   cell_there =
@@ -50,7 +50,7 @@ pub index-requires : goal.index-requires
 index-requires c =
     let inside = within (goal.at.index-requires c).In_ok-end in
     let room = c.in_ok-end.ensures.room in
-    omega (arith, inside, room.length, room.rows, c.next_end.new.run.rows.ok)
+    omega (arith, inside, room.length, c.next_end.new.run.rows.ok)
 
 pub overflow_add-index : goal.overflow_add-index
 overflow_add-index c = omega (arith, cell_there (goal.at.overflow_add-index c).In_ok-end c.index.result.now c.index.ensures, c.args.ahead.now.cells.ok, c.args.ahead.now.cells.small)

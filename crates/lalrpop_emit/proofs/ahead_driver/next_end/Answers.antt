@@ -28,7 +28,6 @@ words-preserved c =
       };
       room = record {
         columns = room.columns;
-        rows = room.rows;
         ends = room.ends;
         length = room.length;
         word = omega (arith, c.if-run.false);

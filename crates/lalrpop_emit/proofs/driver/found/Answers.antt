@@ -4,7 +4,7 @@ use Rattle.lalrpop_emit.specs.Internal.Running.{IsRunOf}
 use Rattle.lalrpop_emit.specs.declared.run.Run.{Run}
 use Rattle.lalrpop_emit.proofs.Driving.{mode_read, ahead_read, walkable_there}
 use Rattle.lalrpop_emit.proofs.Found.{IsFoundAt, found_in, found_known}
-use Rattle.lalrpop_emit.proofs.ModeMemos.{memo_by_part, memo_of_part, part_read, tables_read}
+use Rattle.lalrpop_emit.proofs.ModeMemos.{memo_by_part, memo_of_part, tables_read}
 use Rattle.lalrpop_emit.proofs.ModeRuns.{begun, filled}
 use Rattle.lalrpop_emit.proofs.driver.found.Goals as goal
 use Rattle.lalrpop_emit.proofs.driver.found.Goals.{then-length-gt0+else-is_some, else-length-gt0}
@@ -73,36 +73,41 @@ returns-then-is_some-clause-run c =
     filled n c.args.at c.args.text.now (ahead_numbers x) (list_numbers t) c.args.mode c.args.run.now c.fill_block.new.run c.known-token.new.run ahead mode.there c.requires.run c.fill_block.ensures.run
     c.fill_block.ensures.begins c.known-token.ensures.same c.known-token.ensures.room (c.known-token.ensures.serves (list_numbers t) c.args.text.now c.args.at serves)
 
+pub memo_part-from-requires : goal.memo_part-from-requires
+memo_part-from-requires c =
+    let n = c.args.numbers.now in
+    let read = tables_read _ n c.numbers.inside.tables.items c.numbers.inside.ahead.items c.args.mode c.index-table.result.now c.index-ahead.result.now c.numbers.view_is c.numbers.invariant refl refl c.requires.mode
+    c.index-table.ensures c.index-ahead.ensures in
+    read.small
+
 pub longest-requires-clause-ahead : goal.longest-requires-clause-ahead
 longest-requires-clause-ahead c =
     let n = c.args.numbers.now in
-    let read = tables_read _ n c.numbers.inside.tables.items c.numbers.inside.ahead.items c.args.mode c.index-table.result.now c.index-ahead.result.now c.numbers.view_is c.numbers.invariant.1 refl refl c.requires.mode
+    let read = tables_read _ n c.numbers.inside.tables.items c.numbers.inside.ahead.items c.args.mode c.index-table.result.now c.index-ahead.result.now c.numbers.view_is c.numbers.invariant refl refl c.requires.mode
     c.index-table.ensures c.index-ahead.ensures in
     read.can.right
 
 pub longest-requires-clause-classes : goal.longest-requires-clause-classes
 longest-requires-clause-classes c =
     let n = c.args.numbers.now in
-    let read = tables_read _ n c.numbers.inside.tables.items c.numbers.inside.ahead.items c.args.mode c.index-table.result.now c.index-ahead.result.now c.numbers.view_is c.numbers.invariant.1 refl refl c.requires.mode
+    let read = tables_read _ n c.numbers.inside.tables.items c.numbers.inside.ahead.items c.args.mode c.index-table.result.now c.index-ahead.result.now c.numbers.view_is c.numbers.invariant refl refl c.requires.mode
     c.index-table.ensures c.index-ahead.ensures in
     read.walkable.classes
 
 pub longest-requires-clause-narrow : goal.longest-requires-clause-narrow
 longest-requires-clause-narrow c =
     let n = c.args.numbers.now in
-    let read = tables_read _ n c.numbers.inside.tables.items c.numbers.inside.ahead.items c.args.mode c.index-table.result.now c.index-ahead.result.now c.numbers.view_is c.numbers.invariant.1 refl refl c.requires.mode
+    let read = tables_read _ n c.numbers.inside.tables.items c.numbers.inside.ahead.items c.args.mode c.index-table.result.now c.index-ahead.result.now c.numbers.view_is c.numbers.invariant refl refl c.requires.mode
     c.index-table.ensures c.index-ahead.ensures in
     omega (arith, read.can.few)
 
 pub longest-requires-clause-memo : goal.longest-requires-clause-memo
 longest-requires-clause-memo c =
     let n = c.args.numbers.now in
-    let read = tables_read _ n c.numbers.inside.tables.items c.numbers.inside.ahead.items c.args.mode c.index-table.result.now c.index-ahead.result.now c.numbers.view_is c.numbers.invariant.1 refl refl c.requires.mode
+    let read = tables_read _ n c.numbers.inside.tables.items c.numbers.inside.ahead.items c.args.mode c.index-table.result.now c.index-ahead.result.now c.numbers.view_is c.numbers.invariant refl refl c.requires.mode
     c.index-table.ensures c.index-ahead.ensures in
-    let part = part_read _ n c.numbers.inside.tables.items c.args.mode c.args.memo.now c.len.result c.memo_part-from.result.0 c.memo_part-from.result.1 c.numbers.view_is refl (omega (arith, c.len.ensures, c.numbers.inside.tables.ok.0)) c.memo_part-from.ensures.from
-    c.memo_part-from.ensures.to c.memo_part-from.ensures.within in
-    memo_of_part n c.args.mode c.args.text.now c.args.memo.now c.memo_part-from.result.0 c.memo_part-from.result.1 (ahead_numbers c.index-ahead.result.now) (list_numbers c.index-table.result.now) part
-    read.ahead read.table c.requires.memo
+    memo_of_part n c.args.mode c.args.text.now c.args.memo.now c.memo_part-from.result.0 c.memo_part-from.result.1 (ahead_numbers c.index-ahead.result.now) (list_numbers c.index-table.result.now)
+    (record { begins = c.memo_part-from.ensures.from; ends = c.memo_part-from.ensures.to }) read.ahead read.table c.requires.memo
 
 pub returns-clause-answer : goal.returns-clause-answer
 returns-clause-answer c = λ u at_u d h ts ps s.
@@ -139,9 +144,7 @@ returns-clause-run c =
 pub returns-clause-memo : goal.returns-clause-memo
 returns-clause-memo c =
     let n = c.args.numbers.now in
-    let read = tables_read _ n c.numbers.inside.tables.items c.numbers.inside.ahead.items c.args.mode c.index-table.result.now c.index-ahead.result.now c.numbers.view_is c.numbers.invariant.1 refl refl c.requires.mode
+    let read = tables_read _ n c.numbers.inside.tables.items c.numbers.inside.ahead.items c.args.mode c.index-table.result.now c.index-ahead.result.now c.numbers.view_is c.numbers.invariant refl refl c.requires.mode
     c.index-table.ensures c.index-ahead.ensures in
-    let part = part_read _ n c.numbers.inside.tables.items c.args.mode c.args.memo.now c.len.result c.memo_part-from.result.0 c.memo_part-from.result.1 c.numbers.view_is refl (omega (arith, c.len.ensures, c.numbers.inside.tables.ok.0)) c.memo_part-from.ensures.from
-    c.memo_part-from.ensures.to c.memo_part-from.ensures.within in
     memo_by_part n c.args.mode c.args.text.now c.args.memo.now c.longest.new.memo c.memo_part-from.result.0 c.memo_part-from.result.1 (ahead_numbers c.index-ahead.result.now)
-    (list_numbers c.index-table.result.now) part read.ahead read.table c.requires.memo c.longest.auto.memo c.longest.ensures.memo
+    (list_numbers c.index-table.result.now) read.counted (record { begins = c.memo_part-from.ensures.from; ends = c.memo_part-from.ensures.to }) read.ahead read.table c.requires.memo c.longest.auto.memo c.longest.ensures.memo

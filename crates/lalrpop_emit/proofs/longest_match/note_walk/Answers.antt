@@ -28,6 +28,9 @@ note-requires-clause-passed c =
     passed (ahead_numbers c.args.ahead.now) (list_numbers c.args.table.now) c.args.text.now c.again.walk.row c.again.walk.at c.in-Some.next.row c.in-Some.next.at c.in-Some.ensures.step
     (c.passes.ensures.0 c.if-passes.true)
 
+pub note-requires-clause-place : goal.note-requires-clause-place
+note-requires-clause-place c = (let passes = c.passes.ensures.0 c.if-passes.true in omega (arith, passes), c.in-Some.ensures.place.1)
+
 pub again-preserved-then-passes : goal.again-preserved-then-passes
 again-preserved-then-passes c =
     let a = ahead_numbers c.args.ahead.now in
@@ -37,13 +40,13 @@ again-preserved-then-passes c =
     let next = c.in-Some.next in
     let nothing = nothing_behind a t text walk.row walk.at next.row next.at c.in-Some.ensures.step c.again.invariant.nothing in
     record {
-      row = c.in-Some.ensures.row;
+      row = c.in-Some.ensures.row.0;
       nothing = nothing;
       memo = c.note.ensures.right t nothing c.again.invariant.memo;
       paid = λ roomy vain.
           paid_pass a t text c.args.memo.now c.again.memo c.args.end c.args.from.at walk.row walk.at next.row next.at (c.again.invariant.paid roomy vain) (omega (arith, c.again-test.true))
           c.in-Some.ensures.step c.note.new.memo c.requires.ahead c.again.invariant.row (c.passes.ensures.0 c.if-passes.true) c.note.ensures.others c.note.ensures.never_fewer
-          (λ before. c.note.ensures.one_more before (omega (arith, roomy, c.again.auto.memo)));
+          (λ waits. c.note.ensures.one_more waits (omega (arith, roomy, c.again.auto.memo)));
     }
 
 pub again-preserved : goal.again-preserved
@@ -54,7 +57,7 @@ again-preserved c =
     let walk = c.again.walk in
     let next = c.in-Some.next in
     record {
-      row = c.in-Some.ensures.row;
+      row = c.in-Some.ensures.row.0;
       nothing = nothing_behind a t text walk.row walk.at next.row next.at c.in-Some.ensures.step c.again.invariant.nothing;
       memo = c.again.invariant.memo;
       paid = λ roomy vain.

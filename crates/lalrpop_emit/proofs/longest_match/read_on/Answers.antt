@@ -23,10 +23,18 @@ walk-init c =
       in_vain = λ roomy end vain. vain;
     }
 
+pub is_noted-requires-clause-place : goal.is_noted-requires-clause-place
+is_noted-requires-clause-place c = (let passes = c.passes.ensures.0 c.if-passes.true in omega (arith, passes), c.in-Some.ensures.place.1)
+
 pub returns-in_default-clause-nothing : goal.returns-in_default-clause-nothing
 returns-in_default-clause-nothing c =
     c.walk.invariant.since
     (nothing_stops (ahead_numbers c.args.ahead.now) (list_numbers c.args.table.now) c.args.text.now c.walk.walk.row c.walk.walk.at c.in_default.ensures.step)
+
+pub returns-then-is_noted-clause-row : goal.returns-then-is_noted-clause-row
+returns-then-is_noted-clause-row c =
+    row_kept (ahead_numbers c.args.ahead.now) (list_numbers c.args.table.now) c.args.text.now c.walk.walk c.walk.last c.in-Some.next c.last_of-last.result c.in-Some.ensures.step c.last_of-last.ensures
+    c.walk.invariant.last_row c.in-Some.ensures.row.0
 
 pub returns-then-is_noted-clause-last : goal.returns-then-is_noted-clause-last
 returns-then-is_noted-clause-last c =
@@ -40,7 +48,7 @@ returns-then-is_noted-clause-nothing c =
     let next = c.in-Some.next in
     let passes = passed a t c.args.text.now c.walk.walk.row c.walk.walk.at next.row next.at c.in-Some.ensures.step (c.passes.ensures.0 c.if-passes.true) in
     since_kept a t c.args.text.now c.walk.walk c.walk.last next c.last_of-last.result c.in-Some.ensures.step c.last_of-last.ensures c.walk.invariant.since
-    (c.requires.memo next.row next.at c.in-Some.ensures.row passes (c.is_noted.ensures.noted c.if-is_noted.true))
+    (c.requires.memo next.row next.at c.in-Some.ensures.row.0 c.in-Some.ensures.row.1 passes (c.is_noted.ensures.noted c.if-is_noted.true))
 
 pub walk-preserved : goal.walk-preserved
 walk-preserved c =
@@ -51,8 +59,8 @@ walk-preserved c =
     let s = c.in-Some.ensures.step in
     let is = c.last_of-last.ensures in
     record {
-      row = c.in-Some.ensures.row;
-      last_row = row_kept a t text c.walk.walk c.walk.last next c.last_of-last.result s is c.walk.invariant.last_row c.in-Some.ensures.row;
+      row = c.in-Some.ensures.row.0;
+      last_row = row_kept a t text c.walk.walk c.walk.last next c.last_of-last.result s is c.walk.invariant.last_row c.in-Some.ensures.row.0;
       behind = last_behind a t text c.args.memo.now c.walk.walk c.walk.last next c.last_of-last.result s is c.walk.invariant.behind;
       lead = lead_more a t text c.args.start c.walk.walk.row c.walk.walk.at next.row next.at c.walk.invariant.lead s;
       last = last_kept a t text c.walk.walk c.walk.last next c.last_of-last.result s is c.args.start c.walk.invariant.lead c.walk.invariant.last;
@@ -60,8 +68,8 @@ walk-preserved c =
       lead_on = lead_on a t text c.walk.walk c.walk.last next c.last_of-last.result s is c.walk.invariant.lead_on;
       in_vain = λ roomy end vain.
           vain_last a t text c.args.memo.now end c.walk.walk c.walk.last next c.last_of-last.result s is (c.walk.invariant.in_vain roomy end)
-          (λ before passes noted. elim c.else-passes.branch [
-            | else-passes-via-then-passes+else-is_noted w ↦ let holds = w.is_noted.ensures.not_noted c.in-Some.ensures.row s.no_end roomy noted in let fails = w.if-is_noted.false in cc
+          (λ none waits before passes noted. elim c.else-passes.branch [
+            | else-passes-via-then-passes+else-is_noted w ↦ let holds = w.is_noted.ensures.not_noted waits roomy noted in let fails = w.if-is_noted.false in cc
             | else-passes-via-else-passes w ↦ let holds = c.passes.ensures.1 passes in let fails = w.if-passes.false in cc
           ]) vain;
     }
@@ -98,4 +106,4 @@ returns-then-is_noted-clause-behind c =
 pub returns-then-is_noted-clause-in_vain : goal.returns-then-is_noted-clause-in_vain
 returns-then-is_noted-clause-in_vain c = λ roomy.
     vain_last (ahead_numbers c.args.ahead.now) (list_numbers c.args.table.now) c.args.text.now c.args.memo.now c.in-Some.next.at c.walk.walk c.walk.last c.in-Some.next c.last_of-last.result
-    c.in-Some.ensures.step c.last_of-last.ensures (c.walk.invariant.in_vain roomy c.in-Some.next.at) (λ before passes noted. omega (arith, before)) (0, refl)
+    c.in-Some.ensures.step c.last_of-last.ensures (c.walk.invariant.in_vain roomy c.in-Some.next.at) (λ none waits before passes noted. omega (arith, before)) (0, refl)

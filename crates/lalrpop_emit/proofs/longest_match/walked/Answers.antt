@@ -47,7 +47,7 @@ returns-clause-row c =
     let t = list_numbers c.args.table.now in
     let s = column_step a t c.args.text.now c.args.walk.row c.args.walk.at c.in-Some.column.number c.in-Some.column.size c.index.result.now c.requires.ahead c.requires.row c.in-Some.ensures c.index.ensures
     (c.is_open.ensures.0 c.if-not-is_open.false) in
-    step_row a t c.args.text.now c.args.walk.row c.args.walk.at c.index.result.now (c.args.walk.at + c.in-Some.column.size) s c.requires.ahead c.requires.row
+    (step_row a t c.args.text.now c.args.walk.row c.args.walk.at c.index.result.now (c.args.walk.at + c.in-Some.column.size) s c.requires.ahead c.requires.row, s.some)
 
 pub column_at-requires-clause-small : goal.column_at-requires-clause-small
 column_at-requires-clause-small c = λ k high low. omega (arith, c.requires.ahead.beyond k high low, c.requires.narrow)

@@ -1,18 +1,10 @@
-use Rattle.std.proofs.Common.{inl, arith, rules}
-use Rattle.lalrpop_emit.proofs.ModeMemos.{memo_begins}
+use Rattle.std.proofs.Common.{[], arith}
+use Rattle.lalrpop_emit.proofs.CutBegins.{cut_begins}
 use Rattle.lalrpop_emit.proofs.byte_cutter.ByteCutter.new.Goals as goal
 
-pub returns-clause-cut : goal.returns-clause-cut
-returns-clause-cut c = λ text. record {
-  room = search rules;
-  within = search rules;
-  state = search rules;
-  run = (let made = c.in_ok-run.ensures in record {
-    room = made.room;
-    behind = omega (arith, made.begins.1);
-    since = omega (arith, made.begins.2);
-    block = λ a t at_a at_t. inl made.begins.0;
-    serves = λ a t at_a at_t. inl made.none;
-  });
-  memo = memo_begins c.args.numbers.now text c.in_ok-memo.memo.items c.memo_size.result (c.in_ok-memo.ensures.items_if_clones_equal (λ y e. e));
-}
+pub restart-requires : goal.restart-requires
+restart-requires c =
+    let below = c.in_ok-vec.field-0 in
+    let cut = cut_begins _ c.args.numbers.now [] below.items c.new-2.result.items 0 c.new.result c.numbers.view_is c.numbers.invariant.1 (omega (arith, below.ok, c.in_ok-vec.ensures.len)) c.new.ensures.room c.new.ensures.none
+    c.new.ensures.begins c.new-2.ensures.items in
+    record { cut = (c.args.numbers.now, ([], cut)) }

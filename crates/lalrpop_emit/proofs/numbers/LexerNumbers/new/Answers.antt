@@ -38,6 +38,7 @@ invariant_of-result c =
       few_modes = c.in_ok-check_rules.ensures.modes.1;
       tables = c.in_ok-made.ensures.tables;
       all_ahead = omega (arith, length-map c.in_ok-made.made.aheads.items ahead_numbers, length-map tables list_numbers, c.in_ok-made.ensures.all, c.in_ok-made.ensures.modes);
+      counted = c.in_ok-made.ensures.counted;
       run_ahead = c.in_ok-made.ensures.ahead;
       ahead = c.in_ok-made.ensures.storable;
     } in

@@ -1,6 +1,6 @@
 use Rattle.std.proofs.Common.{◌-◌, length}
 use Rattle.lalrpop_emit.specs.ByteCut.{IsCutOf, place_of}
-use Rattle.rules_tests.proofs.emit.cut_on.Given as goal
+use Rattle.rules_tests.proofs.emit.add_cut.Given as goal
 
 abbrev pub invariant-pieces : goal.invariant-pieces
 invariant-pieces l = IsCutOf l.numbers l.text l.cutter
