@@ -167,7 +167,7 @@ typedef struct {
    - a lexer lies in its room from bajofeki_build on, one build a room, and a cutter from bajofeki_begin to bajofeki_end, a
      document from bajofeki_document_begin to bajofeki_document_end, a stream from bajofeki_stream_begin to bajofeki_stream_end;
    - a lexer is freed once, when what was begun by it has ended. It stays where it was built: no copy of it is used;
-   - the lexer and the text of a cutter are the same, unchanged, at each call;
+   - the lexer and the text of a cutter are the same, unchanged, at each call, until it begins again;
    - no pointer is null, not even to 0 bytes; lengths are true; an array overlaps nothing else.
    The room stays the caller's, before and after. */
 
@@ -222,6 +222,10 @@ void bajofeki_free(bajofeki_lexer *lexer);
 /* Begins the cut of a text in the room. Any text may be cut by it, but one of another size than this maybe more slowly. Gives
    BAJOFEKI_DONE, BAJOFEKI_OUT_OF_MEMORY or BAJOFEKI_NO_LEXER; in each case bajofeki_end is owed. */
 uint32_t bajofeki_begin(const bajofeki_lexer *lexer, bajofeki_cutter *cutter, size_t size);
+
+/* Begins the cut of another text in a cutter that has been begun, by this lexer or another; its memory serves again. Gives what
+   bajofeki_begin gives; bajofeki_end is owed once. */
+uint32_t bajofeki_begin_again(const bajofeki_lexer *lexer, bajofeki_cutter *cutter, size_t size);
 
 /* Cuts the text on, from where the call before ended, and writes the pieces, as many as the array takes. */
 bajofeki_cut_t bajofeki_cut(const bajofeki_lexer *lexer, bajofeki_cutter *cutter, const char *text, size_t length, bajofeki_piece_t *out,
@@ -457,16 +461,26 @@ typedef struct {
     bajofeki_place_t place; /* the last one that was asked for */
 } bajofeki_text;
 
+/* Other bytes before the first piece, in the memory of a text that was begun, by its lexer or another. Quicker for many short texts than
+   bajofeki_text_begin, and else as it; bajofeki_text_end is owed once. */
+static inline void bajofeki_text_begin_again(bajofeki_text *text, const bajofeki_lexer *lexer, const char *bytes, size_t length) {
+    bajofeki_text again = {lexer, length == 0 ? "" : bytes, length, BAJOFEKI_DONE, text->cutter, {0, 1, 1}};
+    if (lexer == NULL || bajofeki_is_bad(bytes, length, 1)) {
+        again.code = lexer == NULL ? BAJOFEKI_NO_LEXER : BAJOFEKI_BAD_ARGUMENT;
+    } else if (again.cutter != NULL) {
+        again.code = bajofeki_begin_again(lexer, again.cutter, length);
+    } else {
+        again.cutter = (bajofeki_cutter *)malloc(bajofeki_cutter_size());
+        again.code = again.cutter == NULL ? (uint32_t)BAJOFEKI_OUT_OF_MEMORY : bajofeki_begin(lexer, again.cutter, length);
+    }
+    *text = again;
+}
+
 /* The bytes before the first piece. bajofeki_text_end is owed. Its code is BAJOFEKI_DONE, BAJOFEKI_OUT_OF_MEMORY, BAJOFEKI_NO_LEXER or
    BAJOFEKI_BAD_ARGUMENT. */
 static inline bajofeki_text bajofeki_text_begin(const bajofeki_lexer *lexer, const char *bytes, size_t length) {
-    bajofeki_text text = {lexer, length == 0 ? "" : bytes, length, BAJOFEKI_DONE, NULL, {0, 1, 1}};
-    if (lexer == NULL || bajofeki_is_bad(bytes, length, 1)) {
-        text.code = lexer == NULL ? BAJOFEKI_NO_LEXER : BAJOFEKI_BAD_ARGUMENT;
-        return text;
-    }
-    text.cutter = (bajofeki_cutter *)malloc(bajofeki_cutter_size());
-    text.code = text.cutter == NULL ? (uint32_t)BAJOFEKI_OUT_OF_MEMORY : bajofeki_begin(lexer, text.cutter, length);
+    bajofeki_text text = {NULL, NULL, 0, BAJOFEKI_NO_LEXER, NULL, {0, 1, 1}};
+    bajofeki_text_begin_again(&text, lexer, bytes, length);
     return text;
 }
 

@@ -46,6 +46,8 @@ static void check_no_lexer(void) {
     CHECK(text.code == BAJOFEKI_NO_LEXER && bajofeki_text_next(&text, &piece, 1).code == BAJOFEKI_NO_LEXER);
     CHECK(bajofeki_text_place(&text, 1).line == 0 && bajofeki_text_place(NULL, 1).line == 0);
     CHECK(bajofeki_text_next(NULL, &piece, 1).code == BAJOFEKI_BAD_ARGUMENT);
+    bajofeki_text_begin_again(&text, NULL, "a", 1);
+    CHECK(text.code == BAJOFEKI_NO_LEXER && text.cutter == NULL);
     bajofeki_text_end(&text);
     bajofeki_text_end(NULL);
     bajofeki_lexer_delete(NULL);
@@ -451,6 +453,56 @@ static void check_sums(const bajofeki_lexer *lexer, const char *bytes, size_t le
     CHECK(sum_of(lexer, bytes, length, 1000, &left) == sum && (left > 0 || sum == wanted));
 }
 
+/* A sum over the pieces of a text, and the code after them. */
+static uint64_t sum_of_text(bajofeki_text *text) {
+    bajofeki_piece_t pieces[64];
+    bajofeki_cut_t cut;
+    uint64_t sum = 0;
+    do {
+        cut = bajofeki_text_next(text, pieces, 64);
+        for (size_t i = 0; i < cut.count; i++) {
+            sum = sum_more(sum, pieces[i]);
+        }
+    } while (cut.code == BAJOFEKI_FULL);
+    return sum * 31 + cut.code;
+}
+
+/* 1000 lines in the memory of one text, by two lexers in turn, have the pieces of texts of their own, also once memory was refused. */
+static void check_again(void) {
+    static const char nested[] = "OPEN push INITIAL = '('\nNAME = /[a-z]+x/\n", bytes[] = "let  abx(\xFF";
+    bajofeki_lexer *lexers[] = {bajofeki_lexer_new(three, strlen(three)), bajofeki_lexer_new(nested, strlen(nested))};
+    bajofeki_text again = bajofeki_text_begin(lexers[0], NULL, 0);
+    char line[2000];
+    size_t refused = 0;
+    uint32_t seed = 1;
+    for (size_t n = 0; n < 1000; n++) {
+        size_t length = n % 50 == 49 ? sizeof line : n % 47;
+        bajofeki_text fresh;
+        for (size_t i = 0; i < length; i++) {
+            seed = seed * 1664525 + 1013904223;
+            line[i] = bytes[(seed >> 16) % (sizeof bytes - 1)];
+        }
+        granted = n % 7 > 0 ? SIZE_MAX : 0;
+        bajofeki_text_begin_again(&again, lexers[n % 2], line, length);
+        if (is_refused(again.code)) {
+            CHECK(bajofeki_text_next(&again, NULL, 0).code == BAJOFEKI_OUT_OF_MEMORY);
+            bajofeki_text_begin_again(&again, lexers[n % 2], line, length);
+            refused++;
+        }
+        fresh = bajofeki_text_begin(lexers[n % 2], line, length);
+        CHECK(sum_of_text(&again) == sum_of_text(&fresh));
+        bajofeki_text_end(&fresh);
+    }
+    CHECK(refused > 0);
+    bajofeki_text_begin_again(&again, lexers[0], NULL, 1);
+    CHECK(again.code == BAJOFEKI_BAD_ARGUMENT && bajofeki_text_next(&again, NULL, 0).code == BAJOFEKI_BAD_ARGUMENT);
+    bajofeki_text_begin_again(&again, lexers[0], "let", 3);
+    CHECK(bajofeki_text_next(&again, NULL, 0).code == BAJOFEKI_FULL);
+    bajofeki_text_end(&again);
+    bajofeki_lexer_delete(lexers[0]);
+    bajofeki_lexer_delete(lexers[1]);
+}
+
 static char *read_file(const char *path, size_t *length) {
     FILE *stream = fopen(path, "rb");
     char *bytes = (char *)malloc(1 << 20);
@@ -498,6 +550,7 @@ int main(int count, char **words) {
     check_document();
     check_stream();
     check_memory();
+    check_again();
     for (int i = 1; i + 1 < count; i += 2) {
         check_files(words[i], words[i + 1], (uint32_t)i);
     }

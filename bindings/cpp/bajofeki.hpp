@@ -121,6 +121,13 @@ class text_pieces {
         state(const state &) = delete;
         ~state() { bajofeki_text_end(&text); }
 
+        void begin_again(const bajofeki_lexer *lexer, const std::string *names_of, std::string_view bytes) {
+            bajofeki_text_begin_again(&text, lexer, bytes.data(), bytes.size());
+            names = names_of;
+            cut = {BAJOFEKI_FULL, 0, 0};
+            at = 0;
+        }
+
         /* Whether there is a further piece. */
         bool fill() {
             if (at == cut.count && cut.code == BAJOFEKI_FULL) {
@@ -135,12 +142,19 @@ class text_pieces {
     };
     std::unique_ptr<state> state_;
     friend class lexer;
-    text_pieces(const bajofeki_lexer *lexer, const std::string *names, std::string_view text)
-        : state_(std::make_unique<state>(lexer, names, text)) {
+    text_pieces(const bajofeki_lexer *lexer, const std::string *names, std::string_view text, text_pieces before)
+        : state_(std::move(before.state_)) {
+        if (state_) {
+            state_->begin_again(lexer, names, text);
+        } else {
+            state_ = std::make_unique<state>(lexer, names, text);
+        }
         detail::check(state_->text.code);
     }
 
 public:
+    text_pieces() = default; // no pieces
+
     class iterator {
         state *state_ = nullptr;
         piece piece_ = {};
@@ -202,7 +216,10 @@ public:
         }
     }
 
-    text_pieces pieces(std::string_view text) const { return text_pieces(get(), names_.data(), text); }
+    /* Those of another text may be given, whose memory then serves again: `pieces = lexer.pieces(line, std::move(pieces));`. */
+    text_pieces pieces(std::string_view text, text_pieces before = {}) const {
+        return text_pieces(get(), names_.data(), text, std::move(before));
+    }
 
     /* The names of the rules. */
     const std::vector<std::string> &rules() const noexcept { return names_; }

@@ -52,6 +52,10 @@ void check_lexer() {
     CHECK(moved.ansi("let") != "" && throws<std::invalid_argument>([&] { moved.html("\xFF"); }));
     CHECK(moved.c_source().substr(0, 8) == "/* lex: " && moved.rust_source().substr(0, 3) == "// ");
     CHECK(throws<std::invalid_argument>([&] { moved.c_source("1ex"); }) && throws<std::logic_error>([&] { lexer.rust_source(); }));
+    for (const char *line : {"let", "", "?", "let"}) {
+        none = moved.pieces(line, std::move(none));
+        CHECK(none.begin() == none.end() ? *line == 0 : none.begin()->text == line);
+    }
     CHECK(throws<std::out_of_range>([&] { moved.lookahead(1); }) && throws<std::logic_error>([&] { lexer.pieces("a"); }));
     CHECK(throws<std::logic_error>([&] { lexer.html("a"); }) && throws<std::logic_error>([&] { bajofeki::document(std::move(lexer)); }));
     CHECK(!std::is_copy_constructible_v<bajofeki::lexer> && std::is_nothrow_move_constructible_v<bajofeki::lexer>);

@@ -26,6 +26,7 @@ __all__ = """Arrays Change Checked Columns Document Item Kind Lexer NotUtf8Error
 _DONE, _BAD_RANGE, _BAD_NAME, _FULL, _NOT_UTF8, _TOO_DEEP, _TOO_LARGE, _OUT_OF_MEMORY, _ENDED, _BAD_ARGUMENT = 0, 1, 1, 2, 3, 4, 6, 7, 8, 10
 _NO_RULE = 4
 _ROOM = 4096
+_SHORT = 1 << 16
 _PIECES = struct.Struct("@INNN")
 _made = tuple.__new__
 
@@ -258,13 +259,14 @@ class Lexer:
         if report.code:
             raise _rules_error(report, _word(room.words), lambda rule: _name(room.words, rule))
         numbers = range(LIBRARY.bajofeki_rules(room.words))
-        self._file, self._room = rules, room
+        # A cutter for the next text, which one thread at most takes out.
+        self._file, self._room, self._spare = rules, room, deque(maxlen=1)
         self.rules = tuple(Rule(_name(room.words, rule), LIBRARY.bajofeki_skips(room.words, rule)) for rule in numbers)
         self._names = [(rule.name, number) for number, rule in enumerate(self.rules)]
 
     def __reduce__(self):
         # A copy, or one from a pickle, is built anew, without a subclass's own `__init__`: a lexer stays in its room.
-        more = {name: it for name, it in vars(self).items() if name not in ("_file", "_names", "_room", "rules")}
+        more = {name: it for name, it in vars(self).items() if name not in ("_file", "_names", "_room", "_spare", "rules")}
         return _rebuilt, (type(self), self._file), more or None
 
     def __repr__(self):
@@ -392,9 +394,14 @@ class Lexer:
     def _blocks(self, text):
         """The pieces of a text as blocks of bytes, each valid up to the next, and where the last of a block ends. The rest of a text that
         goes too deep is one of the kind 3."""
-        begin = lambda it: LIBRARY.bajofeki_begin(self._room.words, it, text.size)
-        cutter = _Room(LIBRARY.bajofeki_cutter_size(), begin, LIBRARY.bajofeki_end, self._room)
-        pieces, code = (_Piece * min(_ROOM, text.size or 1))(), cutter.begun or _FULL
+        try:
+            cutter = self._spare.pop()
+            code = LIBRARY.bajofeki_begin_again(self._room.words, cutter.words, text.size) or _FULL
+        except IndexError:
+            begin = lambda it: LIBRARY.bajofeki_begin(self._room.words, it, text.size)
+            cutter = _Room(LIBRARY.bajofeki_cutter_size(), begin, LIBRARY.bajofeki_end, self._room)
+            code = cutter.begun or _FULL
+        pieces = (_Piece * min(_ROOM, text.size or 1))()
         view = memoryview(pieces).cast("B")
         try:
             while code == _FULL:
@@ -408,7 +415,11 @@ class Lexer:
             if code == _OUT_OF_MEMORY:
                 raise MemoryError("no memory for the cut of a text")
         finally:
-            cutter.end()
+            # That of a long text takes much memory. In a cycle that is garbage it has ended already.
+            if text.size < _SHORT and cutter.end.alive:
+                self._spare.append(cutter)
+            else:
+                cutter.end()
 
 
 def _bytes_of(text):

@@ -62,6 +62,7 @@ FUNCTIONS = {
     "bajofeki_rust_source": (Page, [c_void_p, c_char_p, c_size_t]),
     "bajofeki_free": (None, [c_void_p]),
     "bajofeki_begin": (c_uint32, [c_void_p, c_void_p, c_size_t]),
+    "bajofeki_begin_again": (c_uint32, [c_void_p, c_void_p, c_size_t]),
     "bajofeki_cut": (Cut, [c_void_p, c_void_p, c_void_p, c_size_t, POINTER(Piece), c_size_t]),
     "bajofeki_end": (None, [c_void_p]),
     "bajofeki_document_size": (c_size_t, []),

@@ -133,6 +133,7 @@ extern "C" {
     fn bajofeki_rust_source(lexer: *const c_void, out: *mut u8, room: usize) -> Page;
     fn bajofeki_free(lexer: *mut c_void);
     fn bajofeki_begin(lexer: *const c_void, cutter: *mut c_void, size: usize) -> u32;
+    fn bajofeki_begin_again(lexer: *const c_void, cutter: *mut c_void, size: usize) -> u32;
     fn bajofeki_cut(
         lexer: *const c_void,
         cutter: *mut c_void,
@@ -433,6 +434,14 @@ impl<'a> Cutting<'a> {
         }
     }
 
+    /// The cut of another text, in the memory of this one.
+    pub fn begin_again(&mut self, text: &'a [u8]) {
+        // SAFETY: the lexer lies there, and what `begin` left.
+        self.code =
+            unsafe { bajofeki_begin_again(self.held.at(), self.begun.at_mut(), text.len()) };
+        self.text = text;
+    }
+
     /// 0, or why there is no cut.
     pub fn code(&self) -> u32 {
         self.code
@@ -440,7 +449,7 @@ impl<'a> Cutting<'a> {
 
     /// The next pieces, as many as the array takes.
     pub fn cut(&mut self, out: &mut [Piece]) -> Cut {
-        // SAFETY: the lexer and the cutter lie there; the lexer and the text are those of `begin`; the slices are what they are.
+        // SAFETY: the lexer and the cutter lie there; the lexer and the text are those with which it began; the slices are what they are.
         unsafe {
             bajofeki_cut(
                 self.held.at(),

@@ -140,23 +140,52 @@ impl Error for OutOfMemory {}
 
 impl<'a, T: Text + ?Sized> Items<'a, T> {
     pub(crate) fn new(lexer: &'a Lexer, text: &'a T) -> Result<Items<'a, T>, OutOfMemory> {
-        let bytes = text.as_ref();
-        let cutting = Cutting::begin(&lexer.held, bytes);
-        let mut pieces = Vec::new();
-        let room = bytes.len().clamp(1, ROOM);
-        if cutting.code() != DONE || pieces.try_reserve_exact(room).is_err() {
-            return Err(OutOfMemory);
-        }
-        pieces.resize(room, Piece::default());
-        Ok(Items {
+        let mut items = Items {
             lexer,
             text,
-            cutting,
-            pieces,
+            cutting: Cutting::begin(&lexer.held, text.as_ref()),
+            pieces: Vec::new(),
             next: 0,
             count: 0,
-            code: FULL,
-        })
+            code: DONE,
+        };
+        items.get_ready()?;
+        Ok(items)
+    }
+
+    /// Begins again, with another text. The memory serves again: many short texts take less time than by [`Lexer::items`] for each.
+    ///
+    /// # Errors
+    ///
+    /// [`OutOfMemory`], if the cut gets no memory. Then it has no items.
+    ///
+    /// ```
+    /// let lexer = bajofeki::Lexer::new("A = 'a'\nB = 'b'\n")?;
+    /// let mut items = lexer.items("");
+    /// for line in ["a", "", "b?"] {
+    ///     items.begin_again(line)?;
+    ///     assert_eq!(items.by_ref().count(), line.len());
+    /// }
+    /// # Ok::<(), Box<dyn std::error::Error>>(())
+    /// ```
+    pub fn begin_again(&mut self, text: &'a T) -> Result<(), OutOfMemory> {
+        self.text = text;
+        self.cutting.begin_again(text.as_ref());
+        self.get_ready()
+    }
+
+    /// Once the cut has begun.
+    fn get_ready(&mut self) -> Result<(), OutOfMemory> {
+        (self.next, self.count, self.code) = (0, 0, DONE);
+        let room = self.text.as_ref().len().clamp(1, ROOM);
+        let more = room.saturating_sub(self.pieces.len());
+        if self.cutting.code() != DONE || self.pieces.try_reserve_exact(more).is_err() {
+            return Err(OutOfMemory);
+        }
+        self.pieces
+            .resize(self.pieces.len() + more, Piece::default());
+        self.code = FULL;
+        Ok(())
     }
 
     fn cut_on(&mut self) {

@@ -118,3 +118,17 @@ fn streams() -> Result<(), Box<dyn std::error::Error>> {
     assert_eq!(found, [(Kind::Skipped, &b" "[..]), (Kind::Fault, b"\xC3"), (Kind::Token, b"(")]);
     Ok(())
 }
+
+#[test]
+fn lines_in_one_memory() -> Result<(), Box<dyn std::error::Error>> {
+    let (lexer, mut chance) = (Lexer::new(RULES)?, Chance(3));
+    let lines: Vec<_> = (0..300).map(|n| chance.text(if n % 50 == 49 { 3000 } else { 60 })).collect();
+    let mut items = lexer.items("");
+    for line in &lines {
+        items.begin_again(line)?;
+        items.nth(1);
+        items.begin_again(line)?;
+        assert_eq!(parts(items.by_ref()), parts(lexer.items(line)));
+    }
+    Ok(())
+}

@@ -28,6 +28,14 @@ Begins (Err f) size (Err e) = e ≡ NoLexer
 abbrev pub IsBegun : Held → ℕ → Cutting → Type 0
 IsBegun h size c = Begins h.made size c.cutter
 
+-- it is the cut of some text, by some numbers, if there is one
+abbrev pub IsOfSome : Result ByteCut BeginError → Type 0
+IsOfSome (Ok c) = (n : NumberedRules) × ((text : List ℕ) × IsCutOf n text c)
+IsOfSome (Err e) = Unit {0}
+
+abbrev pub WasBegun : Cutting → Type 0
+WasBegun c = IsOfSome c.cutter
+
 abbrev pub code_in : Result ByteCut BeginError → ℕ
 code_in (Ok c) = 0
 code_in (Err OutOfMemory) = 7

@@ -1,6 +1,6 @@
 //! A text's cut, as it is kept between calls.
 ghost use Rattle.std.specs.Prelude.{◌≡◌};
-ghost use Rattle.bajofeki_c.specs.Cutting.{IsBegun, begin_code};
+ghost use Rattle.bajofeki_c.specs.Cutting.{IsBegun, WasBegun, begin_code};
 
 use crate::held::Held;
 use lalrpop_emit::ByteCutter;
@@ -47,6 +47,23 @@ pub fn code_of(cutting: &Cutting) -> u32
         Err(BeginError::OutOfMemory) => 7,
         Err(BeginError::NoLexer) => 9,
     }
+}
+
+/// Before the first piece of another text, of `size` bytes, by this lexer or another. The memory of the cut that there is serves again.
+/// Gives its code.
+pub fn begin_again(held: &Held, cutting: &mut Cutting, alloc: Global, size: usize) -> u32
+    requires cut { WasBegun cutting.old }
+    ensures begun { IsBegun held.now size cutting.new }
+    ensures code { result ≡ begin_code cutting.new }
+{
+    if let (Ok(lexer), Ok(cutter)) = (&held.made, &mut cutting.cutter) {
+        if cutter.restart(&lexer.numbers, size).is_err() {
+            cutting.cutter = Err(BeginError::OutOfMemory);
+        }
+    } else {
+        *cutting = begin(held, alloc, size);
+    }
+    code_of(cutting)
 }
 
 /// Gives the memory of a cut back.

@@ -43,6 +43,7 @@ ghost use Rattle.std.specs.Borrow.{sem};
 ghost use Rattle.bajofeki_c.specs.Check.{IsChecked};
 ghost use Rattle.bajofeki_c.specs.Compare.{IsCompared};
 ghost use Rattle.bajofeki_c.specs.Cut.{GoesOn};
+ghost use Rattle.bajofeki_c.specs.Cutting.{WasBegun};
 ghost use Rattle.bajofeki_c.specs.Document.{ArePiecesTold, IsOffset, IsPlace, text_of};
 ghost use Rattle.bajofeki_c.specs.Draw.{IsDrawing};
 ghost use Rattle.bajofeki_c.specs.Look.{IsLookOf, mode_count};
@@ -60,7 +61,7 @@ ghost use Rattle.bajofeki_c.specs.declared.page.Markup.TheVariants.{Ansi, Html};
 pub use check::{Checked, check_into};
 pub use compare::compare_into;
 pub use cut::{Cut, Piece, cut_on};
-pub use cutting::{BeginError, Cutting, begin, code_of, let_cutting_go};
+pub use cutting::{BeginError, Cutting, begin, begin_again, code_of, let_cutting_go};
 pub use document::{
     Count, Document, DocumentError, Edit, begin_document, edit_document, let_document_go,
     offset_in_document, pieces_into, place_in_document, text_into,
@@ -323,8 +324,33 @@ pub unsafe extern "C" fn bajofeki_begin(
     code_of(&*(cutter as *const Cutting))
 }
 
+/// Begins the cut of another text, of `size` bytes, where one has begun, by this lexer or another. The memory of that cut serves
+/// again.
+///
+/// The code is as for `bajofeki_begin`. `bajofeki_end` is owed once.
+#[unsafe(no_mangle)]
+pub unsafe extern "C" fn bajofeki_begin_again(
+    lexer: *const u8,
+    cutter: *mut u8,
+    alloc: Global,
+    size: usize,
+) -> u32
+    ghost both: { Cutter }
+    requires* held { sem 𝓛 (seen_at lexer both.view) ∗ sem 𝓛 (cutting_at cutter both.cutting) }
+    requires cut { WasBegun both.cutting }
+    ensures* begun { sem 𝓛 (seen_at lexer both.view)
+        ∗ sem 𝓛 (begun_at cutter both.view.held size result) }
+{
+    begin_again(
+        &*(lexer as *const Held),
+        &mut *(cutter as *mut Cutting),
+        alloc,
+        size,
+    )
+}
+
 /// Cuts the text on, and writes its pieces, as many as the array has room for. The lexer and the text are those of the calls
-/// before, by this cut.
+/// since the cut began.
 #[unsafe(no_mangle)]
 pub unsafe extern "C" fn bajofeki_cut(
     lexer: *const u8,
