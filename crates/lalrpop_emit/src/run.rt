@@ -1,5 +1,5 @@
 //! A block of a text that a table has run through.
-ghost use Rattle.std.specs.Prelude.{◌≡◌};
+ghost use Rattle.std.specs.Prelude.{◌≡◌, ◌*◌, ◌/◌, ◌≤◌, length, min, OnOk};
 ghost use Rattle.lalrpop_emit.specs.Internal.Running.{HasRoom, HasNoEnd};
 
 use std::alloc::{AllocError, Global};
@@ -65,6 +65,7 @@ impl Run {
         requires room { HasRoom self.old }
         ensures room { HasRoom self.new }
         ensures none { HasNoEnd self.new }
+        ensures enough { OnOk result (min 6144 size / 384 * 384 ≤ length self.new.rows.items) }
         ensures begins { (self.new.length ≡ 0) × (self.new.base ≡ 0) × (self.new.since ≡ 0) }
     {
         self.base = 0;
