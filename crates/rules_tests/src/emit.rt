@@ -156,10 +156,7 @@ const SIGNS: &[(&[u8], &str)] = &[(b"1<ab<c>>a", "0:1 1:1 3:2 1:1 3:1 2:1 2:1 !1
 const IN_BRACKETS: &[(&[u8], &str)] = &[(b"a((bb)b)!a", "0:1 1:1 2:1 4:2 3:1 4:1 3:1 !1 0:1 ")];
 
 // Each line begins in the first mode, whatever the one before ended in.
-const LINES: &[(&[u8], &str)] = &[(
-    b"aa(b\naa)\n\n(bb",
-    "0:2 1:1 4:1 | 0:2 !1 | | 1:1 4:2 | ",
-)];
+const LINES: &[(&[u8], &str)] = &[(b"aa(b\naa)\n\n(bb", "0:2 1:1 4:1 | 0:2 !1 | | 1:1 4:2 | ")];
 
 #[test]
 fn bytes_that_are_no_characters_are_faults(rt: HostRuntime) {
