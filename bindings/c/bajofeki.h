@@ -17,8 +17,8 @@
    A text that is edited is a bajofeki_document, which keeps its pieces and takes UTF-8 alone; one that comes in chunks is a bajofeki_stream.
 
    Places and lengths are in bytes, rules are numbered from 0 in the order of their lines, lines and columns count from 1, and columns
-   are in characters. Nothing here keeps a pointer to the file of rules. What only reads a lexer may be called by several threads at
-   once on one lexer; a cut, a document and a stream are one thread's at a time. */
+   are in characters, but bajofeki_place_from counts others too. Nothing here keeps a pointer to the file of rules. What only reads a lexer
+   may be called by several threads at once on one lexer; a cut, a document and a stream are one thread's at a time. */
 #ifndef BAJOFEKI_H
 #define BAJOFEKI_H
 #include <stdbool.h>
@@ -59,7 +59,8 @@ enum {
     BAJOFEKI_FOUND = 1,   /* something was found, the file means something else than it seems to, or something differs */
     BAJOFEKI_REFUSED = 2, /* rules clash, or one can't be compiled */
     BAJOFEKI_UNREAD = 3,  /* a line is wrong, or a rule's text doesn't parse */
-    BAJOFEKI_NO_RULE = 4  /* no rule has the name; else BAJOFEKI_OUT_OF_MEMORY, or, if a name isn't UTF-8, BAJOFEKI_BAD_ARGUMENT */
+    BAJOFEKI_NO_RULE = 4  /* no rule has the name; else BAJOFEKI_OUT_OF_MEMORY, or, if a name isn't UTF-8, BAJOFEKI_BAD_ARGUMENT; or by
+                             the second part of this file BAJOFEKI_OTHER_VERSION */
 };
 
 /* What became of the page of a text, or of a source file: the code of a page. */
@@ -305,8 +306,39 @@ uint32_t bajofeki_version(void);
 
    A null pointer to 0 bytes or 0 places is fine everywhere, and a null lexer counts as none. */
 
+/* What columns count: units of UTF-16 as the protocol of language servers does. In a text that isn't UTF-8 each byte counts as a character
+   but those from 0x80 to 0xBF. */
+enum {
+    BAJOFEKI_BYTES = 0,
+    BAJOFEKI_CHARACTERS = 1,
+    BAJOFEKI_UTF16 = 2
+};
+
 static inline bool bajofeki_is_bad(const void *pointer, size_t count, size_t size) {
     return count > PTRDIFF_MAX / size || (pointer == NULL && count > 0);
+}
+
+/* The place of an offset of a text, counted on from an earlier one, at first from {0, 1, 1}; the columns of both count the same. Asked in
+   their order, all places are found in one pass. Of a document the text is a copy of the line, which bajofeki_document_offset finds. All
+   numbers are 0 of bad arguments, as a place after the offset. */
+static inline bajofeki_place_t bajofeki_place_from(bajofeki_place_t place, const char *text, size_t length, size_t at, uint32_t columns) {
+    bajofeki_place_t none = {0, 0, 0}, on = {0, 0, 0};
+    size_t start, pairs = 0, width;
+    if (bajofeki_is_bad(text, length, 1) || place.at > length || place.at > at || columns > BAJOFEKI_UTF16) {
+        return none;
+    }
+    on = bajofeki_position(length == 0 ? "" : text + place.at, length - place.at, at - place.at);
+    start = place.at + on.at;
+    while (columns != BAJOFEKI_CHARACTERS && start > place.at && text[start - 1] != '\n') {
+        start--;
+        /* So begins each character that is two units in UTF-16. */
+        pairs += (size_t)((unsigned char)text[start] >= 0xF0 && (unsigned char)text[start] < 0xF5);
+    }
+    place.at += on.at;
+    width = columns == BAJOFEKI_BYTES ? place.at - start : on.column - 1 + pairs;
+    place.column = on.line == 1 ? place.column + width : 1 + width;
+    place.line += on.line - 1;
+    return place;
 }
 
 /* A lexer, or what says why there is none, to be deleted by bajofeki_lexer_delete. NULL if the arguments are bad, malloc refused, or the
@@ -409,13 +441,20 @@ static inline bajofeki_page_t bajofeki_lexer_rust_source(const bajofeki_lexer *l
     return lexer == NULL ? page : bajofeki_rust_source(lexer, is_bad || room == 0 ? none : out, is_bad ? 0 : room);
 }
 
+/* Without a check: the code for bad arguments, or for a library of another version. */
+static inline bajofeki_checked_t bajofeki_unchecked(void) {
+    bajofeki_checked_t none = {BAJOFEKI_BAD_ARGUMENT, 0, 0};
+    none.code = bajofeki_version() == BAJOFEKI_VERSION ? (uint32_t)BAJOFEKI_BAD_ARGUMENT : (uint32_t)BAJOFEKI_OTHER_VERSION;
+    return none;
+}
+
 /* As bajofeki_check, of a file whose name ends with a 0; with NULL it is `rules`. With an `out` of NULL nothing is written. */
 static inline bajofeki_checked_t bajofeki_rules_check(const char *name, const char *rules, size_t length, bool is_json, char *out, size_t room) {
     char none[1];
     const char *file = name == NULL ? "rules" : name;
-    bajofeki_checked_t checked = {BAJOFEKI_BAD_ARGUMENT, 0, 0};
+    bajofeki_checked_t checked = bajofeki_unchecked();
     bool is_bad = bajofeki_is_bad(out, room, 1);
-    if (bajofeki_is_bad(rules, length, 1)) {
+    if (checked.code == BAJOFEKI_OTHER_VERSION || bajofeki_is_bad(rules, length, 1)) {
         return checked;
     }
     return bajofeki_check(file, strlen(file), length == 0 ? "" : rules, length, is_json, is_bad || room == 0 ? none : out, is_bad ? 0 : room);
@@ -426,9 +465,9 @@ static inline bajofeki_checked_t bajofeki_rules_diff(const char *name, const cha
                                                      const char *other, size_t other_length, char *out, size_t room) {
     char none[1];
     const char *first = name == NULL ? "rules" : name, *second = other_name == NULL ? "others" : other_name;
-    bajofeki_checked_t checked = {BAJOFEKI_BAD_ARGUMENT, 0, 0};
+    bajofeki_checked_t checked = bajofeki_unchecked();
     bool is_bad = bajofeki_is_bad(out, room, 1);
-    if (bajofeki_is_bad(rules, length, 1) || bajofeki_is_bad(other, other_length, 1)) {
+    if (checked.code == BAJOFEKI_OTHER_VERSION || bajofeki_is_bad(rules, length, 1) || bajofeki_is_bad(other, other_length, 1)) {
         return checked;
     }
     return bajofeki_diff(first, strlen(first), length == 0 ? "" : rules, length, second, strlen(second), other_length == 0 ? "" : other,
@@ -441,9 +480,9 @@ static inline bajofeki_checked_t bajofeki_rules_dot(const char *name, const char
                                                     size_t room) {
     char none[1];
     const char *file = name == NULL ? "rules" : name, *drawn = rule == NULL ? "" : rule;
-    bajofeki_checked_t checked = {BAJOFEKI_BAD_ARGUMENT, 0, 0};
+    bajofeki_checked_t checked = bajofeki_unchecked();
     bool is_bad = bajofeki_is_bad(out, room, 1);
-    if (bajofeki_is_bad(rules, length, 1)) {
+    if (checked.code == BAJOFEKI_OTHER_VERSION || bajofeki_is_bad(rules, length, 1)) {
         return checked;
     }
     return bajofeki_dot(file, strlen(file), length == 0 ? "" : rules, length, drawn, strlen(drawn), is_bad || room == 0 ? none : out,
@@ -508,13 +547,7 @@ static inline bajofeki_place_t bajofeki_text_place(bajofeki_text *text, size_t a
     if (text->place.at <= at) {
         place = text->place;
     }
-    {
-        bajofeki_place_t on = bajofeki_position(text->bytes + place.at, text->length - place.at, at - place.at);
-        place.at += on.at;
-        place.column = on.line == 1 ? place.column + on.column - 1 : on.column;
-        place.line += on.line - 1;
-    }
-    return text->place = place;
+    return text->place = bajofeki_place_from(place, text->bytes, text->length, at, BAJOFEKI_CHARACTERS);
 }
 
 /* Gives the cut's memory back. A second call does nothing. */

@@ -1,9 +1,12 @@
 /* checks RULES TEXT [RULES TEXT ..]: calls each function of the header, with null pointers, arrays that are too short, the texts whole and
    with bytes spoilt, and memory refused, and stops at the first wrong answer. Run under sanitizers it shows that no access goes astray. C and
-   C++, to be linked with the archive and -Wl,--wrap=malloc,--wrap=realloc. */
+   C++, to be linked with the archive and -Wl,--wrap=malloc,--wrap=realloc,--wrap=free. */
 #include <stdio.h>
 #include <string.h>
+/* The header asks for the version here. */
+#define bajofeki_version version_found
 #include "bajofeki.h"
+#undef bajofeki_version
 
 #define CHECK(fact) ((fact) ? (void)0 : fail(__LINE__, #fact))
 
@@ -12,23 +15,43 @@ static void fail(int line, const char *fact) {
     exit(1);
 }
 
+uint32_t bajofeki_version(void);
+static uint32_t newer = 0; /* how much newer the library seems */
+
+uint32_t version_found(void) {
+    return bajofeki_version() + newer;
+}
+
 static size_t granted = SIZE_MAX; /* how many further requests for memory are granted */
+/* How many blocks of memory were given and not freed. Compilers take it that free changes no variable here. */
+static volatile size_t blocks = 0;
 
 void *__real_malloc(size_t size);
 void *__wrap_malloc(size_t size);
 void *__real_realloc(void *old, size_t size);
 void *__wrap_realloc(void *old, size_t size);
+void __real_free(void *at);
+void __wrap_free(void *at);
 
 static bool is_granted(void) {
     return granted == SIZE_MAX || (granted > 0 && granted-- > 0);
 }
 
 void *__wrap_malloc(size_t size) {
-    return is_granted() ? __real_malloc(size) : NULL;
+    void *at = is_granted() ? __real_malloc(size) : NULL;
+    blocks += (size_t)(at != NULL);
+    return at;
 }
 
 void *__wrap_realloc(void *old, size_t size) {
-    return is_granted() ? __real_realloc(old, size) : NULL;
+    void *at = is_granted() ? __real_realloc(old, size) : NULL;
+    blocks += (size_t)(at != NULL && old == NULL);
+    return at;
+}
+
+void __wrap_free(void *at) {
+    blocks -= (size_t)(at != NULL);
+    __real_free(at);
 }
 
 static void check_no_lexer(void) {
@@ -84,6 +107,16 @@ static void check_rules(void) {
     CHECK(bajofeki_report(lexer).code == BAJOFEKI_FREED && bajofeki_rules(lexer) == 0);
     free(lexer);
     CHECK(bajofeki_version() == BAJOFEKI_VERSION);
+}
+
+/* A library of another version answers nothing about rules. */
+static void check_version(void) {
+    newer = 1;
+    CHECK(bajofeki_lexer_new("A = 'a'", 7) == NULL && bajofeki_lexer_report(NULL).code == BAJOFEKI_OTHER_VERSION);
+    CHECK(bajofeki_rules_check(NULL, "", 0, false, NULL, 0).code == BAJOFEKI_OTHER_VERSION);
+    CHECK(bajofeki_rules_diff(NULL, "", 0, NULL, "", 0, NULL, 0).code == BAJOFEKI_OTHER_VERSION);
+    CHECK(bajofeki_rules_dot(NULL, "", 0, NULL, NULL, 0).code == BAJOFEKI_OTHER_VERSION);
+    newer = 0;
 }
 
 /* Both pages of a text with an array of just their size, and of one byte less. */
@@ -203,6 +236,31 @@ static void check_comparisons(void) {
     CHECK(bajofeki_rules_dot(NULL, "", 0, "\xFF", NULL, 0).code == BAJOFEKI_BAD_ARGUMENT);
 }
 
+static bool is_place(bajofeki_place_t place, size_t at, size_t line, size_t column) {
+    return place.at == at && place.line == line && place.column == column;
+}
+
+/* Columns in a text whose characters have one to four bytes, and where two bytes are none, asked for one after another and at once. */
+static void check_columns(void) {
+    static const char text[] = "ab\n\xC3\xA9\xE6\xBC\xA2\xF0\x9F\x98\x80x\xFF\x80y";
+    static const size_t offsets[] = {0, 2, 3, 5, 8, 12, 13, 14, 15, 16}, length = sizeof text - 1;
+    static const size_t columns[3][10] = {{1, 3, 1, 3, 6, 10, 11, 12, 13, 14}, {1, 3, 1, 2, 3, 4, 5, 6, 6, 7}, {1, 3, 1, 2, 3, 5, 6, 7, 7, 8}};
+    const bajofeki_place_t first = {0, 1, 1}, last = {16, 2, 1};
+    for (uint32_t of = 0; of < 3; of++) {
+        bajofeki_place_t place = first;
+        for (size_t i = 0; i < 10; i++) {
+            place = bajofeki_place_from(place, text, length, offsets[i], of);
+            CHECK(is_place(place, offsets[i], offsets[i] < 3 ? 1 : 2, columns[of][i]));
+            CHECK(is_place(bajofeki_place_from(first, text, length, offsets[i], of), place.at, place.line, place.column));
+        }
+        CHECK(bajofeki_place_from(first, text, length, 99, of).at == length && bajofeki_place_from(first, NULL, 0, 1, of).column == 1);
+    }
+    CHECK(is_place(bajofeki_place_from(last, text, length, 15, BAJOFEKI_BYTES), 0, 0, 0));
+    CHECK(is_place(bajofeki_place_from(last, text, 15, 17, BAJOFEKI_BYTES), 0, 0, 0));
+    CHECK(is_place(bajofeki_place_from(first, NULL, 1, 0, BAJOFEKI_UTF16), 0, 0, 0));
+    CHECK(is_place(bajofeki_place_from(first, text, length, 0, 3), 0, 0, 0));
+}
+
 static void check_arguments(const bajofeki_lexer *lexer) {
     bajofeki_piece_t piece;
     bajofeki_text none = bajofeki_text_begin(lexer, NULL, 1), empty = bajofeki_text_begin(lexer, NULL, 0);
@@ -290,6 +348,96 @@ static void check_stream(void) {
     bajofeki_stream_delete(stream);
     bajofeki_lexer_delete(clash);
     bajofeki_lexer_delete(lexer);
+}
+
+/* Bytes in a block of their own, which is lent to one call. */
+static char *lent(const char *bytes, size_t length) {
+    char *block = (char *)malloc(length);
+    memcpy(block, bytes, length);
+    return block;
+}
+
+/* Once the call has ended the block has other bytes, and is gone. */
+static void take_back(char *block, size_t length) {
+    static void *(*volatile const fill)(void *, int, size_t) = memset;
+    fill(block, '?', length);
+    free(block);
+}
+
+/* A lexer, the cut of a text, a document and a stream keep no pointer after a call to what it was lent: rules, text or an array. */
+static void check_lent(void) {
+    static const char text[] = "let ab\nx?";
+    static const size_t size = sizeof text - 1, starts[] = {0, 3, 4, 6, 7, 8, 9};
+    char *rules = lent(three, strlen(three));
+    bajofeki_lexer *lexer = bajofeki_lexer_new(rules, strlen(three));
+    bajofeki_cutter *cutter = (bajofeki_cutter *)malloc(bajofeki_cutter_size());
+    bajofeki_document *document = bajofeki_document_new(lexer);
+    bajofeki_stream *stream = bajofeki_stream_new(lexer);
+    take_back(rules, strlen(three));
+    CHECK(bajofeki_begin(lexer, cutter, size) == BAJOFEKI_DONE);
+    for (size_t i = 0; i < size; i++) {
+        char *part = lent(text + i, 1);
+        CHECK(bajofeki_document_edit(document, i, i, part, 1).code == BAJOFEKI_DONE);
+        CHECK(bajofeki_stream_feed(stream, part, 1, i == size - 1) == BAJOFEKI_DONE);
+        take_back(part, 1);
+    }
+    for (size_t i = 0; i < 6; i++) {
+        char *copy = lent(text, size);
+        bajofeki_piece_t *found = (bajofeki_piece_t *)malloc(3 * sizeof *found);
+        CHECK(bajofeki_cut(lexer, cutter, copy, size, found, 1).count == 1);
+        CHECK(bajofeki_document_pieces(document, starts[i], starts[i] + 1, found + 1, 1).count == 1);
+        CHECK(bajofeki_stream_next(stream, found + 2, 1).count == 1);
+        for (int of = 0; of < 3; of++) {
+            CHECK(found[of].start == starts[i] && found[of].length == starts[i + 1] - starts[i]);
+        }
+        take_back(copy, size);
+        take_back((char *)found, 3 * sizeof *found);
+    }
+    bajofeki_stream_delete(stream);
+    bajofeki_document_delete(document);
+    bajofeki_end(cutter);
+    free(cutter);
+    bajofeki_lexer_delete(lexer);
+}
+
+/* Whatever is begun gives its memory back at its end, and once: as many blocks are freed as were given. Its room stays the caller's. */
+static void check_freed(void) {
+    size_t before = blocks, built;
+    bajofeki_lexer *lexer = bajofeki_lexer_new(three, strlen(three)), *clash;
+    bajofeki_text text = bajofeki_text_begin(lexer, "let", 3);
+    bajofeki_document *document = bajofeki_document_new(lexer);
+    bajofeki_stream *stream = bajofeki_stream_new(lexer);
+    bajofeki_piece_t piece;
+    CHECK(bajofeki_text_next(&text, &piece, 1).count == 1);
+    bajofeki_text_begin_again(&text, lexer, three, strlen(three));
+    CHECK(bajofeki_text_next(&text, &piece, 1).count == 1);
+    bajofeki_text_end(&text);
+    built = blocks;
+    CHECK(bajofeki_document_edit(document, 0, 0, "let x", 5).code == BAJOFEKI_DONE && blocks > built);
+    bajofeki_document_end(document);
+    CHECK(blocks == built);
+    CHECK(bajofeki_stream_feed(stream, "let x", 5, false) == BAJOFEKI_DONE && blocks > built);
+    CHECK(bajofeki_stream_next(stream, &piece, 1).count == 1);
+    bajofeki_stream_end(stream);
+    CHECK(blocks == built);
+    free(document);
+    free(stream);
+    built = blocks;
+    clash = bajofeki_lexer_new("A = /a/\nB = /a/", 15);
+    CHECK(bajofeki_lexer_report(clash).code == BAJOFEKI_CLASH && blocks > built + 1);
+    bajofeki_free(clash);
+    CHECK(blocks == built + 1);
+    free(clash);
+    bajofeki_lexer_html(lexer, "let", 3, NULL, 0);
+    bajofeki_lexer_c_source(lexer, "lex", 3, NULL, 0);
+    bajofeki_lexer_rust_source(lexer, NULL, 0);
+    bajofeki_rules_check(NULL, three, strlen(three), false, NULL, 0);
+    bajofeki_rules_diff(NULL, three, strlen(three), NULL, three, strlen(three), NULL, 0);
+    bajofeki_rules_dot(NULL, three, strlen(three), NULL, NULL, 0);
+    CHECK(blocks == built);
+    bajofeki_free(lexer);
+    CHECK(blocks == before + 1);
+    free(lexer);
 }
 
 /* Whether memory was refused for a call, after which all is granted again. */
@@ -544,15 +692,20 @@ static void check_files(const char *rules_path, const char *text_path, uint32_t 
 int main(int count, char **words) {
     check_no_lexer();
     check_rules();
+    check_version();
+    check_columns();
     check_sources();
     check_checks();
     check_comparisons();
     check_document();
     check_stream();
+    check_lent();
+    check_freed();
     check_memory();
     check_again();
     for (int i = 1; i + 1 < count; i += 2) {
         check_files(words[i], words[i + 1], (uint32_t)i);
     }
+    CHECK(blocks == 0);
     return 0;
 }

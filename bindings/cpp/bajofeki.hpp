@@ -8,11 +8,12 @@
        }
 
    Texts are any bytes, but those of a document are UTF-8. Places and lengths are in bytes, rules are numbered from 0, lines
-   and columns count from 1, and columns are in characters. All types here but records can be moved and not copied. A lexer may be moved, and
-   outlives what is made of it. Many threads may read it at once; the pieces of a text, a document and a stream are one thread's at a time. A
-   string_view that is given lies in the text that was passed, in the lexer, or where its call says.
+   and columns count from 1, and columns are in characters unless others are asked for. All types here but records can be moved and not
+   copied. A lexer may be moved, and outlives what is made of it. Many threads may read it at once; the pieces of a text, a document and a
+   stream are one thread's at a time. A string_view that is given lies in the text that was passed, in the lexer, or where its call says.
 
-   Memory that is refused is a std::bad_alloc, and what was moved away a std::logic_error. */
+   Memory that is refused is a std::bad_alloc, what was moved away a std::logic_error, and a library of another version than this file's a
+   std::runtime_error. */
 #ifndef BAJOFEKI_HPP
 #define BAJOFEKI_HPP
 #include <array>
@@ -48,6 +49,31 @@ struct piece {
 struct place {
     std::size_t line;
     std::size_t column;
+};
+
+/* What columns count. */
+enum class columns : std::uint32_t {
+    bytes = BAJOFEKI_BYTES,
+    characters = BAJOFEKI_CHARACTERS,
+    utf16 = BAJOFEKI_UTF16 // units of UTF-16, as the protocol of language servers does
+};
+
+/* Finds the places of offsets in a text, which outlives it. Asked in their order, all of them are found in one pass. */
+class places {
+public:
+    explicit places(std::string_view text, bajofeki::columns columns = columns::characters) : text_(text), columns_(columns) {}
+
+    /* The place of an offset; of one past the end that of the end. */
+    place at(std::size_t at) noexcept {
+        place_ = bajofeki_place_from(at < place_.at ? first : place_, text_.data(), text_.size(), at, static_cast<std::uint32_t>(columns_));
+        return {place_.line, place_.column};
+    }
+
+private:
+    static constexpr bajofeki_place_t first = {0, 1, 1};
+    std::string_view text_;
+    bajofeki::columns columns_;
+    bajofeki_place_t place_ = first;
 };
 
 using change = bajofeki_edit_t; // its code is BAJOFEKI_DONE
@@ -304,6 +330,9 @@ checked answered(F call) {
         all.resize(told.length);
         told = call(all.data(), all.size());
     }
+    if (told.code == BAJOFEKI_OTHER_VERSION) {
+        throw std::runtime_error("bajofeki: the library and its header have two versions");
+    }
     if (told.code == BAJOFEKI_BAD_ARGUMENT) {
         throw std::invalid_argument("bajofeki: a name isn't UTF-8");
     }
@@ -386,13 +415,30 @@ public:
     }
 
     /* The place of an offset, and back; nothing where there is none, as in a character. */
-    std::optional<bajofeki::place> place(std::size_t at) const noexcept {
+    std::optional<bajofeki::place> place(std::size_t at, bajofeki::columns columns = columns::characters) const noexcept {
         bajofeki_place_t it = bajofeki_document_place(document_.get(), at);
-        return it.line > 0 ? std::optional(bajofeki::place{it.line, it.column}) : std::nullopt;
+        if (it.line == 0) {
+            return std::nullopt;
+        }
+        std::size_t start = bajofeki_document_offset(document_.get(), it.line, 1).at;
+        return bajofeki::place{it.line, places(text().substr(start, at - start), columns).at(at).column};
     }
-    std::optional<std::size_t> offset(bajofeki::place place) const noexcept {
-        bajofeki_place_t it = bajofeki_document_offset(document_.get(), place.line, place.column);
-        return it.line > 0 ? std::optional(it.at) : std::nullopt;
+    std::optional<std::size_t> offset(bajofeki::place place, bajofeki::columns columns = columns::characters) const noexcept {
+        bajofeki_place_t it = bajofeki_document_offset(document_.get(), place.line, columns == columns::characters ? place.column : 1);
+        if (it.line == 0 || columns == columns::characters) {
+            return it.line > 0 ? std::optional(it.at) : std::nullopt;
+        }
+        std::string_view line = text().substr(it.at);
+        line = line.substr(0, line.find('\n'));
+        places passed(line, columns);
+        std::size_t at = 0;
+        while (at < line.size() && passed.at(at).column < place.column) {
+            at++;
+            while (at < line.size() && (line[at] & 0xC0) == 0x80) {
+                at++;
+            }
+        }
+        return passed.at(at).column == place.column ? std::optional(it.at + at) : std::nullopt;
     }
 
 private:

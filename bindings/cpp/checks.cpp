@@ -3,11 +3,22 @@
 #include <cstdio>
 #include <cstdlib>
 #include <type_traits>
+// The header asks for the version here.
+#define bajofeki_version version_found
 #include "bajofeki.hpp"
+#undef bajofeki_version
 
 #define CHECK(fact) ((fact) ? (void)0 : fail(__LINE__, #fact))
 
+using bajofeki::columns;
 using bajofeki::kind;
+
+static std::uint32_t newer = 0; // how much newer the library seems
+
+extern "C" {
+std::uint32_t bajofeki_version(void);
+std::uint32_t version_found(void) { return bajofeki_version() + newer; }
+}
 
 namespace {
 
@@ -97,6 +108,33 @@ void check_errors() {
     CHECK(count == 1024);
 }
 
+void check_version() {
+    newer = 1;
+    CHECK(throws<bajofeki::rules_error>([] { bajofeki::lexer{three}; }) && throws<std::runtime_error>([] { bajofeki::check(three); }));
+    CHECK(throws<std::runtime_error>([] { bajofeki::diff(three, three); }) && throws<std::runtime_error>([] { bajofeki::dot(three); }));
+    newer = 0;
+}
+
+/* Each place of a text is found in it, and in a document both ways. */
+void check_columns() {
+    bajofeki::lexer lexer(three);
+    bajofeki::document document(lexer, "ab\n\xC3\xA9\xE6\xBC\xA2\xF0\x9F\x98\x80x\n");
+    const std::size_t offsets[] = {0, 2, 3, 5, 8, 12, 13, 14};
+    const std::size_t wanted[3][8] = {{1, 3, 1, 3, 6, 10, 11, 1}, {1, 3, 1, 2, 3, 4, 5, 1}, {1, 3, 1, 2, 3, 5, 6, 1}};
+    for (columns of : {columns::bytes, columns::characters, columns::utf16}) {
+        bajofeki::places places(document.text(), of);
+        for (std::size_t i = 0; i < 8; i++) {
+            bajofeki::place place = places.at(offsets[i]);
+            CHECK(place.line == (i < 2 ? 1U : i < 7 ? 2U : 3U) && place.column == wanted[static_cast<std::size_t>(of)][i]);
+            CHECK(document.place(offsets[i], of)->column == place.column && document.offset(place, of) == offsets[i]);
+        }
+        CHECK(places.at(99).line == 3 && places.at(1).column == 2 && !document.place(4, of));
+        CHECK(!document.offset({2, 12}, of) && !document.offset({4, 1}, of) && !document.offset({2, 0}, of));
+    }
+    CHECK(!document.offset({2, 2}, columns::bytes) && !document.offset({2, 4}, columns::utf16));
+    CHECK(bajofeki::places({}).at(1).column == 1);
+}
+
 void check_document() {
     bajofeki::lexer lexer(three);
     bajofeki::document first(lexer, "letter\nx"), document(std::move(first));
@@ -151,6 +189,8 @@ void check_stream() {
 int main() {
     check_lexer();
     check_errors();
+    check_version();
+    check_columns();
     check_document();
     check_stream();
 }

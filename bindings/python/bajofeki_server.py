@@ -181,6 +181,23 @@ def findings(rules, columns):
     return all_found
 
 
+def least_text(lines, text):
+    """The least text that a rule with this text matches in a file of these lines; None if it is no text but the empty one, if any.
+
+    >>> least_text(["D part = /[0-9]/"], "/{D}+/")
+    '0'
+    """
+    parts = [it for it in lines if re.match(r"\s*\w+\s+part\s*=", it)]
+    try:
+        # Two rules with one pattern clash on its least text.
+        Lexer("\n".join([*parts, f"FIRST ={text}", f"SECOND ={text}"]))
+    except RulesError as error:
+        if error.kind is not RulesErrorKind.CLASH:
+            raise
+        return error.word
+    return None
+
+
 def shown_rule(lines, number):
     """What is shown at a line of a file of rules; None if it is no rule.
 
@@ -190,16 +207,14 @@ def shown_rule(lines, number):
     found = RULE.fullmatch(lines[number].rstrip("\r"))
     if not found:
         return None
-    parts = [it for it in lines if re.match(r"\s*\w+\s+part\s*=", it)]
     words = found[2].split()
     what = "is a part of patterns" if "part" in words else "is skipped" if "skip" in words else "is a token"
     try:
-        # Two rules with one pattern clash on its least text.
-        Lexer("\n".join([*parts, f"FIRST ={found[3]}", f"SECOND ={found[3]}"]))
-    except RulesError as error:
-        word = json.dumps(error.word, ensure_ascii=False) if error.kind is RulesErrorKind.CLASH else None
-        return f"{found[1]} {what}. Its least text is {word}." if word else None
-    return f"{found[1]} {what}. It matches no text but the empty one, if any."
+        word = least_text(lines, found[3])
+    except RulesError:
+        return None
+    least = "It matches no text but the empty one, if any" if word is None else f"Its least text is {json.dumps(word, ensure_ascii=False)}"
+    return f"{found[1]} {what}. {least}."
 
 
 class Server:

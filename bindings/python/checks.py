@@ -5,7 +5,32 @@
 >>> long = "let x?" * 3000
 >>> len(Document(LEXER, long).pieces()), len(LEXER.arrays(long).ends), sum(1 for _ in LEXER.items(long))
 (12000, 12000, 12000)
+
+A file in memory is cut where it lies, and stays open meanwhile.
+
+>>> file = mmap.mmap(-1, 6)
+>>> file[:] = b"let x?"
+>>> items = LEXER.items(file)
+>>> file.close()
+Traceback (most recent call last):
+BufferError: cannot close exported pointers exist
+>>> [(piece.rule, piece.text) for piece in items], file.close()
+([('LET', b'let'), ('SPACE', b' '), ('NAME', b'x'), (None, b'?')], None)
+
+In a cycle that is garbage everything has ended once a `__del__` asks for more, and says so.
+
+>>> asked_in_cycle(lambda: begun(LEXER.items(long))), asked_in_cycle(lambda: Document(LEXER, "x").pieces)
+('it was closed', 'it was closed')
+
+A pickle that is cut off is an error of pickle, and one whose rules were spoilt an error of the rules.
+
+>>> data = pickle.dumps(LEXER)
+>>> sorted({error_of(data[:size]).__name__ for size in range(len(data))}), error_of(data.replace(b"NAME", b"N(ME")).__name__
+(['EOFError', 'UnpicklingError'], 'RulesError')
 """
+import gc
+import mmap
+import pickle
 import random
 from concurrent.futures import ThreadPoolExecutor
 
@@ -20,6 +45,38 @@ def text(chance, most):
 
 def pieces_of(data):
     return [piece._replace(text=piece.text.decode()) for piece in LEXER.items(data)]
+
+
+class Garbage:
+    """It is in a cycle, and at its end asks what it was given for all that comes."""
+
+    def __del__(self):
+        try:
+            self.told.append(len(list(self.ask())))
+        except ValueError as error:
+            self.told.append(str(error))
+
+
+def begun(items):
+    next(items)
+    return items.__iter__
+
+
+def asked_in_cycle(made):
+    garbage, told = Garbage(), []
+    # Python closes a generator that is older than the object before it calls `__del__`, so what is asked is made after it.
+    garbage.me, garbage.ask, garbage.told = garbage, made(), told
+    del garbage
+    gc.collect()
+    return told[0]
+
+
+def error_of(data):
+    """The error of a pickle."""
+    try:
+        return pickle.loads(data) and None
+    except Exception as error:
+        return type(error)
 
 
 def has_place(document, line, column, columns):

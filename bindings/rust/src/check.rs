@@ -1,5 +1,4 @@
-use crate::ffi;
-use std::alloc::{handle_alloc_error, Layout};
+use crate::{ffi, had, is_of_this_version, OutOfMemory};
 use std::error::Error;
 use std::fmt;
 
@@ -29,6 +28,10 @@ pub struct Checked {
 
 /// Checks a file of rules of this name, as `tokens --check` does. Memory is as for [`Lexer::items`](crate::Lexer::items).
 ///
+/// # Panics
+///
+/// If the library that was linked isn't of this crate's version. So do the other calls that give no [`CheckError`].
+///
 /// ```
 /// use bajofeki::{check, Outcome};
 ///
@@ -38,7 +41,7 @@ pub struct Checked {
 /// assert_eq!(line, Some(r#"my.rules:1:9: IF never wins: NAME wins "if""#));
 /// ```
 pub fn check(rules: impl AsRef<[u8]>, name: &str) -> Checked {
-    checked(rules.as_ref(), name, false)
+    checked(try_check(rules, name))
 }
 
 /// The same, as `tokens --check --json` does: each line is an object of JSON, and warnings are among them.
@@ -48,7 +51,7 @@ pub fn check(rules: impl AsRef<[u8]>, name: &str) -> Checked {
 /// assert!(found.starts_with(r#"{"file":"f","line":2,"column":6,"kind":"clash","#));
 /// ```
 pub fn check_json(rules: impl AsRef<[u8]>, name: &str) -> Checked {
-    checked(rules.as_ref(), name, true)
+    checked(try_check_json(rules, name))
 }
 
 /// Compares two files of rules of these names, as `tokens --diff` does: for each mode it tells the least text that they cut into
@@ -67,7 +70,7 @@ pub fn diff(
     other: impl AsRef<[u8]>,
     other_name: &str,
 ) -> Checked {
-    told(ffi::diff(name, rules.as_ref(), other_name, other.as_ref()))
+    checked(try_diff(rules, name, other, other_name))
 }
 
 /// Why nothing is drawn: no rule has the name. It shows what `tokens --dot` says.
@@ -98,30 +101,105 @@ impl Error for NoRule {}
 /// # Ok::<(), bajofeki::NoRule>(())
 /// ```
 pub fn dot(rules: impl AsRef<[u8]>, name: &str, rule: Option<&str>) -> Result<Checked, NoRule> {
-    let drawn = ffi::dot(name, rules.as_ref(), rule.unwrap_or(""));
-    if drawn.0.code == ffi::NO_RULE {
-        let message = String::from_utf8_lossy(&drawn.1).into_owned();
-        return Err(NoRule { message });
+    match try_dot(rules, name, rule) {
+        Err(CheckError::NoRule(error)) => Err(error),
+        found => Ok(checked(found)),
     }
-    Ok(told(drawn))
 }
 
-fn checked(rules: &[u8], name: &str, is_json: bool) -> Checked {
-    told(ffi::check(name, rules, is_json))
+/// Why rules aren't checked, compared or drawn.
+#[derive(Clone, Debug, PartialEq, Eq)]
+#[non_exhaustive]
+pub enum CheckError {
+    /// No rule has the name.
+    NoRule(NoRule),
+    /// A request for memory was refused.
+    OutOfMemory,
+    /// The library that was linked isn't of this crate's version.
+    OtherVersion,
 }
 
-fn told((checked, all): (ffi::Checked, Vec<u8>)) -> Checked {
-    let outcome = match checked.code {
+impl fmt::Display for CheckError {
+    fn fmt(&self, f: &mut fmt::Formatter<'_>) -> fmt::Result {
+        match self {
+            CheckError::NoRule(error) => error.fmt(f),
+            CheckError::OutOfMemory => OutOfMemory.fmt(f),
+            CheckError::OtherVersion => f.write_str("the linked library has another version"),
+        }
+    }
+}
+
+impl Error for CheckError {}
+
+/// As [`check`], where refused memory and a library of another version are errors.
+///
+/// # Errors
+///
+/// [`CheckError::OutOfMemory`] or [`CheckError::OtherVersion`].
+pub fn try_check(rules: impl AsRef<[u8]>, name: &str) -> Result<Checked, CheckError> {
+    told(|| ffi::check(name, rules.as_ref(), false))
+}
+
+/// As [`check_json`], with the errors of [`try_check`].
+///
+/// # Errors
+///
+/// As for [`try_check`].
+pub fn try_check_json(rules: impl AsRef<[u8]>, name: &str) -> Result<Checked, CheckError> {
+    told(|| ffi::check(name, rules.as_ref(), true))
+}
+
+/// As [`diff`], with the errors of [`try_check`].
+///
+/// # Errors
+///
+/// As for [`try_check`].
+pub fn try_diff(
+    rules: impl AsRef<[u8]>,
+    name: &str,
+    other: impl AsRef<[u8]>,
+    other_name: &str,
+) -> Result<Checked, CheckError> {
+    told(|| ffi::diff(name, rules.as_ref(), other_name, other.as_ref()))
+}
+
+/// As [`dot`], with the errors of [`try_check`].
+///
+/// # Errors
+///
+/// As for [`try_check`], and [`CheckError::NoRule`] if no rule has the name.
+pub fn try_dot(
+    rules: impl AsRef<[u8]>,
+    name: &str,
+    rule: Option<&str>,
+) -> Result<Checked, CheckError> {
+    told(|| ffi::dot(name, rules.as_ref(), rule.unwrap_or("")))
+}
+
+fn told(call: impl FnOnce() -> ffi::Answer) -> Result<Checked, CheckError> {
+    if !is_of_this_version() {
+        return Err(CheckError::OtherVersion);
+    }
+    let (code, findings, message) = call().map_err(|_| CheckError::OutOfMemory)?;
+    let outcome = match code {
         0 => Outcome::Clean,
         1 => Outcome::Found,
         2 => Outcome::Refused,
         3 => Outcome::Unread,
-        _ => handle_alloc_error(Layout::new::<u8>()),
+        ffi::NO_RULE => return Err(CheckError::NoRule(NoRule { message })),
+        _ => return Err(CheckError::OutOfMemory),
     };
-    let (findings, message) = all.split_at(checked.found);
-    Checked {
+    Ok(Checked {
         outcome,
-        findings: String::from_utf8_lossy(findings).into_owned(),
-        message: String::from_utf8_lossy(message).into_owned(),
+        findings,
+        message,
+    })
+}
+
+fn checked(found: Result<Checked, CheckError>) -> Checked {
+    match found {
+        Err(CheckError::OutOfMemory) => had(Err(OutOfMemory)),
+        Err(error) => panic!("bajofeki: {error}"),
+        Ok(checked) => checked,
     }
 }

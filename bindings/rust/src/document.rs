@@ -55,7 +55,7 @@ impl<'a> Document<'a> {
         let mut document = Document {
             lexer,
             text: String::new(),
-            held: HeldDocument::begin(&lexer.held),
+            held: HeldDocument::begin(&lexer.held).map_err(TextError::new)?,
         };
         document.edit(0..0, text)?;
         Ok(document)

@@ -13,6 +13,7 @@ pub const NO_RULE: u32 = 4;
 pub const FULL: u32 = 2;
 pub const TOO_DEEP: u32 = 4;
 pub const TOO_LARGE: u32 = 6;
+pub const OUT_OF_MEMORY: u32 = 7;
 pub const ENDED: u32 = 8;
 
 /// What became of the rules.
@@ -212,9 +213,23 @@ pub enum Markup {
     Ansi,
 }
 
+/// Makes an array this long, or gives the code for memory that is refused.
+fn fit<T: Clone + Default>(all: &mut Vec<T>, length: usize) -> Result<(), u32> {
+    all.try_reserve_exact(length.saturating_sub(all.len()))
+        .map_err(|_| OUT_OF_MEMORY)?;
+    all.resize(length, T::default());
+    Ok(())
+}
+
+/// What the library wrote, which is UTF-8, as a string.
+pub fn string(bytes: Vec<u8>) -> String {
+    String::from_utf8(bytes)
+        .unwrap_or_else(|error| String::from_utf8_lossy(error.as_bytes()).into_owned())
+}
+
 /// Room at a multiple of 8, and what has begun in it, which ends with it.
 struct Begun {
-    room: Box<[u64]>,
+    room: Vec<u64>,
     end: unsafe extern "C" fn(*mut c_void),
 }
 
@@ -224,10 +239,11 @@ impl Begun {
         size: usize,
         end: unsafe extern "C" fn(*mut c_void),
         begin: impl FnOnce(*mut c_void),
-    ) -> Begun {
-        let mut room = vec![0; (size + 7) / 8].into_boxed_slice();
+    ) -> Result<Begun, u32> {
+        let mut room: Vec<u64> = Vec::new();
+        fit(&mut room, (size + 7) / 8)?;
         begin(room.as_mut_ptr().cast());
-        Begun { room, end }
+        Ok(Begun { room, end })
     }
 
     /// The pointer, for calls that only read what lies there.
@@ -253,14 +269,14 @@ pub struct Held {
 }
 
 impl Held {
-    pub fn build(rules: &[u8]) -> Held {
+    pub fn build(rules: &[u8]) -> Result<Held, u32> {
         // SAFETY: the call asks for nothing.
         let size = unsafe { bajofeki_lexer_size() };
         let begun = Begun::new(size, bajofeki_free, |room| {
             // SAFETY: the room has that size, and is given to this build alone; a slice's pointer isn't null.
             unsafe { bajofeki_build(room, rules.as_ptr(), rules.len()) }
-        });
-        Held { begun }
+        })?;
+        Ok(Held { begun })
     }
 
     fn at(&self) -> *const c_void {
@@ -272,13 +288,14 @@ impl Held {
         unsafe { bajofeki_report(self.at()) }
     }
 
-    pub fn word(&self) -> Vec<u32> {
+    pub fn word(&self) -> Result<Vec<u32>, u32> {
         // SAFETY: as for `report`; nothing is written to an array without places.
         let length = unsafe { bajofeki_word(self.at(), [].as_mut_ptr(), 0) };
-        let mut word = vec![0; length];
+        let mut word = Vec::new();
+        fit(&mut word, length)?;
         // SAFETY: as for `report`; the array has this many places.
         unsafe { bajofeki_word(self.at(), word.as_mut_ptr(), length) };
-        word
+        Ok(word)
     }
 
     pub fn rules(&self) -> usize {
@@ -286,13 +303,14 @@ impl Held {
         unsafe { bajofeki_rules(self.at()) }
     }
 
-    pub fn name(&self, rule: usize) -> String {
+    pub fn name(&self, rule: usize) -> Result<String, u32> {
         // SAFETY: as for `word`.
         let length = unsafe { bajofeki_name(self.at(), rule, [].as_mut_ptr(), 0) };
-        let mut name = vec![0; length];
+        let mut name = Vec::new();
+        fit(&mut name, length)?;
         // SAFETY: as for `word`.
         unsafe { bajofeki_name(self.at(), rule, name.as_mut_ptr(), length) };
-        String::from_utf8_lossy(&name).into_owned()
+        Ok(string(name))
     }
 
     pub fn skips(&self, rule: usize) -> bool {
@@ -311,7 +329,7 @@ impl Held {
     }
 
     /// The page of a text: as HTML, or in colours for a terminal.
-    pub fn page(&self, text: &[u8], markup: Markup) -> Result<Vec<u8>, u32> {
+    pub fn page(&self, text: &[u8], markup: Markup) -> Result<String, u32> {
         written(2 * text.len(), |out, room| {
             // SAFETY: as for `word`; the text's slice is what it is.
             unsafe {
@@ -324,14 +342,14 @@ impl Held {
         })
     }
 
-    pub fn c_source(&self, prefix: &[u8]) -> Result<Vec<u8>, u32> {
+    pub fn c_source(&self, prefix: &[u8]) -> Result<String, u32> {
         written(1 << 16, |out, room| {
             // SAFETY: as for `page`.
             unsafe { bajofeki_c_source(self.at(), prefix.as_ptr(), prefix.len(), out, room) }
         })
     }
 
-    pub fn rust_source(&self) -> Result<Vec<u8>, u32> {
+    pub fn rust_source(&self) -> Result<String, u32> {
         written(1 << 16, |out, room| {
             // SAFETY: as for `page`.
             unsafe { bajofeki_rust_source(self.at(), out, room) }
@@ -340,8 +358,9 @@ impl Held {
 }
 
 /// What a call writes into an array, which grows until all of it fits; or the call's code.
-fn written(room: usize, call: impl Fn(*mut u8, usize) -> Page) -> Result<Vec<u8>, u32> {
-    let mut all = vec![0; room];
+fn written(room: usize, call: impl Fn(*mut u8, usize) -> Page) -> Result<String, u32> {
+    let mut all = Vec::new();
+    fit(&mut all, room)?;
     loop {
         let page = call(all.as_mut_ptr(), all.len());
         if page.code != 0 {
@@ -349,27 +368,33 @@ fn written(room: usize, call: impl Fn(*mut u8, usize) -> Page) -> Result<Vec<u8>
         }
         if page.length <= all.len() {
             all.truncate(page.length);
-            return Ok(all);
+            return Ok(string(all));
         }
-        all.resize(page.length, 0);
+        fit(&mut all, page.length)?;
     }
 }
 
-/// What a call comes to, and all that it writes into an array, which grows until all of it fits.
-fn answered(call: impl Fn(*mut u8, usize) -> Checked) -> (Checked, Vec<u8>) {
-    let mut all = vec![0; 1 << 16];
+/// An answer about rules: its code, what the program writes, and what it says.
+pub type Answer = Result<(u32, String, String), u32>;
+
+/// The answer of a call that writes into an array, which grows until all of it fits.
+fn answered(call: impl Fn(*mut u8, usize) -> Checked) -> Answer {
+    let (mut all, mut said) = (Vec::new(), Vec::new());
+    fit(&mut all, 1 << 16)?;
     loop {
         let checked = call(all.as_mut_ptr(), all.len());
         if checked.length <= all.len() {
-            all.truncate(checked.length);
-            return (checked, all);
+            fit(&mut said, checked.length - checked.found)?;
+            said.copy_from_slice(&all[checked.found..checked.length]);
+            all.truncate(checked.found);
+            return Ok((checked.code, string(all), string(said)));
         }
-        all.resize(checked.length, 0);
+        fit(&mut all, checked.length)?;
     }
 }
 
 /// What a check of rules comes to.
-pub fn check(name: &str, rules: &[u8], is_json: bool) -> (Checked, Vec<u8>) {
+pub fn check(name: &str, rules: &[u8], is_json: bool) -> Answer {
     let (file, length) = (name.as_ptr(), name.len());
     let (at, size) = (rules.as_ptr(), rules.len());
     answered(|out, room| {
@@ -379,7 +404,7 @@ pub fn check(name: &str, rules: &[u8], is_json: bool) -> (Checked, Vec<u8>) {
 }
 
 /// What a comparison comes to.
-pub fn diff(name: &str, rules: &[u8], other_name: &str, other: &[u8]) -> (Checked, Vec<u8>) {
+pub fn diff(name: &str, rules: &[u8], other_name: &str, other: &[u8]) -> Answer {
     answered(|out, room| {
         // SAFETY: as for `check`.
         unsafe {
@@ -400,7 +425,7 @@ pub fn diff(name: &str, rules: &[u8], other_name: &str, other: &[u8]) -> (Checke
 }
 
 /// What a drawing comes to.
-pub fn dot(name: &str, rules: &[u8], rule: &str) -> (Checked, Vec<u8>) {
+pub fn dot(name: &str, rules: &[u8], rule: &str) -> Answer {
     let (file, length) = (name.as_ptr(), name.len());
     let (at, size) = (rules.as_ptr(), rules.len());
     answered(|out, room| {
@@ -418,20 +443,20 @@ pub struct Cutting<'a> {
 }
 
 impl<'a> Cutting<'a> {
-    pub fn begin(held: &'a Held, text: &'a [u8]) -> Cutting<'a> {
+    pub fn begin(held: &'a Held, text: &'a [u8]) -> Result<Cutting<'a>, u32> {
         let mut code = DONE;
         // SAFETY: the call asks for nothing.
         let size = unsafe { bajofeki_cutter_size() };
         let begun = Begun::new(size, bajofeki_end, |room| {
             // SAFETY: a lexer, or why there is none, lies there; the room has that size, and is this cut's alone.
             code = unsafe { bajofeki_begin(held.at(), room, text.len()) };
-        });
-        Cutting {
+        })?;
+        Ok(Cutting {
             begun,
             held,
             text,
             code,
-        }
+        })
     }
 
     /// The cut of another text, in the memory of this one.
@@ -478,17 +503,17 @@ pub struct HeldDocument<'a> {
 }
 
 impl<'a> HeldDocument<'a> {
-    pub fn begin(held: &'a Held) -> HeldDocument<'a> {
+    pub fn begin(held: &'a Held) -> Result<HeldDocument<'a>, u32> {
         // SAFETY: the call asks for nothing.
         let size = unsafe { bajofeki_document_size() };
         let begun = Begun::new(size, bajofeki_document_end, |room| {
             // SAFETY: as in `Cutting::begin`.
             unsafe { bajofeki_document_begin(held.at(), room) }
-        });
-        HeldDocument {
+        })?;
+        Ok(HeldDocument {
             begun,
             lexer: PhantomData,
-        }
+        })
     }
 
     pub fn edit(&mut self, from: usize, to: usize, new: &[u8]) -> Edit {
@@ -520,17 +545,17 @@ pub struct HeldStream<'a> {
 }
 
 impl<'a> HeldStream<'a> {
-    pub fn begin(held: &'a Held) -> HeldStream<'a> {
+    pub fn begin(held: &'a Held) -> Result<HeldStream<'a>, u32> {
         // SAFETY: the call asks for nothing.
         let size = unsafe { bajofeki_stream_size() };
         let begun = Begun::new(size, bajofeki_stream_end, |room| {
             // SAFETY: as in `Cutting::begin`.
             unsafe { bajofeki_stream_begin(held.at(), room) }
-        });
-        HeldStream {
+        })?;
+        Ok(HeldStream {
             begun,
             lexer: PhantomData,
-        }
+        })
     }
 
     pub fn feed(&mut self, bytes: &[u8], is_last: bool) -> u32 {
@@ -538,10 +563,11 @@ impl<'a> HeldStream<'a> {
         unsafe { bajofeki_feed(self.begun.at_mut(), bytes.as_ptr(), bytes.len(), is_last) }
     }
 
-    /// The next pieces that are final, as many as the array takes.
-    pub fn next(&mut self, out: &mut [Piece]) -> Count {
+    /// The code, and how many of the next pieces that are final were written, as many as the array takes.
+    pub fn next(&mut self, out: &mut [Piece]) -> (u32, usize) {
         // SAFETY: as for `feed`.
-        unsafe { bajofeki_next(self.begun.at_mut(), out.as_mut_ptr(), out.len()) }
+        let count = unsafe { bajofeki_next(self.begun.at_mut(), out.as_mut_ptr(), out.len()) };
+        (count.code, count.count)
     }
 }
 

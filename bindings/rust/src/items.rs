@@ -143,7 +143,7 @@ impl<'a, T: Text + ?Sized> Items<'a, T> {
         let mut items = Items {
             lexer,
             text,
-            cutting: Cutting::begin(&lexer.held, text.as_ref()),
+            cutting: Cutting::begin(&lexer.held, text.as_ref()).map_err(|_| OutOfMemory)?,
             pieces: Vec::new(),
             next: 0,
             count: 0,

@@ -33,6 +33,7 @@ mod stream;
 mod text_error;
 
 pub use check::{check, check_json, diff, dot, Checked, NoRule, Outcome};
+pub use check::{try_check, try_check_json, try_diff, try_dot, CheckError};
 pub use document::{Change, Document};
 pub use items::{Item, Items, Kind, OutOfMemory, Text};
 pub use places::{Columns, Place, Places};
@@ -99,20 +100,24 @@ impl Lexer {
     /// );
     /// ```
     pub fn new(rules: impl AsRef<[u8]>) -> Result<Lexer, RulesError> {
-        if version().to_string() != env!("CARGO_PKG_VERSION_MAJOR") {
-            return Err(RulesError::of_other_version());
+        if !is_of_this_version() {
+            return Err(RulesError::of(RulesErrorKind::OtherVersion));
         }
-        let held = ffi::Held::build(rules.as_ref());
+        let out_of_memory = || RulesError::of(RulesErrorKind::OutOfMemory);
+        let held = ffi::Held::build(rules.as_ref()).map_err(|_| out_of_memory())?;
         let report = held.report();
         if report.code != 0 {
             return Err(RulesError::new(report, &held));
         }
-        let rules = (0..held.rules())
-            .map(|rule| Rule {
-                name: held.name(rule),
+        let mut rules = Vec::new();
+        let room = rules.try_reserve_exact(held.rules());
+        room.map_err(|_| out_of_memory())?;
+        for rule in 0..held.rules() {
+            rules.push(Rule {
+                name: held.name(rule).map_err(|_| out_of_memory())?,
                 is_skipped: held.skips(rule),
-            })
-            .collect();
+            });
+        }
         Ok(Lexer { held, rules })
     }
 
@@ -141,10 +146,7 @@ impl Lexer {
     /// # Ok::<(), bajofeki::RulesError>(())
     /// ```
     pub fn items<'a, T: Text + ?Sized>(&'a self, text: &'a T) -> Items<'a, T::Part> {
-        match self.try_items(text) {
-            Ok(items) => items,
-            Err(OutOfMemory) => handle_alloc_error(Layout::for_value(text)),
-        }
+        had(self.try_items(text))
     }
 
     /// As [`Lexer::items`], where refused memory is an error.
@@ -175,6 +177,15 @@ impl Lexer {
     /// # Ok::<(), bajofeki::RulesError>(())
     /// ```
     pub fn html(&self, text: &str) -> String {
+        had(self.try_html(text))
+    }
+
+    /// As [`Lexer::html`], where refused memory is an error.
+    ///
+    /// # Errors
+    ///
+    /// [`OutOfMemory`], if the page gets no memory.
+    pub fn try_html(&self, text: &str) -> Result<String, OutOfMemory> {
         self.page(text, Markup::Html)
     }
 
@@ -186,14 +197,21 @@ impl Lexer {
     /// # Ok::<(), bajofeki::RulesError>(())
     /// ```
     pub fn ansi(&self, text: &str) -> String {
+        had(self.try_ansi(text))
+    }
+
+    /// As [`Lexer::ansi`], where refused memory is an error.
+    ///
+    /// # Errors
+    ///
+    /// [`OutOfMemory`], if the page gets no memory.
+    pub fn try_ansi(&self, text: &str) -> Result<String, OutOfMemory> {
         self.page(text, Markup::Ansi)
     }
 
-    fn page(&self, text: &str, markup: Markup) -> String {
-        match self.held.page(text.as_bytes(), markup) {
-            Ok(page) => String::from_utf8_lossy(&page).into_owned(),
-            Err(_) => handle_alloc_error(Layout::for_value(text)),
-        }
+    fn page(&self, text: &str, markup: Markup) -> Result<String, OutOfMemory> {
+        let page = self.held.page(text.as_bytes(), markup);
+        page.map_err(|_| OutOfMemory)
     }
 
     /// The lexer as one source file in C, as `tokens --emit c` writes it: C99 and C++, with names that begin with the prefix. `None` if
@@ -206,6 +224,15 @@ impl Lexer {
     /// # Ok::<(), bajofeki::RulesError>(())
     /// ```
     pub fn c_source(&self, prefix: &str) -> Option<String> {
+        had(self.try_c_source(prefix))
+    }
+
+    /// As [`Lexer::c_source`], where refused memory is an error.
+    ///
+    /// # Errors
+    ///
+    /// [`OutOfMemory`], if the file gets no memory.
+    pub fn try_c_source(&self, prefix: &str) -> Result<Option<String>, OutOfMemory> {
         source(self.held.c_source(prefix.as_bytes()))
     }
 
@@ -218,6 +245,15 @@ impl Lexer {
     /// # Ok::<(), bajofeki::RulesError>(())
     /// ```
     pub fn rust_source(&self) -> Option<String> {
+        had(self.try_rust_source())
+    }
+
+    /// As [`Lexer::rust_source`], where refused memory is an error.
+    ///
+    /// # Errors
+    ///
+    /// [`OutOfMemory`], if the file gets no memory.
+    pub fn try_rust_source(&self) -> Result<Option<String>, OutOfMemory> {
         source(self.held.rust_source())
     }
 
@@ -255,17 +291,26 @@ impl fmt::Debug for Lexer {
 }
 
 /// A source file, unless a name can't stand in it.
-fn source(found: Result<Vec<u8>, u32>) -> Option<String> {
+fn source(found: Result<String, u32>) -> Result<Option<String>, OutOfMemory> {
     match found {
-        Ok(source) => Some(String::from_utf8_lossy(&source).into_owned()),
-        Err(BAD_NAME) => None,
-        Err(_) => handle_alloc_error(Layout::new::<u8>()),
+        Ok(source) => Ok(Some(source)),
+        Err(BAD_NAME) => Ok(None),
+        Err(_) => Err(OutOfMemory),
     }
+}
+
+/// What there was memory for. Without it the process ends, as by `Vec`.
+fn had<T>(found: Result<T, OutOfMemory>) -> T {
+    found.unwrap_or_else(|_| handle_alloc_error(Layout::new::<u8>()))
 }
 
 /// The version of the library's functions, which is the first number of the crate's.
 pub fn version() -> u32 {
     ffi::version()
+}
+
+fn is_of_this_version() -> bool {
+    env!("CARGO_PKG_VERSION_MAJOR").parse() == Ok(version())
 }
 
 // Lexers, items and errors go from thread to thread, and threads may share them. Documents and streams go, and are one thread's at a time.

@@ -16,7 +16,7 @@ pub struct Place {
 pub enum Columns {
     /// Bytes.
     Bytes,
-    /// Characters. A byte that can't stand in a character counts as one.
+    /// Characters. In a text that isn't UTF-8 each byte counts as one but those from 0x80 to 0xBF.
     Characters,
     /// The units of UTF-16, as the protocol of language servers does.
     Utf16,

@@ -52,9 +52,10 @@ pub struct RulesError {
 }
 
 impl RulesError {
-    pub(crate) fn of_other_version() -> RulesError {
+    /// An error that has its kind alone.
+    pub(crate) fn of(kind: RulesErrorKind) -> RulesError {
         RulesError {
-            kind: RulesErrorKind::OtherVersion,
+            kind,
             line: 0,
             column: 0,
             rule: String::new(),
@@ -67,6 +68,11 @@ impl RulesError {
     }
 
     pub(crate) fn new(report: Report, held: &Held) -> RulesError {
+        RulesError::told(report, held)
+            .unwrap_or_else(|_| RulesError::of(RulesErrorKind::OutOfMemory))
+    }
+
+    fn told(report: Report, held: &Held) -> Result<RulesError, u32> {
         let kind = match report.code {
             1 => RulesErrorKind::BadLine,
             2 => RulesErrorKind::NotParsed,
@@ -77,12 +83,12 @@ impl RulesError {
             _ => RulesErrorKind::OutOfMemory,
         };
         // Where no rule is wrong the library has no names, and gives an empty one.
-        let rule = held.name(report.rule);
+        let rule = held.name(report.rule)?;
         let other = match kind {
-            RulesErrorKind::Clash => held.name(report.other),
+            RulesErrorKind::Clash => held.name(report.other)?,
             _ => String::new(),
         };
-        RulesError {
+        Ok(RulesError {
             kind,
             line: report.line,
             column: report.column,
@@ -90,9 +96,9 @@ impl RulesError {
             other,
             other_line: report.other_line,
             other_column: report.other_column,
-            word: held.word(),
+            word: held.word()?,
             position: report.position,
-        }
+        })
     }
 }
 

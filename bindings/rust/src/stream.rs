@@ -24,7 +24,8 @@ use crate::{Item, Lexer, TextError};
 /// ```
 pub struct Stream<'a> {
     lexer: &'a Lexer,
-    held: HeldStream<'a>,
+    /// Nothing until the first chunk comes.
+    held: Option<HeldStream<'a>>,
     /// What has come from the offset `at` on, of which the front stands in pieces.
     text: Vec<u8>,
     at: usize,
@@ -38,7 +39,7 @@ impl<'a> Stream<'a> {
     pub fn new(lexer: &'a Lexer) -> Stream<'a> {
         Stream {
             lexer,
-            held: HeldStream::begin(&lexer.held),
+            held: None,
             text: Vec::new(),
             at: 0,
             pieces: Vec::new(),
@@ -69,7 +70,11 @@ impl<'a> Stream<'a> {
         if self.text.try_reserve(chunk.len()).is_err() {
             return Err(TextError::OutOfMemory);
         }
-        let code = self.held.feed(chunk, is_last);
+        if self.held.is_none() {
+            self.held = Some(HeldStream::begin(&self.lexer.held).map_err(TextError::new)?);
+        }
+        let held = self.held.as_mut();
+        let code = held.map_or(DONE, |it| it.feed(chunk, is_last));
         if code != DONE {
             return Err(TextError::new(code));
         }
@@ -84,16 +89,17 @@ impl<'a> Stream<'a> {
     /// [`TextError::OutOfMemory`]; then a later call gives them.
     pub fn pieces(&mut self) -> Result<Vec<Item<'_, [u8]>>, TextError> {
         self.let_given_go();
-        let mut code = FULL;
+        let mut code = self.held.as_ref().map_or(DONE, |_| FULL);
         while code == FULL {
             let count = self.pieces.len();
             if self.pieces.try_reserve(ROOM).is_err() {
                 return Err(TextError::OutOfMemory);
             }
             self.pieces.resize(count + ROOM, Piece::default());
-            let found = self.held.next(&mut self.pieces[count..]);
-            self.pieces.truncate(count + found.count);
-            code = found.code;
+            let (held, room) = (self.held.as_mut(), &mut self.pieces[count..]);
+            let (of, found) = held.map_or((DONE, 0), |it| it.next(room));
+            self.pieces.truncate(count + found);
+            code = of;
         }
         if code != DONE {
             return Err(TextError::new(code));

@@ -8,6 +8,7 @@ mod Begun
 mod Walking
 mod Noted
 mod Parts
+mod Held
 mod Costs
 mod Markup
 mod Places

@@ -5,6 +5,7 @@ pub mod Settling
 -- the run of an automaton, and the piece at the front of a text
 pub mod Runs
 pub mod Walking
+pub mod Steps
 pub mod Noting
 pub mod Fronts
 -- what is noted along what a run read in vain
@@ -46,8 +47,10 @@ pub mod ChunkLaws
 -- text that comes as bytes, and the piece at the front of bytes that may be no text
 pub mod BegunLaws
 pub mod BytesLaws
+pub mod Voids
 pub mod FrontLaws
 pub mod PartLaws
+pub mod Held
 -- a text shown as markup: its runs, what begins and ends tags, entities and sequences, and how it is read back
 pub mod Characters
 pub mod ShownRuns

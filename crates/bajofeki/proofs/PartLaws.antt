@@ -6,7 +6,7 @@ use Rattle.std.specs.Str.{IsUtf8, IsCharBoundary}
 use Rattle.std.proofs.lemmas.Bool.{cases_order, cases_lt}
 use Rattle.std.proofs.lemmas.List.{append-nil, take-append-le, drop-append-le, take-append-drop, drop-drop, take_all}
 use Rattle.std.proofs.lemmas.List.Edits.{take-paste}
-use Rattle.std.proofs.lemmas.Str.{IsUtf8-append, IsUtf8-drop}
+use Rattle.std.proofs.lemmas.Str.{IsCharBoundary-start, IsUtf8-append, IsUtf8-drop}
 use Rattle.std.proofs.Math.Seq.{paste, take-append_seam, drop-append_seam, take-length}
 use Rattle.lalrpop_hir.specs.Tree.{Tree}
 use Rattle.lalrpop_hir.specs.Longest.{IsMatch}
@@ -16,9 +16,11 @@ use Rattle.bajofeki.specs.Begun.{NoCharacter, IsBegun, IsBad}
 use Rattle.bajofeki.specs.Lexed.{BeginsLonger}
 use Rattle.bajofeki.specs.Chunked.{IsOpen, IsOpenIn, MayBegin}
 use Rattle.bajofeki.specs.Internal.Kept.{IsFront}
-use Rattle.bajofeki.specs.Internal.Parts.{Tells, IsLeft, IsParted, IsVoid, IsFinalFault, size_in_fault}
+use Rattle.bajofeki.specs.Internal.Parts.{IsGiven, IsLeft, IsPart, IsParted, IsVoidTo, Tells, TellsTurn, size_in_fault, text_in}
+use Rattle.bajofeki.specs.declared.parts.Part.{Part}
 use Rattle.bajofeki.specs.declared.parts.Piece.{Piece}
 use Rattle.bajofeki.specs.declared.parts.Told.{Told}
+use Rattle.bajofeki.specs.declared.parts.Turn.TheVariants.{Void}
 use Rattle.bajofeki.specs.declared.parts.Told.TheVariants.{Whole, Nothing, Open}
 use Rattle.lalrpop_rules.proofs.FirstMatches.{match_within, some_length}
 use Rattle.bajofeki.proofs.BytesLaws.{matches_more, none_after, none_at, none_at_front, none_before, none_in_begun, none_shorter}
@@ -118,148 +120,7 @@ pub not_empty : (rest : List ℕ) (test : Bool) → test ≡ (length rest == 0) 
 not_empty [] test is fails none = cc
 not_empty (x ∷ rest) test is fails none = cc
 
--- ---- the text at the front
-
-module _ (ts : List Tree) (ps bytes text left : List ℕ) (is_bad over last : Bool) (parts : bytes ≡ text ++ left) (is_left : IsLeft left is_bad)
-    (is_last : last ≡ true → (is_bad ≡ true) ⊎ (over ≡ true)) where
-  all_parts : (more : List ℕ) → bytes ++ more ≡ text ++ (left ++ more)
-  all_parts more = ap (λ (t : List ℕ). t ++ more) parts ∙ append_assoc text left more
-
-  -- it tells of the piece
-  pub first_whole : (o : Option ℕ) (n : ℕ) → Tells ts ps text last (Whole (record { rule = o; size = n })) → (more : List ℕ) → (over ≡ true → more ≡ [])
-      → IsFront ts ps (bytes ++ more) o (take n bytes)
-  first_whole o n told more may =
-      let here : IsFront ts ps (text ++ (left ++ more)) o (take n text) = told.1 (left ++ more) (λ is. no_character left more is_bad over is_left (is_last is) may) in
-      let same : take n text ≡ take n bytes = sym (ap (take n) parts ∙ take-append-le n text left told.0.0) in
-      subst (λ (p : List ℕ). IsFront ts ps (bytes ++ more) o p) same (subst (λ (t : List ℕ). IsFront ts ps t o (take n text)) (sym (all_parts more)) here)
-
-  -- it is open
-  pub first_open : (is_match : Bool) → Tells ts ps text last (Open is_match) → is_bad ≡ false → IsOpenIn ts bytes
-  first_open is_match told goes = (text, (left, (parts, (is_left.0 goes, told.1))))
-
-  -- nothing matches in it
-  pub first_void : Tells ts ps text last Nothing → IsVoid ts bytes over (length text) is_bad
-  first_void told = record {
-    within = omega (arith, ap length parts, length-append text left);
-    left = subst (λ (t : List ℕ). IsLeft t is_bad) (sym (ap (drop (length text)) parts ∙ drop-append_seam text left)) is_left;
-    over = λ goes. ended (is_last told.0) goes;
-    nothing = λ more may.
-        subst (λ (t : List ℕ). NoMatchBefore ts t (length text)) (sym (all_parts more))
-        (told.1 (left ++ more) (no_character left more is_bad over is_left (is_last told.0) may));
-  }
-    where
-      ended : (is_bad ≡ true) ⊎ (over ≡ true) → is_bad ≡ false → over ≡ true
-      ended (inl bad) goes = let e = sym bad ∙ goes in absurd (cc)
-      ended (inr is) goes = is
-
--- ---- a step over a byte of no character, and the text after it
-
-module _ (ts : List Tree) (ps bytes : List ℕ) (over : Bool) (from : ℕ) (void : IsVoid ts bytes over from true) where
-  bad_there : 0 < length (drop from bytes)
-  bad_there = some_length (drop from bytes) (void.left.1 refl).0
-
-  pub step_within : from + 1 ≤ length bytes
-  step_within = omega (arith, bad_there, length-drop from bytes)
-
-  -- nothing matches at the byte
-  pub step_nothing : (more : List ℕ) → (over ≡ true → more ≡ []) → NoMatchBefore ts (bytes ++ more) (from + 1)
-  step_nothing more may =
-      let left : drop from (bytes ++ more) ≡ drop from bytes ++ more = drop-append-le from bytes more void.within in
-      let none : NoMatchBefore ts (drop from (bytes ++ more)) 1 =
-      subst (λ (t : List ℕ). NoMatchBefore ts t 1) (sym left) (none_at ts (drop from bytes ++ more) (none_at_front ts (drop from bytes ++ more) ((void.left.1 refl).1 more))) in
-      none_after ts (bytes ++ more) from 1 (void.nothing more may) none
-
-  module _ (text left : List ℕ) (is_bad last : Bool) (parts : drop (from + 1) bytes ≡ text ++ left) (is_left : IsLeft left is_bad)
-      (is_last : last ≡ true → (is_bad ≡ true) ⊎ (over ≡ true)) where
-    behind : (more : List ℕ) → drop (from + 1) (bytes ++ more) ≡ text ++ (left ++ more)
-    behind more =
-        drop-append-le (from + 1) bytes more step_within ∙ ap (λ (t : List ℕ). t ++ more) parts ∙ append_assoc text left more
-
-    tail_none : (more : List ℕ) → (over ≡ true → more ≡ []) → last ≡ true → NoCharacter (left ++ more)
-    tail_none more may is = no_character left more is_bad over is_left (is_last is) may
-
-    sizes : (from + 1) + length text ≤ length bytes
-    sizes = omega (arith, ap length parts, length-append text left, length-drop (from + 1) bytes, step_within)
-
-    -- the text tells of a piece: the fault ends with it, or before it
-    pub step_whole : (o : Option ℕ) (n size : ℕ) → Tells ts ps text last (Whole (record { rule = o; size = n })) → size ≡ (from + 1) + size_in_fault o n
-        → IsFinalFault ts bytes over size
-    step_whole o n size told is more may =
-        let here : IsFront ts ps (text ++ (left ++ more)) o (take n text) = told.1 (left ++ more) (tail_none more may) in
-        let there : IsFront ts ps (drop (from + 1) (bytes ++ more)) o (take n text) =
-        subst (λ (t : List ℕ). IsFront ts ps t o (take n text)) (sym (behind more)) here in
-        let fault = front_after ts ps (bytes ++ more) o (take n text) (from + 1) (omega arith) (omega (arith, step_within, length-append bytes more)) (step_nothing more may) there in
-        let n_is : length (take n text) ≡ n = omega (arith, length-take n text, told.0.0) in
-        let place : (from + 1) + size_in_fault o (length (take n text)) ≡ size = ap (λ (k : ℕ). (from + 1) + size_in_fault o k) n_is ∙ sym is in
-        let size_within : size ≤ length bytes = omega (arith, is, less o, sizes, told.0.0) in
-        let front : take ((from + 1) + size_in_fault o (length (take n text))) (bytes ++ more) ≡ take size bytes =
-        ap (λ (k : ℕ). take k (bytes ++ more)) place ∙ take-append-le size bytes more size_within in
-        subst (λ (p : List ℕ). IsFault ts (bytes ++ more) p) front fault
-      where
-        less : (o : Option ℕ) → size_in_fault o n ≤ n
-        less None = omega arith
-        less (Some i) = omega arith
-
-    -- something matches at its front, and more may: the fault ends before it all the same
-    pub step_match : Tells ts ps text last (Open true) → IsFinalFault ts bytes over (from + 1)
-    step_match told more may =
-        let match = matches_more ts text (left ++ more) 0 (told.2 refl) in
-        let zero : 0 + (from + 1) ≡ from + 1 = omega arith in
-        let there : drop (from + 1) (bytes ++ more) ≡ drop 0 (text ++ (left ++ more)) = behind more in
-        let fault = fault_before ts (bytes ++ more) (from + 1) (omega arith) (step_nothing more may) (match.0, subst (λ (t : List ℕ). IsMatch ts t match.0) (sym there) match.1) in
-        subst (λ (p : List ℕ). IsFault ts (bytes ++ more) p) (take-append-le (from + 1) bytes more step_within) fault
-
-    -- it is open
-    pub step_open : Tells ts ps text last (Open false) → is_bad ≡ false → IsOpenIn ts bytes
-    step_open told goes =
-        let front : List ℕ = take (from + 1) bytes in
-        let whole : bytes ≡ (front ++ text) ++ left =
-        sym (take-append-drop (from + 1) bytes) ∙ ap (λ (t : List ℕ). front ++ t) parts ∙ sym (append_assoc front text left) in
-        let size : from + 1 ≡ length front = omega (arith, length-take (from + 1) bytes, step_within) in
-        let all : bytes ++ [] ≡ (front ++ text) ++ left = append-nil bytes ∙ whole in
-        let before : NoMatchBefore ts (front ++ text) (length front) =
-        none_shorter ts (front ++ text) left (length front)
-        (subst (λ (n : ℕ). NoMatchBefore ts ((front ++ text) ++ left) n) size
-        (subst (λ (t : List ℕ). NoMatchBefore ts t (from + 1)) all (step_nothing [] (λ _. refl)))) in
-        (front ++ text, (left, (whole, (is_left.0 goes, open_after ts front text before (told.3 refl) told.1))))
-
-    -- nothing matches in it
-    pub step_void : Tells ts ps text last Nothing → (is_bad ≡ false → over ≡ true) → IsVoid ts bytes over ((from + 1) + length text) is_bad
-    step_void told ended = record {
-      within = sizes;
-      left = subst (λ (t : List ℕ). IsLeft t is_bad) rest is_left;
-      over = ended;
-      nothing = λ more may.
-          none_after ts (bytes ++ more) (from + 1) (length text) (step_nothing more may)
-          (subst (λ (t : List ℕ). NoMatchBefore ts t (length text)) (sym (behind more)) (told.1 (left ++ more) (tail_none more may told.0)));
-    }
-      where
-        rest : left ≡ drop ((from + 1) + length text) bytes
-        rest =
-            sym (drop-append_seam text left) ∙ ap (drop (length text)) (sym parts) ∙ drop-drop (length text) (from + 1) bytes
-
--- where nothing matches in all bytes but a character that has begun, they are a fault
-pub void_whole : (ts : List Tree) (bytes : List ℕ) (over : Bool) (from : ℕ) → IsVoid ts bytes over from false → bytes ≢ []
-    → IsFinalFault ts bytes over (length bytes)
-void_whole ts bytes over from void some more may =
-    let none : more ≡ [] = may (void.over refl) in
-    let all : bytes ++ more ≡ bytes = ap (λ (t : List ℕ). bytes ++ t) none ∙ append-nil bytes in
-    let before : NoMatchBefore ts bytes from = subst (λ (t : List ℕ). NoMatchBefore ts t from) all (void.nothing more may) in
-    let behind : NoMatchBefore ts (drop from bytes) (length (drop from bytes)) = none_in_begun ts (drop from bytes) (void.left.0 refl) in
-    let size : from + length (drop from bytes) ≡ length bytes = omega (arith, length-drop from bytes, void.within) in
-    let nothing : NoMatchBefore ts bytes (length bytes) =
-    subst (λ (n : ℕ). NoMatchBefore ts bytes n) size (none_after ts bytes from (length (drop from bytes)) before behind) in
-    let fault : IsFault ts bytes bytes = fault_whole ts bytes some nothing in
-    subst (λ (t : List ℕ). IsFault ts t (take (length bytes) bytes)) (sym all) (subst (λ (p : List ℕ). IsFault ts bytes p) (sym (take-length bytes)) fault)
-
--- ---- where the text at the front ends
-
-pub at_end_boundary : (text : List ℕ) (n : ℕ) → length text ≤ n → n ≤ length text → IsCharBoundary text n
-at_end_boundary text n least most = (most, λ within high. absurd (omega (arith, within, least)))
-
-pub if_none : {A : Type 0} (o : Option A) (P : Type 0) → P → IfNone o P
-if_none None P p = p
-if_none (Some x) P p = tt
+-- ---- a part of the bytes
 
 drop-take : (k m : ℕ) (xs : List ℕ) → k ≤ m → m ≤ length xs → drop k (take m xs) ≡ take (m - k) (drop k xs)
 drop-take k m xs le within =
@@ -268,98 +129,325 @@ drop-take k m xs le within =
     let split : take m xs ≡ take k xs ++ take (m - k) (drop k xs) = ap (λ (n : ℕ). take n xs) (sym place) ∙ take-add k (m - k) xs in
     ap (drop k) split ∙ ap (λ (n : ℕ). drop n (take k xs ++ take (m - k) (drop k xs))) (sym size) ∙ drop-append_seam (take k xs) (take (m - k) (drop k xs))
 
--- the text after what was given of it
-pub text_behind : (bytes : List ℕ) (from given ends : ℕ) → from ≤ given → given ≤ ends → ends ≤ length bytes
-    → drop (given - from) (take (ends - from) (drop from bytes)) ≡ take (ends - given) (drop given bytes)
-text_behind bytes from given ends le order within =
-    let place : from + (given - from) ≡ given = omega (arith, le) in
-    let left : (ends - from) - (given - from) ≡ ends - given = omega (arith, le, order) in
-    drop-take (given - from) (ends - from) (drop from bytes) (omega (arith, order)) (omega (arith, length-drop from bytes, within))
-    ∙ ap (λ (n : ℕ). take n (drop (given - from) (drop from bytes))) left
-    ∙ ap (take (ends - given)) (drop-drop (given - from) from bytes ∙ ap (λ (n : ℕ). drop n bytes) place)
+-- the text of a part, and what is left after it
+pub part_split : (bytes : List ℕ) (p : Part) → IsParted bytes p → drop p.from bytes ≡ text_in bytes p ++ drop p.ends bytes
+part_split bytes p parted =
+    let place : p.from + (p.ends - p.from) ≡ p.ends = omega (arith, parted.order) in
+    sym (take-append-drop (p.ends - p.from) (drop p.from bytes))
+    ∙ ap (λ (t : List ℕ). text_in bytes p ++ t) (drop-drop (p.ends - p.from) p.from bytes ∙ ap (λ (n : ℕ). drop n bytes) place)
 
-pub parted_behind : (bytes : List ℕ) (from given ends : ℕ) (is_bad : Bool) → IsParted bytes from ends is_bad → from ≤ given → given ≤ ends
-    → IsCharBoundary (take (ends - from) (drop from bytes)) (given - from) → IsParted bytes given ends is_bad
-parted_behind bytes from given ends is_bad parted le order begins = record {
-  order = order;
-  within = parted.within;
-  utf8 =
-      subst IsUtf8 (text_behind bytes from given ends le order parted.within)
-      (IsUtf8-drop (take (ends - from) (drop from bytes)) (given - from) parted.utf8 begins);
-  left = parted.left;
-}
+pub front_split : (bytes text : List ℕ) (p : Part) → IsParted bytes p → p.from ≡ 0 → text ≡ text_in bytes p → bytes ≡ text ++ drop p.ends bytes
+front_split bytes text p parted front same =
+    ap (λ (n : ℕ). drop n bytes) (sym front) ∙ part_split bytes p parted ∙ ap (λ (t : List ℕ). t ++ drop p.ends bytes) (sym same)
 
--- the bytes from the end of a text on are a text, and what is left after it: the two texts are one
-pub parted_on : (bytes text left : List ℕ) (given ends : ℕ) (is_bad : Bool) → given ≤ ends → IsUtf8 (take (ends - given) (drop given bytes))
-    → drop ends bytes ≡ text ++ left → IsUtf8 text → ends ≤ length bytes → IsLeft left is_bad → IsParted bytes given (ends + length text) is_bad
-parted_on bytes text left given ends is_bad order front parts u within is_left = record {
-  order = omega (arith, order);
-  within = omega (arith, ap length parts, length-append text left, length-drop ends bytes, within);
-  utf8 = subst IsUtf8 (sym whole) (IsUtf8-append (take (ends - given) (drop given bytes)) text front u);
-  left = subst (λ (t : List ℕ). IsLeft t is_bad) (sym (sym (drop-drop (length text) ends bytes) ∙ ap (drop (length text)) parts ∙ drop-append_seam text left)) is_left;
-}
-  where
-    size : (ends + length text) - given ≡ (ends - given) + length text
-    size = omega (arith, order)
+pub part_size : (bytes : List ℕ) (p : Part) → IsParted bytes p → p.from + length (text_in bytes p) ≡ p.ends
+part_size bytes p parted = omega (arith, length-take (p.ends - p.from) (drop p.from bytes), length-drop p.from bytes, parted.order, parted.within)
 
-    place : given + (ends - given) ≡ ends
-    place = omega (arith, order)
+-- the text at the front
+pub parted_of : (bytes text left : List ℕ) (is_bad : Bool) → bytes ≡ text ++ left → IsUtf8 text → IsLeft left is_bad
+    → IsParted bytes (record { from = 0; ends = length text; is_bad = is_bad })
+parted_of bytes text left is_bad parts u is_left =
+    let size : length text - 0 ≡ length text = omega arith in record {
+      order = omega arith;
+      within = omega (arith, ap length parts, length-append text left);
+      utf8 = subst IsUtf8 (sym (ap (λ (n : ℕ). take n bytes) size ∙ ap (take (length text)) parts ∙ take-append_seam text left)) u;
+      left = subst (λ (t : List ℕ). IsLeft t is_bad) (sym (ap (drop (length text)) parts ∙ drop-append_seam text left)) is_left;
+    }
 
-    behind : drop (ends - given) (drop given bytes) ≡ text ++ left
-    behind = drop-drop (ends - given) given bytes ∙ ap (λ (n : ℕ). drop n bytes) place ∙ parts
+-- one that was found from a place on
+pub parted_at : (bytes : List ℕ) (at : ℕ) (q : Part) → at ≤ length bytes → IsParted (drop at bytes) q → q.from ≡ 0
+    → IsParted bytes (record { from = at; ends = at + q.ends; is_bad = q.is_bad })
+parted_at bytes at q within parted front =
+    let size : (at + q.ends) - at ≡ q.ends - q.from = omega (arith, front) in record {
+      order = omega arith;
+      within = omega (arith, within, parted.within, length-drop at bytes);
+      utf8 = subst IsUtf8 (sym (ap (λ (n : ℕ). take n (drop at bytes)) size ∙ ap (λ (n : ℕ). take (q.ends - q.from) (drop n (drop at bytes))) (sym front))) parted.utf8;
+      left = subst (λ (t : List ℕ). IsLeft t q.is_bad) (drop-drop q.ends at bytes ∙ ap (λ (n : ℕ). drop n bytes) (omega arith)) parted.left;
+    }
 
-    whole : take ((ends + length text) - given) (drop given bytes) ≡ take (ends - given) (drop given bytes) ++ text
-    whole =
-        ap (λ (n : ℕ). take n (drop given bytes)) size ∙ take-add (ends - given) (length text) (drop given bytes)
-        ∙ ap (λ (t : List ℕ). take (ends - given) (drop given bytes) ++ t) (ap (take (length text)) behind ∙ take-append_seam text left)
+-- one that goes on where another ended
+pub parted_on : (bytes : List ℕ) (p q : Part) → p.from ≤ p.ends → p.ends ≤ length bytes → IsUtf8 (text_in bytes p) → IsParted (drop p.ends bytes) q → q.from ≡ 0
+    → IsParted bytes (record { from = p.from; ends = p.ends + q.ends; is_bad = q.is_bad })
+parted_on bytes p q order within u parted front =
+    let more = parted_at bytes p.ends q within parted front in
+    let size : (p.ends + q.ends) - p.from ≡ (p.ends - p.from) + ((p.ends + q.ends) - p.ends) = omega (arith, order) in
+    let place : p.from + (p.ends - p.from) ≡ p.ends = omega (arith, order) in
+    let whole : take ((p.ends + q.ends) - p.from) (drop p.from bytes) ≡ text_in bytes p ++ take ((p.ends + q.ends) - p.ends) (drop p.ends bytes) =
+    ap (λ (n : ℕ). take n (drop p.from bytes)) size ∙ take-add (p.ends - p.from) ((p.ends + q.ends) - p.ends) (drop p.from bytes)
+    ∙ ap (λ (t : List ℕ). text_in bytes p ++ take ((p.ends + q.ends) - p.ends) t) (drop-drop (p.ends - p.from) p.from bytes ∙ ap (λ (n : ℕ). drop n bytes) place) in record {
+      order = omega (arith, order);
+      within = more.within;
+      utf8 = subst IsUtf8 (sym whole) (IsUtf8-append (text_in bytes p) (take ((p.ends + q.ends) - p.ends) (drop p.ends bytes)) u more.utf8);
+      left = more.left;
+    }
 
 -- where a byte of no character was, nothing changes
-pub parted_still : (bytes : List ℕ) (given ends : ℕ) → given ≤ ends → ends ≤ length bytes → IsUtf8 (take (ends - given) (drop given bytes))
-    → IsBad (drop ends bytes) → IsParted bytes given ends true
-parted_still bytes given ends order within front bad = record {
+pub parted_still : (bytes : List ℕ) (p : Part) → p.from ≤ p.ends → p.ends ≤ length bytes → IsUtf8 (text_in bytes p) → p.is_bad ≡ true
+    → IsBad (drop p.ends bytes) → IsParted bytes p
+parted_still bytes p order within u is bad = record {
   order = order;
   within = within;
-  utf8 = front;
-  left = ((λ goes. absurd (cc)), (λ _. bad));
+  utf8 = u;
+  left = ((λ goes. let e = sym is ∙ goes in absurd (cc)), (λ _. bad));
 }
 
 -- more comes
-pub utf8_more : (bytes chunk : List ℕ) (given ends : ℕ) → given ≤ ends → ends ≤ length bytes → IsUtf8 (take (ends - given) (drop given bytes))
-    → IsUtf8 (take (ends - given) (drop given (bytes ++ chunk)))
-utf8_more bytes chunk given ends order within u =
-    let same : take (ends - given) (drop given (bytes ++ chunk)) ≡ take (ends - given) (drop given bytes) =
-    ap (take (ends - given)) (drop-append-le given bytes chunk (omega (arith, order, within)))
-    ∙ take-append-le (ends - given) (drop given bytes) chunk (omega (arith, length-drop given bytes, within)) in
-    subst IsUtf8 (sym same) u
+pub grown_text : (bytes chunk : List ℕ) (p : Part) → IsParted bytes p → text_in (bytes ++ chunk) p ≡ text_in bytes p
+grown_text bytes chunk p parted =
+    ap (take (p.ends - p.from)) (drop-append-le p.from bytes chunk (omega (arith, parted.order, parted.within)))
+    ∙ take-append-le (p.ends - p.from) (drop p.from bytes) chunk (omega (arith, length-drop p.from bytes, parted.within))
 
-pub bad_more : (bytes chunk : List ℕ) (ends : ℕ) → ends ≤ length bytes → IsBad (drop ends bytes) → IsBad (drop ends (bytes ++ chunk))
-bad_more bytes chunk ends within bad =
-    let same : drop ends (bytes ++ chunk) ≡ drop ends bytes ++ chunk = drop-append-le ends bytes chunk within in
+pub grown_more : (bytes chunk : List ℕ) (p q : Part) → IsParted bytes p → q.from ≡ p.from → p.ends ≤ q.ends
+    → text_in (bytes ++ chunk) q ≡ text_in bytes p ++ take (q.ends - p.ends) (drop (p.ends - p.from) (drop p.from (bytes ++ chunk)))
+grown_more bytes chunk p q parted same on =
+    let size : q.ends - q.from ≡ (p.ends - p.from) + (q.ends - p.ends) = omega (arith, same, on, parted.order) in
+    ap (λ (n : ℕ). take n (drop q.from (bytes ++ chunk))) size ∙ ap (λ (n : ℕ). take ((p.ends - p.from) + (q.ends - p.ends)) (drop n (bytes ++ chunk))) same
+    ∙ take-add (p.ends - p.from) (q.ends - p.ends) (drop p.from (bytes ++ chunk))
+    ∙ ap (λ (t : List ℕ). t ++ take (q.ends - p.ends) (drop (p.ends - p.from) (drop p.from (bytes ++ chunk)))) (grown_text bytes chunk p parted)
+
+pub grown_bad : (bytes chunk : List ℕ) (p : Part) → IsParted bytes p → p.is_bad ≡ true → IsBad (drop p.ends (bytes ++ chunk))
+grown_bad bytes chunk p parted is =
+    let bad = parted.left.1 is in
+    let same : drop p.ends (bytes ++ chunk) ≡ drop p.ends bytes ++ chunk = drop-append-le p.ends bytes chunk parted.within in
     subst IsBad (sym same) (
-      (λ none. omega (arith, ap length none, length-append (drop ends bytes) chunk, some_length (drop ends bytes) bad.0)),
-      (λ more. subst NoCharacter (sym (append_assoc (drop ends bytes) chunk more)) (bad.1 (chunk ++ more))),
+      (λ none. omega (arith, ap length none, length-append (drop p.ends bytes) chunk, some_length (drop p.ends bytes) bad.0)),
+      (λ more. subst NoCharacter (sym (append_assoc (drop p.ends bytes) chunk more)) (bad.1 (chunk ++ more))),
     )
 
-pub grown_parted : (bytes chunk now : List ℕ) (given ends : ℕ) (is_bad : Bool) → IsParted bytes given ends is_bad → now ≡ bytes ++ chunk
-    → (ends2 : ℕ) (bad2 : Bool)
-    → ((from : ℕ) → from ≤ ends → IsUtf8 (take (ends - from) (drop from now)) → (is_bad ≡ true → IsBad (drop ends now)) → IsParted now from ends2 bad2)
-    → IsParted now given ends2 bad2
-grown_parted bytes chunk now given ends is_bad parted grown ends2 bad2 read =
-    read given parted.order
-    (subst (λ (t : List ℕ). IsUtf8 (take (ends - given) (drop given t))) (sym grown) (utf8_more bytes chunk given ends parted.order parted.within parted.utf8))
-    (λ bad. subst (λ (t : List ℕ). IsBad (drop ends t)) (sym grown) (bad_more bytes chunk ends parted.within (parted.left.1 bad)))
+pub grown_part : (ts : List Tree) (bytes chunk : List ℕ) (p q : Part) → IsPart ts bytes p → q.from ≡ p.from
+    → (p.from ≤ p.ends → IsUtf8 (text_in (bytes ++ chunk) p) → (p.is_bad ≡ true → IsBad (drop p.ends (bytes ++ chunk))) → IsParted (bytes ++ chunk) q)
+    → IsPart ts (bytes ++ chunk) q
+grown_part ts bytes chunk p q part same read = record {
+  parted = read part.parted.order (subst IsUtf8 (sym (grown_text bytes chunk p part.parted)) part.parted.utf8) (grown_bad bytes chunk p part.parted);
+  nothing = λ more.
+      subst (λ (n : ℕ). NoMatchBefore ts ((bytes ++ chunk) ++ more) n) (sym same)
+      (subst (λ (t : List ℕ). NoMatchBefore ts t p.from) (sym (append_assoc bytes chunk more)) (part.nothing (chunk ++ more)));
+}
 
--- what was given is dropped
-pub parted_drop : (bytes : List ℕ) (given ends : ℕ) (is_bad : Bool) → IsParted bytes given ends is_bad → IsParted (drop given bytes) 0 (ends - given) is_bad
-parted_drop bytes given ends is_bad parted =
-    let place : given + (ends - given) ≡ ends = omega (arith, parted.order) in
-    let size : ends - given ≡ (ends - given) - 0 = omega arith in
-    record {
-      order = omega arith;
-      within = omega (arith, parted.within, length-drop given bytes);
-      utf8 = subst (λ (n : ℕ). IsUtf8 (take n (drop given bytes))) size parted.utf8;
-      left = subst (λ (t : List ℕ). IsLeft t is_bad) (sym (drop-drop (ends - given) given bytes ∙ ap (λ (n : ℕ). drop n bytes) place)) parted.left;
+-- what is left of it after a piece that ends in it
+pub left_text : (bytes : List ℕ) (p : Part) (size : ℕ) → IsParted bytes p → p.from ≤ size → size ≤ p.ends
+    → text_in (drop size bytes) (record { from = 0; ends = p.ends - size; is_bad = p.is_bad }) ≡ drop (size - p.from) (text_in bytes p)
+left_text bytes p size parted from within =
+    let count : (p.ends - size) - 0 ≡ (p.ends - p.from) - (size - p.from) = omega (arith, from, within) in
+    let place : p.from + (size - p.from) ≡ size = omega (arith, from) in
+    ap (λ (n : ℕ). take n (drop size bytes)) count
+    ∙ ap (λ (t : List ℕ). take ((p.ends - p.from) - (size - p.from)) t) (sym (drop-drop (size - p.from) p.from bytes ∙ ap (λ (n : ℕ). drop n bytes) place))
+    ∙ sym (drop-take (size - p.from) (p.ends - p.from) (drop p.from bytes) (omega (arith, within, from)) (omega (arith, length-drop p.from bytes, parted.within)))
+
+pub left_parted : (bytes : List ℕ) (p : Part) (size : ℕ) → IsParted bytes p → p.from ≤ size → size ≤ p.ends
+    → IsCharBoundary (text_in bytes p) (size - p.from) → IsParted (drop size bytes) (record { from = 0; ends = p.ends - size; is_bad = p.is_bad })
+left_parted bytes p size parted from within begins = record {
+  order = omega arith;
+  within = omega (arith, length-drop size bytes, parted.within);
+  utf8 = subst IsUtf8 (sym (left_text bytes p size parted from within)) (IsUtf8-drop (text_in bytes p) (size - p.from) parted.utf8 begins);
+  left = subst (λ (t : List ℕ). IsLeft t p.is_bad) (sym (drop-drop (p.ends - size) size bytes ∙ ap (λ (n : ℕ). drop n bytes) (omega (arith, within)))) parted.left;
+}
+
+-- a part at the front: nothing is before it
+pub front_part : (ts : List Tree) (bytes : List ℕ) (p : Part) → IsParted bytes p → p.from ≡ 0 → IsPart ts bytes p
+front_part ts bytes p parted front = record { parted = parted; nothing = λ more n less m. absurd (omega (arith, less, front)) }
+
+pub at_end_boundary : (text : List ℕ) (n : ℕ) → length text ≤ n → n ≤ length text → IsCharBoundary text n
+at_end_boundary text n least most = (most, λ within high. absurd (omega (arith, within, least)))
+
+-- ---- what a part tells
+
+-- a piece by its rule and size
+pub given_by : (ts : List Tree) (ps bytes : List ℕ) (over : Bool) (p : Part) (f : Piece) (o : Option ℕ) (n : ℕ) → f.rule ≡ o → f.size ≡ n
+    → IsGiven ts ps bytes over p (record { rule = o; size = n }) → IsGiven ts ps bytes over p f
+given_by ts ps bytes over p f o n rule size is =
+    subst (λ (k : ℕ). IsGiven ts ps bytes over p (record { rule = f.rule; size = k })) (sym size)
+    (subst (λ (x : Option ℕ). IsGiven ts ps bytes over p (record { rule = x; size = n })) (sym rule) is)
+
+module _ (ts : List Tree) (ps bytes : List ℕ) (p : Part) (over last : Bool) (part : IsPart ts bytes p) (is_last : last ≡ true → (p.is_bad ≡ true) ⊎ (over ≡ true)) where
+  abbrev text : List ℕ
+  text = text_in bytes p
+
+  abbrev left : List ℕ
+  left = drop p.ends bytes
+
+  from_within : p.from ≤ length bytes
+  from_within = omega (arith, part.parted.order, part.parted.within)
+
+  behind : (more : List ℕ) → drop p.from (bytes ++ more) ≡ text ++ (left ++ more)
+  behind more =
+      drop-append-le p.from bytes more from_within ∙ ap (λ (t : List ℕ). t ++ more) (part_split bytes p part.parted) ∙ append_assoc text left more
+
+  tail_none : (more : List ℕ) → (over ≡ true → more ≡ []) → last ≡ true → NoCharacter (left ++ more)
+  tail_none more may is = no_character left more p.is_bad over part.parted.left (is_last is) may
+
+  sizes : p.from + length text ≡ p.ends
+  sizes = part_size bytes p part.parted
+
+  front_here : p.from ≡ 0 → (more : List ℕ) → bytes ++ more ≡ text ++ (left ++ more)
+  front_here front more = ap (λ (n : ℕ). drop n (bytes ++ more)) (sym front) ∙ behind more
+
+  -- the piece, where nothing is before the text
+  pub token_given : (o : Option ℕ) (n : ℕ) → Tells ts ps text last (Whole (record { rule = o; size = n })) → p.from ≡ 0
+      → IsGiven ts ps bytes over p (record { rule = o; size = n })
+  token_given o n told front = record {
+    settled = λ more may.
+        let here : IsFront ts ps (text ++ (left ++ more)) o (take n text) = told.1 (left ++ more) (tail_none more may) in
+        let parts : bytes ≡ text ++ left = sym (append-nil bytes) ∙ front_here front [] ∙ ap (λ (t : List ℕ). text ++ t) (append-nil left) in
+        let same : take n text ≡ take n bytes = sym (ap (take n) parts ∙ take-append-le n text left told.0.0) in
+        subst (λ (q : List ℕ). IsFront ts ps (bytes ++ more) o q) same (subst (λ (t : List ℕ). IsFront ts ps t o (take n text)) (sym (front_here front more)) here);
+    from = omega (arith, front);
+    within = omega (arith, told.0.0, sizes, part.parted.within);
+    boundary = λ _. subst (IsCharBoundary text) (omega (arith, front)) told.0;
+  }
+
+  in_fault : (o : Option ℕ) (n : ℕ) → IsCharBoundary text n → IsCharBoundary text (size_in_fault o n)
+  in_fault None n begins = begins
+  in_fault (Some i) n begins = IsCharBoundary-start text part.parted.utf8
+
+  -- the fault that ends with a piece, or before it
+  pub fault_given : (o : Option ℕ) (n size : ℕ) → Tells ts ps text last (Whole (record { rule = o; size = n })) → 0 < p.from → size ≡ p.from + size_in_fault o n
+      → IsGiven ts ps bytes over p (record { rule = None; size = size })
+  fault_given o n size told some is = record {
+    settled = λ more may.
+        let here : IsFront ts ps (text ++ (left ++ more)) o (take n text) = told.1 (left ++ more) (tail_none more may) in
+        let there : IsFront ts ps (drop p.from (bytes ++ more)) o (take n text) = subst (λ (t : List ℕ). IsFront ts ps t o (take n text)) (sym (behind more)) here in
+        let fault = front_after ts ps (bytes ++ more) o (take n text) p.from some (omega (arith, from_within, length-append bytes more)) (part.nothing more) there in
+        let n_is : length (take n text) ≡ n = omega (arith, length-take n text, told.0.0) in
+        let place : p.from + size_in_fault o (length (take n text)) ≡ size = ap (λ (k : ℕ). p.from + size_in_fault o k) n_is ∙ sym is in
+        let front : take (p.from + size_in_fault o (length (take n text))) (bytes ++ more) ≡ take size bytes =
+        ap (λ (k : ℕ). take k (bytes ++ more)) place ∙ take-append-le size bytes more size_within in
+        subst (λ (q : List ℕ). IsFault ts (bytes ++ more) q) front fault;
+    from = omega (arith, is);
+    within = size_within;
+    boundary = λ _. subst (IsCharBoundary text) (omega (arith, is)) (in_fault o n told.0);
+  }
+    where
+      less : (o : Option ℕ) → size_in_fault o n ≤ n
+      less None = omega arith
+      less (Some i) = omega arith
+
+      size_within : size ≤ length bytes
+      size_within = omega (arith, is, less o, sizes, told.0.0, part.parted.within)
+
+  -- something matches after it, and more may: the fault ends there all the same
+  pub match_given : (void : ℕ) → Tells ts ps text last (Open true void) → 0 < p.from → IsGiven ts ps bytes over p (record { rule = None; size = p.from })
+  match_given void told some = record {
+    settled = λ more may.
+        let match = matches_more ts text (left ++ more) 0 (told.2 refl) in
+        let fault = fault_before ts (bytes ++ more) p.from some (part.nothing more) (match.0, subst (λ (t : List ℕ). IsMatch ts t match.0) (sym (behind more)) match.1) in
+        subst (λ (q : List ℕ). IsFault ts (bytes ++ more) q) (take-append-le p.from bytes more from_within) fault;
+    from = omega arith;
+    within = from_within;
+    boundary = λ _. subst (IsCharBoundary text) (omega arith) (IsCharBoundary-start text part.parted.utf8);
+  }
+
+  -- it is open
+  front_open : p.from ≡ 0 → p.is_bad ≡ false → IsOpen ts text → IsOpenIn ts bytes
+  front_open front goes is =
+      let parts : bytes ≡ text ++ left = sym (append-nil bytes) ∙ front_here front [] ∙ ap (λ (t : List ℕ). text ++ t) (append-nil left) in
+      (text, (left, (parts, (part.parted.left.0 goes, is))))
+
+  after_open : p.is_bad ≡ false → NoMatchBefore ts text 1 → IsOpen ts text → IsOpenIn ts bytes
+  after_open goes none is =
+      let front : List ℕ = take p.from bytes in
+      let whole : bytes ≡ (front ++ text) ++ left =
+      sym (take-append-drop p.from bytes) ∙ ap (λ (t : List ℕ). front ++ t) (part_split bytes p part.parted) ∙ sym (append_assoc front text left) in
+      let size : p.from ≡ length front = omega (arith, length-take p.from bytes, from_within) in
+      let all : bytes ++ [] ≡ (front ++ text) ++ left = append-nil bytes ∙ whole in
+      let before : NoMatchBefore ts (front ++ text) (length front) =
+      none_shorter ts (front ++ text) left (length front)
+      (subst (λ (n : ℕ). NoMatchBefore ts ((front ++ text) ++ left) n) size (subst (λ (t : List ℕ). NoMatchBefore ts t p.from) all (part.nothing []))) in
+      (front ++ text, (left, (whole, (part.parted.left.0 goes, open_after ts front text before none is))))
+
+  pub open_held : (is_match : Bool) (void : ℕ) → Tells ts ps text last (Open is_match void) → (is_match ≡ true → p.from ≡ 0) → p.is_bad ≡ false → IsOpenIn ts bytes
+  open_held true void told first goes = front_open (first refl) goes told.1
+  open_held false void told first goes = after_open goes (told.3 refl) told.1
+
+  pub longer_held : BeginsLonger ts text → (0 < p.from → NoMatchBefore ts text 1) → p.is_bad ≡ false → IsOpenIn ts bytes
+  longer_held longer none goes = elim (cases_lt 0 p.from) [
+    | inl some ↦ after_open goes (none some) (inr (0, (part.parted.utf8, inl refl, longer)))
+    | inr first ↦ front_open (omega (arith, first)) goes (inr (0, (part.parted.utf8, inl refl, longer)))
+  ]
+
+  -- nothing matches in it
+  pub void_told : Tells ts ps text last Nothing → TellsTurn ts ps bytes over p Void
+  void_told told = (ended, nothing)
+    where
+      ended : p.is_bad ≡ false → over ≡ true
+      ended goes = elim (is_last told.0) [ inl bad ↦ (let e = sym bad ∙ goes in absurd (cc)) | inr is ↦ is ]
+
+      tail : (more : List ℕ) (b : Bool) → p.is_bad ≡ b → (p.is_bad ≡ false → more ≡ []) → NoCharacter (left ++ more)
+      tail more true is may = (part.parted.left.1 is).1 more
+      tail more false is may = subst NoCharacter (sym (ap (λ (t : List ℕ). left ++ t) (may is) ∙ append-nil left)) (part.parted.left.0 is).0
+
+      nothing : (more : List ℕ) → (p.is_bad ≡ false → more ≡ []) → NoMatchBefore ts (bytes ++ more) p.ends
+      nothing more may =
+          subst (λ (n : ℕ). NoMatchBefore ts (bytes ++ more) n) sizes
+          (none_after ts (bytes ++ more) p.from (length text) (part.nothing more)
+          (subst (λ (t : List ℕ). NoMatchBefore ts t (length text)) (sym (behind more)) (told.1 (left ++ more) (tail more p.is_bad refl may))))
+
+-- where nothing matches in a part, nothing does at the byte of no character that follows
+pub bad_void : (ts : List Tree) (ps bytes : List ℕ) (p : Part) (over : Bool) → IsParted bytes p → TellsTurn ts ps bytes over p Void → p.is_bad ≡ true
+    → (more : List ℕ) → NoMatchBefore ts (bytes ++ more) (p.ends + 1)
+bad_void ts ps bytes p over parted void is more =
+    let left : drop p.ends (bytes ++ more) ≡ drop p.ends bytes ++ more = drop-append-le p.ends bytes more parted.within in
+    let none : NoMatchBefore ts (drop p.ends (bytes ++ more)) 1 =
+    subst (λ (t : List ℕ). NoMatchBefore ts t 1) (sym left) (none_at ts (drop p.ends bytes ++ more) (none_at_front ts (drop p.ends bytes ++ more) ((parted.left.1 is).1 more))) in
+    none_after ts (bytes ++ more) p.ends 1 (void.1 more (λ goes. let e = sym is ∙ goes in absurd (cc))) none
+
+pub bad_within : (bytes : List ℕ) (p : Part) → IsParted bytes p → p.is_bad ≡ true → p.ends + 1 ≤ length bytes
+bad_within bytes p parted is = omega (arith, some_length (drop p.ends bytes) (parted.left.1 is).0, length-drop p.ends bytes)
+
+-- where nothing comes, all is a fault
+pub all_given : (ts : List Tree) (ps bytes : List ℕ) (p : Part) (over : Bool) → IsPart ts bytes p → TellsTurn ts ps bytes over p Void → p.is_bad ≡ false → bytes ≢ []
+    → IsGiven ts ps bytes over p (record { rule = None; size = length bytes })
+all_given ts ps bytes p over part void goes some = record {
+  settled = λ more may.
+      let none : more ≡ [] = may (void.0 goes) in
+      let all : bytes ++ more ≡ bytes = ap (λ (t : List ℕ). bytes ++ t) none ∙ append-nil bytes in
+      let before : NoMatchBefore ts bytes p.ends = subst (λ (t : List ℕ). NoMatchBefore ts t p.ends) all (void.1 more (λ _. none)) in
+      let behind : NoMatchBefore ts (drop p.ends bytes) (length (drop p.ends bytes)) = none_in_begun ts (drop p.ends bytes) (part.parted.left.0 goes) in
+      let size : p.ends + length (drop p.ends bytes) ≡ length bytes = omega (arith, length-drop p.ends bytes, part.parted.within) in
+      let nothing : NoMatchBefore ts bytes (length bytes) =
+      subst (λ (n : ℕ). NoMatchBefore ts bytes n) size (none_after ts bytes p.ends (length (drop p.ends bytes)) before behind) in
+      subst (λ (t : List ℕ). IsFault ts t (take (length bytes) bytes)) (sym all)
+      (subst (λ (q : List ℕ). IsFault ts bytes q) (sym (take-length bytes)) (fault_whole ts bytes some nothing));
+  from = omega (arith, part.parted.order, part.parted.within);
+  within = omega arith;
+  boundary = λ within.
+      at_end_boundary (text_in bytes p) (length bytes - p.from) (omega (arith, part_size bytes p part.parted, part.parted.within))
+      (omega (arith, part_size bytes p part.parted, within, part.parted.within));
+}
+
+pub all_or_none : (ts : List Tree) (ps bytes : List ℕ) (over : Bool) (p : Part) → IsPart ts bytes p → TellsTurn ts ps bytes over p Void → p.is_bad ≡ false
+    → (found : Option Piece) → IfSome found (λ f. (bytes ≢ []) × (f.rule ≡ None) × (f.size ≡ length bytes)) → IfSome found (IsGiven ts ps bytes over p)
+all_or_none ts ps bytes over p part void goes None is = tt
+all_or_none ts ps bytes over p part void goes (Some f) is = given_by ts ps bytes over p f None (length bytes) is.1 is.2 (all_given ts ps bytes p over part void goes is.0)
+
+-- the text of a part that begins later
+pub void_text : (bytes : List ℕ) (p : Part) (n : ℕ) → IsParted bytes p → p.from + n ≤ p.ends → text_in bytes (record p { from = p.from + n }) ≡ drop n (text_in bytes p)
+void_text bytes p n parted order =
+    let count : p.ends - (p.from + n) ≡ (p.ends - p.from) - n = omega arith in
+    ap (λ (k : ℕ). take k (drop (p.from + n) bytes)) count
+    ∙ ap (λ (t : List ℕ). take ((p.ends - p.from) - n) t) (sym (drop-drop n p.from bytes))
+    ∙ sym (drop-take n (p.ends - p.from) (drop p.from bytes) (omega (arith, order)) (omega (arith, length-drop p.from bytes, parted.within)))
+
+-- where nothing matches at the front of its text, the part goes on after it
+pub void_part : (ts : List Tree) (bytes : List ℕ) (p : Part) (n : ℕ) → IsPart ts bytes p → IsVoidTo ts (text_in bytes p) n → IsPart ts bytes (record p { from = p.from + n })
+void_part ts bytes p n part void =
+    let size = part_size bytes p part.parted in
+    let order : p.from + n ≤ p.ends = omega (arith, size, void.begins.0) in
+    let count : p.ends - (p.from + n) ≡ (p.ends - p.from) - n = omega arith in
+    let text : text_in bytes (record p { from = p.from + n }) ≡ drop n (text_in bytes p) = void_text bytes p n part.parted order in record {
+      parted = record {
+        order = order;
+        within = part.parted.within;
+        utf8 = subst IsUtf8 (sym text) (IsUtf8-drop (text_in bytes p) n part.parted.utf8 void.begins);
+        left = part.parted.left;
+      };
+      nothing = λ more.
+          none_after ts (bytes ++ more) p.from n (part.nothing more)
+          (subst (λ (t : List ℕ). NoMatchBefore ts t n) (sym (drop-append-le p.from bytes more (omega (arith, part.parted.order, part.parted.within)) ∙ ap (λ (t : List ℕ). t ++ more) (part_split bytes p part.parted) ∙ append_assoc (text_in bytes p) (drop p.ends bytes) more))
+          (void.nothing (drop p.ends bytes ++ more)));
     }
+
+-- ---- bytes that are moved
 
 pub shifted : (bytes : List ℕ) (n end : ℕ) → end ≡ length bytes → n ≤ length bytes → take (length bytes - n) (copy_within bytes n end 0) ≡ drop n bytes
 shifted bytes n end all within =
@@ -369,41 +457,6 @@ shifted bytes n end all within =
     ap (λ (e : ℕ). take left (paste bytes 0 (drop n bytes) (e - n))) all ∙ ap (λ (k : ℕ). take k (paste bytes 0 (drop n bytes) left)) (sym zero)
     ∙ take-paste bytes 0 (drop n bytes) left (omega arith) (omega (arith, size))
     ∙ take_all left (drop n bytes) (omega (arith, size))
-
--- ---- the text at the front of the rest
-
-pub parts_here : (rest text : List ℕ) (n : ℕ) → n ≤ length rest → text ≡ take n rest → rest ≡ text ++ drop (length text) rest
-parts_here rest text n within front =
-    let size : n ≡ length text = omega (arith, ap length front, length-take n rest, within) in
-    sym (take-append-drop n rest) ∙ ap (λ (t : List ℕ). t ++ drop n rest) (sym front) ∙ ap (λ (k : ℕ). text ++ drop k rest) size
-
-pub within_here : (items rest : List ℕ) (given ends : ℕ) (is_bad : Bool) → IsParted items given ends is_bad → rest ≡ drop given items → ends - given ≤ length rest
-within_here items rest given ends is_bad parted left = omega (arith, ap length left, length-drop given items, parted.order, parted.within)
-
-pub left_here : (items rest text : List ℕ) (given ends : ℕ) (is_bad : Bool) → IsParted items given ends is_bad → rest ≡ drop given items
-    → text ≡ take (ends - given) rest → IsLeft (drop (length text) rest) is_bad
-left_here items rest text given ends is_bad parted left front =
-    let within = within_here items rest given ends is_bad parted left in
-    let size : length text ≡ ends - given = omega (arith, ap length front, length-take (ends - given) rest, within) in
-    let place : given + (ends - given) ≡ ends = omega (arith, parted.order) in
-    subst (λ (t : List ℕ). IsLeft t is_bad)
-    (sym (ap (λ (n : ℕ). drop n rest) size ∙ ap (drop (ends - given)) left ∙ drop-drop (ends - given) given items ∙ ap (λ (n : ℕ). drop n items) place)) parted.left
-
--- after a piece
-pub next_parted : (items now rest text : List ℕ) (given ends size : ℕ) (is_bad : Bool) → IsParted items given ends is_bad → now ≡ items → rest ≡ drop given items
-    → text ≡ take (ends - given) rest → (size ≤ length text → IsCharBoundary text size) → (ends2 : ℕ) (bad2 : Bool)
-    → ((from : ℕ) → IsParted now from ends is_bad → from ≤ given + size
-    → (given + size ≤ ends → IsCharBoundary (take (ends - from) (drop from now)) ((given + size) - from)) → IsParted now (given + size) ends2 bad2)
-    → IsParted items (given + size) ends2 bad2
-next_parted items now rest text given ends size is_bad parted same left front boundary ends2 bad2 past =
-    let within = within_here items rest given ends is_bad parted left in
-    let whole : text ≡ take (ends - given) (drop given now) = front ∙ ap (take (ends - given)) (left ∙ ap (drop given) (sym same)) in
-    let place : size ≡ (given + size) - given = omega arith in
-    let begins : given + size ≤ ends → IsCharBoundary (take (ends - given) (drop given now)) ((given + size) - given) =
-    (λ order. subst (λ (n : ℕ). IsCharBoundary (take (ends - given) (drop given now)) n) place
-    (subst (λ (t : List ℕ). IsCharBoundary t size) whole (boundary (omega (arith, order, ap length front, length-take (ends - given) rest, within))))) in
-    subst (λ (t : List ℕ). IsParted t (given + size) ends2 bad2) same
-    (past given (subst (λ (t : List ℕ). IsParted t given ends is_bad) (sym same) parted) (omega arith) begins)
 
 -- ---- where a fault begins
 

@@ -12,6 +12,7 @@ pub mod Least
 pub mod ChunkCode
 pub mod Walking
 pub mod Noted
+pub mod Held
 pub mod Parts
 pub mod Paying
 pub mod Colours

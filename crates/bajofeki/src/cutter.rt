@@ -2,6 +2,7 @@
 
 ghost use Rattle.std.specs.Prelude.{◌≡◌, ℕ, ◌<◌, List, slice_get, Some, IfOk, OnOk};
 ghost use Rattle.lalrpop_dfa.specs.Dfa.{Row};
+ghost use Rattle.lalrpop_rules.specs.Modes.{ModeRules};
 ghost use Rattle.bajofeki.specs.Internal.Noted.{IsCutter};
 
 use crate::memo::Memo;
@@ -35,5 +36,13 @@ impl<'a> Cutter<'a> {
             walkers,
             memo: Memo::new(alloc),
         })
+    }
+
+    /// Forgets what runs read in vain, as in another text, or in one that goes on.
+    pub(crate) fn forget(&mut self, alloc: Global)
+        ensures right { (r : ModeRules) (at at2 : ℕ) (text text2 : List ℕ)
+            → IsCutter r self.old at text → IsCutter r self.new at2 text2 }
+    {
+        self.memo = Memo::new(alloc);
     }
 }

@@ -6,6 +6,7 @@ ghost use Rattle.lalrpop_hir.specs.Tree.{Tree};
 ghost use Rattle.lalrpop_dfa.specs.Dfa.{Row, RecognizesAll};
 ghost use Rattle.lalrpop_dfa.specs.Lookahead.{IsTrim};
 ghost use Rattle.bajofeki.specs.Internal.Reach.{AreAlike};
+ghost use Rattle.bajofeki.specs.Internal.Parts.{IsVoidTo};
 ghost use Rattle.bajofeki.specs.Internal.Kept.{IsFront, IsReadFor, rule_of, reach_of};
 ghost use Rattle.bajofeki.specs.Internal.Walking.{IsRight, IsWalkerOf};
 ghost use Rattle.bajofeki.specs.Internal.Noted.{IsKnown, IsNoted, IsSound};
@@ -20,17 +21,26 @@ use lalrpop_dfa::NfaIndex;
 use lalrpop_hir::Steps;
 use lalrpop_lexer::Lexer;
 
-// The piece at the front of a text: its rule, none in a fault; how many bytes it has; and how many bytes from its beginning on
-// it depends on.
+// The piece at the front of a text: its rule, none in a fault; how many bytes it has; how many bytes from its beginning on it
+// depends on; and at how many bytes of a fault nothing matches, whatever comes after the text.
 #[derive(Clone, Copy)]
 pub(crate) struct Front {
     pub(crate) rule: Option<NfaIndex>,
     pub(crate) size: usize,
     pub(crate) reach: usize,
+    pub(crate) void: usize,
+}
+
+// The place, if what was read up to there lies in a text of this size; else the place so far.
+fn void_up_to(place: usize, reach: usize, size: usize, void: usize) -> usize
+    ensures { ((reach ≤ size) × (result ≡ place)) ⊎ (result ≡ void) }
+{
+    if reach <= size { place } else { void }
 }
 
 // The piece at the front of a text that is cut by the patterns of an automaton, along which the walker goes. The text begins at the
 // byte `at` of a longer one, which the memo is for.
+#[inline(never)]
 fn front_by(
     walker: &Walker<'_>,
     memo: &mut Memo,
@@ -53,6 +63,8 @@ fn front_by(
     ensures boundary { IsCharBoundary rest.now result.size }
     ensures held { length rest.now < result.reach → (d : List Row) (ts : List Tree) (ps : List ℕ)
         → IsWalkerOf walker.now d → IsTrim d → RecognizesAll d ts ps → IsOpen ts rest.now }
+    ensures void { (d : List Row) (ts : List Tree) (ps : List ℕ) → IsWalkerOf walker.now d
+        → RecognizesAll d ts ps → IsVoidTo ts rest.now result.void }
     ensures sound { IsSound walker.now memo.new mode at rest.now }
     ensures others { (m p e n : ℕ) → m ≢ mode → IsNoted memo.new m p e n
         → IsNoted memo.old m p e n }
@@ -69,7 +81,8 @@ fn front_by(
     ensures never_falls { steps.old ≤ steps.new }
 {
     let mut reach = 0usize;
-    for (offset, _) in rest.char_indices() {
+    let mut void = 0usize;
+    for (offset, c) in rest.char_indices() {
         let found = longest_settled(walker, memo, mode, at + offset, &rest[offset..], steps);
         if let Some((index, slice)) = found.longest {
             // That something matches here ends a fault; a longer match would end it too.
@@ -78,20 +91,24 @@ fn front_by(
                     rule: None,
                     size: offset,
                     reach: reach.max(offset + slice.len()),
+                    void,
                 };
             }
             return Front {
                 rule: Some(index),
                 size: slice.len(),
                 reach: found.reach,
+                void: 0,
             };
         }
         reach = reach.max(offset + found.reach);
+        void = void_up_to(offset + c.len_utf8(), reach, rest.len(), void);
     }
     Front {
         rule: None,
         size: rest.len(),
         reach: rest.len() + 1,
+        void,
     }
 }
 
@@ -118,6 +135,7 @@ pub(crate) fn front_piece(
     ensures within { result.reach ≤ length rest.now + 1 }
     ensures boundary { IsCharBoundary rest.now result.size }
     ensures held { length rest.now < result.reach → IsOpen lexer.now.trees rest.now }
+    ensures void { IsVoidTo lexer.now.trees rest.now result.void }
     ensures sound { IsSound walker.now memo.new mode at rest.now }
     ensures others { (m p e n : ℕ) → m ≢ mode → IsNoted memo.new m p e n
         → IsNoted memo.old m p e n }

@@ -14,6 +14,7 @@ mod edit;
 mod error;
 mod front;
 mod given_piece;
+mod held_run;
 mod kept;
 mod lines;
 mod meet;

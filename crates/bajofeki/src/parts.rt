@@ -1,16 +1,18 @@
 //! The piece at the front of bytes, of which some may be of no character.
 
-ghost use Rattle.std.specs.Prelude.{◌≡◌, ◌≢◌, ◌+◌, ◌^◌, ◌<◌, ◌≤◌, ◌++◌, ℕ, List, [], length, take, drop, true, false, IfSome, IfNone, IsSome};
-ghost use Rattle.std.specs.Str.{IsCharBoundary, IsUtf8};
+ghost use Rattle.std.specs.Prelude.{◌≡◌, ◌≢◌, ◌+◌, ◌-◌, ◌^◌, ◌<◌, ◌≤◌, ℕ, [], length, take, drop, true, false, IfSome, IfNone, IsSome};
+ghost use Rattle.std.specs.Str.{IsUtf8};
 ghost use Rattle.lalrpop_rules.specs.Modes.{trees_in};
+ghost use Rattle.bajofeki.specs.Begun.{IsBad};
 ghost use Rattle.bajofeki.specs.Chunked.{IsOpenIn};
-ghost use Rattle.bajofeki.specs.Internal.Kept.{IsFront};
+ghost use Rattle.bajofeki.specs.Internal.Held.{IsHeld};
 ghost use Rattle.bajofeki.specs.Internal.Noted.{IsCutter, IsNoted, IsSound};
-ghost use Rattle.bajofeki.specs.Internal.Parts.{Tells, IsLeft, IsVoid, IsFinalFault, size_in_fault};
+ghost use Rattle.bajofeki.specs.Internal.Parts.{IsGiven, IsPart, IsParted, KeepsPart, Tells, TellsTurn, size_in_fault, text_in};
 ghost use Rattle.bajofeki.specs.Internal.Walking.{IsRight, IsWalkerOf};
 
 use crate::cutter::Cutter;
 use crate::front::front_piece;
+use crate::held_run::{HeldRun, is_held};
 use crate::memo::Memo;
 use crate::text_front::front_of;
 use crate::walker::Walker;
@@ -27,13 +29,13 @@ pub(crate) struct Piece {
     pub(crate) size: usize,
 }
 
-// What a text tells of bytes that begin with it: their piece; that nothing matches in it; or that what comes may change the piece, and
-// whether something matches at its front.
+// What a text tells of bytes that begin with it: their piece; that nothing matches in it; or that what comes may change the piece,
+// whether something matches at its front, and at how many bytes nothing does, whatever comes.
 #[derive(Clone, Copy)]
 enum Told {
     Whole(Piece),
     Nothing,
-    Open(bool),
+    Open(bool, usize),
 }
 
 // What a text tells, after which no character comes if it is the last. It begins at the byte `at` of a longer one, which the memo
@@ -60,7 +62,7 @@ fn told_by(
         return if is_last {
             Told::Nothing
         } else {
-            Told::Open(false)
+            Told::Open(false, 0)
         };
     }
     let front = front_piece(lexer, walker, memo, mode, at, text, &mut Steps::new());
@@ -73,67 +75,12 @@ fn told_by(
         return Told::Whole(piece);
     }
     if !is_last {
-        return Told::Open(is_match);
+        return Told::Open(is_match, front.void);
     }
     if is_match || front.size < text.len() {
         return Told::Whole(piece);
     }
     Told::Nothing
-}
-
-// The same of a text that stands after bytes at which nothing matches.
-fn later_told(alloc: Global, lexer: &Lexer, text: &str, is_last: bool) -> Told
-    requires fits { length text.now < 2 ^ 64 }
-    ensures told { Tells lexer.now.trees lexer.now.precedences text.now is_last result }
-{
-    let walker = Walker::of(lexer.dense());
-    told_by(lexer, &walker, &mut Memo::new(alloc), 0, 0, text, is_last)
-}
-
-// How many bytes of a piece belong to the fault that stands before it.
-fn size_in_fault(piece: &Piece) -> usize
-    ensures size { result ≡ size_in_fault piece.now.rule piece.now.size }
-{
-    match piece.rule {
-        Some(_) => 0,
-        None => piece.size,
-    }
-}
-
-// How many bytes the fault at the front of bytes has, where nothing matches before the byte `from`, if no more of them can change it.
-fn later_fault(
-    alloc: Global,
-    lexer: &Lexer,
-    bytes: &[u8],
-    is_ended: bool,
-    mut from: usize,
-    mut is_bad: bool,
-) -> Option<usize>
-    requires fits { length bytes.now < 2 ^ 64 }
-    requires void { IsVoid lexer.now.trees bytes.now is_ended from is_bad }
-    ensures fault { IfSome result (λ n. IsFinalFault lexer.now.trees bytes.now is_ended n) }
-    ensures within { IfSome result (λ n. (from ≤ n) × (n ≤ length bytes.now)) }
-    ensures empty { IfNone result (is_ended ≡ true → bytes.now ≡ []) }
-    ensures held { IfNone result (is_ended ≡ false → IsOpenIn lexer.now.trees bytes.now) }
-{
-    while is_bad {
-        // The byte of no character.
-        from += 1;
-        let part = front_of(&bytes[from..]);
-        let is_last = is_ended || part.is_bad;
-        match later_told(alloc, lexer, part.text, is_last) {
-            Told::Whole(piece) => return Some(from + size_in_fault(&piece)),
-            Told::Open(is_match) => return if is_match { Some(from) } else { None },
-            Told::Nothing => {}
-        }
-        from += part.text.len();
-        is_bad = part.is_bad;
-    }
-    if bytes.is_empty() {
-        None
-    } else {
-        Some(bytes.len())
-    }
 }
 
 // The same in a mode, along whose walk the cutter goes.
@@ -163,47 +110,227 @@ fn mode_told(
     )
 }
 
-/// The piece at the front of bytes, which begin with the text at the byte `at` of a longer one, if no more of them can change it. After
-/// the text a byte follows that is of no character, or nothing but a character that has begun.
-pub(crate) fn final_front(
-    alloc: Global,
-    lexer: &RuleLexer,
-    kept: &mut Option<Cutter<'_>>,
+/// A text in bytes that have come, before which nothing matches. After it a byte follows that is of no character, if `is_bad`; else
+/// nothing but a character that has begun. So no byte is decoded again.
+#[derive(Clone, Copy)]
+pub(crate) struct Part {
+    pub(crate) from: usize,
+    pub(crate) ends: usize,
+    pub(crate) is_bad: bool,
+}
+
+impl Part {
+    /// The text at the front of the bytes.
+    pub(crate) fn of(bytes: &[u8]) -> Part
+        ensures parted { IsParted bytes.now result }
+        ensures front { result.from ≡ 0 }
+    {
+        let front = front_of(bytes);
+        Part {
+            from: 0,
+            ends: front.text.len(),
+            is_bad: front.is_bad,
+        }
+    }
+
+    /// The text, which was looked at when it came.
+    pub(crate) fn text<'bytes>(&self, bytes: &'bytes [u8]) -> &'bytes str
+        requires parted { IsParted bytes.now self.now }
+        ensures text { result.now ≡ text_in bytes.now self.now }
+    {
+        unsafe { std::str::from_utf8_unchecked(&bytes[self.from..self.ends]) }
+    }
+
+    /// Reads on where the text ended, after which more has come.
+    pub(crate) fn read_on(&mut self, bytes: &[u8])
+        requires within { self.old.ends ≤ length bytes.now }
+        ensures from { self.new.from ≡ self.old.from }
+        ensures order { self.old.ends ≤ self.new.ends }
+        ensures parted { self.old.from ≤ self.old.ends → IsUtf8 (text_in bytes.now self.old)
+            → (self.old.is_bad ≡ true → IsBad (drop self.old.ends bytes.now))
+            → IsParted bytes.now self.new }
+    {
+        if self.is_bad {
+            return;
+        }
+        let more = Part::of(&bytes[self.ends..]);
+        self.ends += more.ends;
+        self.is_bad = more.is_bad;
+    }
+
+    // The text after the byte of no character that follows.
+    fn after_bad(&self, bytes: &[u8]) -> Part
+        requires bad { self.now.is_bad ≡ true }
+        requires parted { IsParted bytes.now self.now }
+        ensures from { result.from ≡ self.now.ends + 1 }
+        ensures parted { IsParted bytes.now result }
+    {
+        let from = self.ends + 1;
+        let more = Part::of(&bytes[from..]);
+        Part {
+            from,
+            ends: from + more.ends,
+            is_bad: more.is_bad,
+        }
+    }
+
+    /// What is left of it after a piece of this size, if the piece ends in it.
+    pub(crate) fn after(&self, size: usize) -> Option<Part>
+        ensures some { IfSome result (λ p. (size ≤ self.now.ends)
+            × (p ≡ record { from = 0; ends = self.now.ends - size; is_bad = self.now.is_bad })) }
+    {
+        if size > self.ends {
+            return None;
+        }
+        Some(Part {
+            from: 0,
+            ends: self.ends - size,
+            is_bad: self.is_bad,
+        })
+    }
+}
+
+// What a part of the bytes tells of the piece at their front: it is given; or held back; or nothing matches in the part.
+#[derive(Clone, Copy)]
+enum Turn {
+    Given(Piece),
+    Held,
+    Void,
+}
+
+// The piece, or the fault that ends before it or with it, if bytes of one lie before it.
+fn after_void(from: usize, piece: &Piece) -> Piece
+    requires fits { from + piece.now.size < 2 ^ 64 }
+    ensures token { from ≡ 0 → (result.rule ≡ piece.now.rule) × (result.size ≡ piece.now.size) }
+    ensures fault { 0 < from → (result.rule ≡ None)
+        × (result.size ≡ from + size_in_fault piece.now.rule piece.now.size) }
+{
+    if from == 0 {
+        return *piece;
+    }
+    match piece.rule {
+        Some(_) => Piece {
+            rule: None,
+            size: from,
+        },
+        None => Piece {
+            rule: None,
+            size: from + piece.size,
+        },
+    }
+}
+
+// Holds a run from the front of the text.
+fn hold<'a>(lexer: &'a RuleLexer, mode: usize, text: &str, held: &mut Option<HeldRun<'a>>)
+    requires there { mode < lexer.now.modes }
+    ensures held { IfSome held.new (IsHeld lexer.now mode text.now) }
+{
+    *held = Some(HeldRun::new(lexer, mode));
+    is_held(lexer, mode, text, false, held);
+}
+
+// What the part tells. If what comes may change the piece, the part begins after the bytes of it at which nothing matches, and a run
+// is held from there.
+#[inline(always)]
+fn part_told<'a>(
+    lexer: &'a RuleLexer,
+    cutter: &mut Cutter<'_>,
+    held: &mut Option<HeldRun<'a>>,
+    part: &mut Part,
     mode: usize,
     at: usize,
     bytes: &[u8],
-    text: &str,
-    is_bad: bool,
+    is_ended: bool,
+) -> Turn
+    requires there { mode < lexer.now.modes }
+    requires part { IsPart (trees_in lexer.now mode) bytes.now part.old }
+    requires cutter { IsCutter lexer.now cutter.old (at + part.old.from) (text_in bytes.now part.old) }
+    requires run { IfSome held.old (IsHeld lexer.now mode (text_in bytes.now part.old)) }
+    requires fits { at + length bytes.now < 2 ^ 64 }
+    ensures told { TellsTurn (trees_in lexer.now mode) lexer.now.precedences bytes.now is_ended part.old result }
+    ensures same { KeepsPart result → part.new ≡ part.old }
+    ensures part { IsPart (trees_in lexer.now mode) bytes.now part.new }
+    ensures cutter { IsCutter lexer.now cutter.new (at + part.new.from) (text_in bytes.now part.new) }
+    ensures run { IfSome held.new (IsHeld lexer.now mode (text_in bytes.now part.new)) }
+{
+    let from = part.from;
+    let text = part.text(bytes);
+    let is_last = is_ended || part.is_bad;
+    if !is_last && is_held(lexer, mode, text, from > 0, held) {
+        return Turn::Held;
+    }
+    match mode_told(lexer, cutter, mode, at + from, text, is_last) {
+        Told::Whole(piece) => Turn::Given(after_void(from, &piece)),
+        Told::Nothing => Turn::Void,
+        Told::Open(is_match, void) => {
+            if is_match && from > 0 {
+                return Turn::Given(Piece {
+                    rule: None,
+                    size: from,
+                });
+            }
+            part.from = from + void;
+            hold(lexer, mode, &text[void..], held);
+            Turn::Held
+        }
+    }
+}
+
+/// The piece at the front of bytes, the first at the byte `at` of a longer text, if no more of them can change it. The part is of these
+/// bytes, and the cutter and the run that is held are of its text; so they are afterwards.
+pub(crate) fn final_front<'a>(
+    alloc: Global,
+    lexer: &'a RuleLexer,
+    kept: &mut Option<Cutter<'_>>,
+    held: &mut Option<HeldRun<'a>>,
+    part: &mut Part,
+    mode: usize,
+    at: usize,
+    bytes: &[u8],
     is_ended: bool,
 ) -> Option<Piece>
     requires there { mode < lexer.now.modes }
     requires some { IsSome kept.old }
-    requires cutter { IfSome kept.old (λ c. IsCutter lexer.now c at text.now) }
+    requires part { IsPart (trees_in lexer.now mode) bytes.now part.old }
+    requires cutter { IfSome kept.old (λ c. IsCutter lexer.now c (at + part.old.from) (text_in bytes.now part.old)) }
+    requires run { IfSome held.old (IsHeld lexer.now mode (text_in bytes.now part.old)) }
     requires fits { at + length bytes.now < 2 ^ 64 }
-    requires begins { bytes.now ≡ text.now ++ drop (length text.now) bytes.now }
-    requires left { IsLeft (drop (length text.now) bytes.now) is_bad }
-    ensures settled { IfSome result (λ f. (more : List ℕ) → (is_ended ≡ true → more ≡ [])
-        → IsFront (trees_in lexer.now mode) lexer.now.precedences (bytes.now ++ more) f.rule
-        (take f.size bytes.now)) }
-    ensures within { IfSome result (λ f. f.size ≤ length bytes.now) }
-    ensures boundary { IfSome result (λ f. f.size ≤ length text.now
-        → IsCharBoundary text.now f.size) }
+    ensures given { IfSome result (IsGiven (trees_in lexer.now mode) lexer.now.precedences bytes.now
+        is_ended part.new) }
     ensures empty { IfNone result (is_ended ≡ true → bytes.now ≡ []) }
     ensures held { IfNone result (is_ended ≡ false → IsOpenIn (trees_in lexer.now mode) bytes.now) }
-    ensures cutter { IfSome kept.new (λ c. IsCutter lexer.now c at text.now) }
+    ensures part { IsPart (trees_in lexer.now mode) bytes.now part.new }
+    ensures cutter { IfSome kept.new (λ c. IsCutter lexer.now c (at + part.new.from) (text_in bytes.now part.new)) }
+    ensures run { IfSome held.new (IsHeld lexer.now mode (text_in bytes.now part.new)) }
 {
     let Some(cutter) = kept else {
         unreachable!();
     };
-    let is_last = is_ended || is_bad;
-    let told = mode_told(lexer, cutter, mode, at, text, is_last);
-    match told {
-        Told::Whole(piece) => Some(piece),
-        Told::Open(_) => None,
-        Told::Nothing => {
-            let lexer = lexer.lexer(mode);
-            let size = later_fault(alloc, lexer, bytes, is_ended, text.len(), is_bad)?;
-            Some(Piece { rule: None, size })
+    'parts: loop {
+        match part_told(lexer, cutter, held, part, mode, at, bytes, is_ended) {
+            Turn::Given(piece) => return Some(piece),
+            Turn::Held => return None,
+            Turn::Void => {}
         }
+        if !part.is_bad {
+            return all_of(bytes);
+        }
+        *part = part.after_bad(bytes);
+        cutter.forget(alloc);
+        *held = None;
     }
+}
+
+// All bytes as a fault; none if there are none.
+fn all_of(bytes: &[u8]) -> Option<Piece>
+    ensures some { IfSome result (λ f. (bytes.now ≢ []) × (f.rule ≡ None) × (f.size ≡ length bytes.now)) }
+    ensures none { IfNone result (bytes.now ≡ []) }
+{
+    if bytes.is_empty() {
+        return None;
+    }
+    Some(Piece {
+        rule: None,
+        size: bytes.len(),
+    })
 }

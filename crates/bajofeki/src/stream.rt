@@ -9,7 +9,8 @@ ghost use Rattle.lalrpop_rules.specs.Pieces.{IsPiece};
 ghost use Rattle.lalrpop_rules.specs.Modes.{EachMode, ModeRules};
 ghost use Rattle.bajofeki.specs.Internal.Kept.{IsFront, after_rule};
 ghost use Rattle.bajofeki.specs.Internal.Noted.{IsCutter};
-ghost use Rattle.bajofeki.specs.Internal.Parts.{IsParted};
+ghost use Rattle.bajofeki.specs.Internal.Parts.{IsPart, IsParted, text_in};
+ghost use Rattle.bajofeki.specs.Internal.Held.{IsHeld};
 ghost use Rattle.bajofeki.specs.Lexed.{BeginsLonger, placed};
 ghost use Rattle.bajofeki.specs.Begun.{NoCharacter, IsBad};
 ghost use Rattle.bajofeki.specs.Chunked.{nothing_come, GivesOrRefuses, BeginsFault, MayMatch};
@@ -18,10 +19,10 @@ ghost use Rattle.bajofeki.specs.Given.{item_by};
 use crate::cutter::Cutter;
 use crate::error::EditError;
 use crate::given_piece::GivenPiece;
+use crate::held_run::{HeldRun, is_open};
 use crate::memo::Memo;
-use crate::parts::final_front;
+use crate::parts::{Part, final_front};
 use crate::run::longest_settled;
-use crate::text_front::front_of;
 use crate::walker::Walker;
 use lalrpop_hir::Steps;
 use lalrpop_lexer::Lexer;
@@ -38,8 +39,8 @@ use std::marker::Model;
 /// end of a chunk cuts in two is held back.
 ///
 /// It keeps what has come and is in no piece that was given. What was given is dropped when more comes, once it is as long as
-/// what is left. A piece that comes in many chunks is read from its beginning once more has come: so feed much at once where much
-/// is held back.
+/// what is left. A token or a fault that comes in many chunks is read on from where the last chunk ended, so short chunks cost
+/// little.
 ///
 /// ```
 /// use bajofeki::Stream;
@@ -61,25 +62,26 @@ pub struct Stream<'rules> {
     last: usize,
     // How many bytes of it were given.
     given: usize,
-    // Where the text at the front of the rest ends. After it a byte follows that is of no character, if `is_bad`; else nothing but a
-    // character that has begun. So no byte is decoded again.
-    ends: usize,
-    is_bad: bool,
+    // A text in the rest, before which nothing matches, whatever comes.
+    part: Part,
     // How many bytes were given in all.
     at: usize,
     stack: ModeStack,
     is_ended: bool,
-    // What the text at the front of the rest is cut with, and what its runs read in vain. None, if more has come since.
+    // What that text is cut with, and what its runs read in vain. None before the first call.
     cutter: Option<Cutter<'rules>>,
+    // The run from its front, if a piece is held back.
+    held: Option<HeldRun<'rules>>,
 }
 
 impl<'rules> Model for Stream<'rules> {
-    ghost use Rattle.std.specs.Prelude.{◌<◌, ◌≤◌, ◌-◌, take, drop, IfSome};
-    ghost use Rattle.lalrpop_rules.specs.Modes.{EachMode};
+    ghost use Rattle.std.specs.Prelude.{◌<◌, ◌≤◌, ◌+◌, ◌-◌, length, take, drop, IfSome};
+    ghost use Rattle.lalrpop_rules.specs.Modes.{EachMode, trees_in};
     ghost use Rattle.bajofeki.specs.Chunked.{Chunked};
     ghost use Rattle.bajofeki.specs.Internal.ChunkCode.{chunked_code};
+    ghost use Rattle.bajofeki.specs.Internal.Held.{IsHeld};
     ghost use Rattle.bajofeki.specs.Internal.Noted.{IsCutter};
-    ghost use Rattle.bajofeki.specs.Internal.Parts.{IsParted};
+    ghost use Rattle.bajofeki.specs.Internal.Parts.{IsPart, text_in};
 
     ghost Value = { Chunked };
 
@@ -94,10 +96,13 @@ impl<'rules> Model for Stream<'rules> {
       is_ended = c.is_ended;
     } };
 
-    ghost invariant = { λ c. (c.last ≤ c.given) × IsParted c.text.items c.given c.ends c.is_bad
+    ghost invariant = { λ c. (c.last ≤ c.given) × (c.given ≤ length c.text.items)
         × EachMode (λ m. m < c.lexer.now.modes) c.stack
-        × IfSome c.cutter (λ t. IsCutter c.lexer.now t c.at
-        (take (c.ends - c.given) (drop c.given c.text.items))) };
+        × IsPart (trees_in c.lexer.now c.stack.mode) (drop c.given c.text.items) c.part
+        × IfSome c.cutter (λ t. IsCutter c.lexer.now t (c.at + c.part.from)
+        (text_in (drop c.given c.text.items) c.part))
+        × IfSome c.held (IsHeld c.lexer.now c.stack.mode
+        (text_in (drop c.given c.text.items) c.part)) };
 }
 
 // Keeps a new cutter, which has read nothing, if none is kept.
@@ -114,15 +119,6 @@ fn keep_cutter<'a>(
         *kept = Some(Cutter::new(alloc, lexer)?);
     }
     Ok(())
-}
-
-// The first bytes as a text, which was looked at when they came.
-fn text_of(bytes: &[u8], size: usize) -> &str
-    requires within { size ≤ length bytes.now }
-    requires utf8 { IsUtf8 (take size bytes.now) }
-    ensures front { result.now ≡ take size bytes.now }
-{
-    unsafe { std::str::from_utf8_unchecked(&bytes[..size]) }
 }
 
 // Whether nothing matches at the front of a text, whatever comes after it: no character, if it is the last.
@@ -188,64 +184,49 @@ fn number_of(rule: Option<NfaIndex>) -> Option<usize>
 }
 
 // Forgets what runs read in vain, since they may go on in a text of which more has come.
-fn forget(cutter: &mut Option<Cutter<'_>>)
-    ensures right { (r : ModeRules) (at : ℕ) (text : List ℕ)
-        → IfSome cutter.new (λ c. IsCutter r c at text) }
+fn forget(alloc: Global, cutter: &mut Option<Cutter<'_>>)
+    ensures right { (r : ModeRules) (at at2 : ℕ) (text text2 : List ℕ)
+        → IfSome cutter.old (λ c. IsCutter r c at text)
+        → IfSome cutter.new (λ c. IsCutter r c at2 text2) }
 {
-    *cutter = None;
-}
-
-// Reads on where the text at the front of the rest ended, after which more has come.
-fn read_on(bytes: &[u8], ends: &mut usize, is_bad: &mut bool)
-    requires within { ends.old ≤ length bytes.now }
-    ensures parted { (given : ℕ) → given ≤ ends.old
-        → IsUtf8 (take (ends.old - given) (drop given bytes.now))
-        → (is_bad.old ≡ true → IsBad (drop ends.old bytes.now))
-        → IsParted bytes.now given ends.new is_bad.new }
-{
-    if *is_bad {
-        return;
+    if let Some(kept) = cutter {
+        kept.forget(alloc);
     }
-    let part = front_of(&bytes[*ends..]);
-    *ends += part.text.len();
-    *is_bad = part.is_bad;
 }
 
-// Finds the text at the front of the rest, if what was given goes past the one that was there. Then what runs read in vain in that one
-// is forgotten.
+// Goes on in the text that is left of the part after a piece of this size, or else in the one at the front of what is left. Then what
+// runs read in vain is forgotten.
 fn go_past(
-    bytes: &[u8],
-    given: usize,
-    ends: &mut usize,
-    is_bad: &mut bool,
+    alloc: Global,
+    size: usize,
+    left: &[u8],
+    part: &mut Part,
     cutter: &mut Option<Cutter<'_>>,
 )
-    requires within { given ≤ length bytes.now }
-    ensures parted { (from : ℕ) → IsParted bytes.now from ends.old is_bad.old → from ≤ given
-        → (given ≤ ends.old
-        → IsCharBoundary (take (ends.old - from) (drop from bytes.now)) (given - from))
-        → IsParted bytes.now given ends.new is_bad.new }
-    ensures cutter { (r : ModeRules) (at from : ℕ) → from ≤ given → ends.old ≤ length bytes.now
-        → IfSome cutter.old (λ c. IsCutter r c at (take (ends.old - from) (drop from bytes.now)))
-        → IfSome cutter.new (λ c. IsCutter r c (at + (given - from))
-        (take (ends.new - given) (drop given bytes.now))) }
+    ensures part { (ts : List Tree) (bytes : List ℕ) → left.now ≡ drop size bytes
+        → IsParted bytes part.old → part.old.from ≤ size
+        → (size ≤ part.old.ends → IsCharBoundary (text_in bytes part.old) (size - part.old.from))
+        → IsPart ts left.now part.new }
+    ensures from { part.new.from ≡ 0 }
+    ensures cutter { (r : ModeRules) (at : ℕ) (bytes : List ℕ) → left.now ≡ drop size bytes
+        → IsParted bytes part.old → part.old.from ≤ size
+        → IfSome cutter.old (λ c. IsCutter r c (at + part.old.from) (text_in bytes part.old))
+        → IfSome cutter.new (λ c. IsCutter r c (at + size) (text_in left.now part.new)) }
 {
-    if given <= *ends {
-        return;
+    match part.after(size) {
+        Some(same) => *part = same,
+        None => {
+            *part = Part::of(left);
+            forget(alloc, cutter);
+        }
     }
-    *ends = given;
-    *is_bad = false;
-    read_on(bytes, ends, is_bad);
-    forget(cutter);
 }
 
 // Drops what was given, unless it is less than what is left: so no more bytes are moved than are dropped.
-fn drop_given(text: &mut Vec<u8>, given: &mut usize, ends: &mut usize)
-    requires order { given.old ≤ ends.old }
-    requires within { ends.old ≤ length text.old.items }
+fn drop_given(text: &mut Vec<u8>, given: &mut usize)
+    requires within { given.old ≤ length text.old.items }
     ensures left { drop given.new text.new.items ≡ drop given.old text.old.items }
-    ensures parted { (is_bad : Bool) → IsParted text.old.items given.old ends.old is_bad
-        → IsParted text.new.items given.new ends.new is_bad }
+    ensures within { given.new ≤ length text.new.items }
 {
     let left = text.len() - *given;
     if *given < left {
@@ -253,7 +234,6 @@ fn drop_given(text: &mut Vec<u8>, given: &mut usize, ends: &mut usize)
     }
     text.copy_within(*given.., 0);
     text.truncate(left);
-    *ends -= *given;
     *given = 0;
 }
 
@@ -269,12 +249,12 @@ impl<'rules> Stream<'rules> {
             text: Vec::new(alloc),
             last: 0,
             given: 0,
-            ends: 0,
-            is_bad: false,
+            part: Part::of(&[]),
             at: 0,
             stack: ModeStack::new(alloc),
             is_ended: false,
             cutter: None,
+            held: None,
         }
     }
 
@@ -289,9 +269,9 @@ impl<'rules> Stream<'rules> {
         ensures refused { OnErr result (self.new ≡ self.old) }
     {
         self.text.extend_from_slice(chunk)?;
-        forget(&mut self.cutter);
-        read_on(&self.text, &mut self.ends, &mut self.is_bad);
-        drop_given(&mut self.text, &mut self.given, &mut self.ends);
+        forget(*self.text.allocator(), &mut self.cutter);
+        self.part.read_on(&self.text[self.given..]);
+        drop_given(&mut self.text, &mut self.given);
         self.last = self.given;
         Ok(())
     }
@@ -341,9 +321,16 @@ impl<'rules> Stream<'rules> {
         if rest.is_empty() {
             return false;
         }
-        let text = text_of(rest, self.ends - self.given);
-        let lexer = self.lexer.lexer(self.stack.top());
-        let is_last = self.is_ended || self.is_bad;
+        if self.part.from > 0 {
+            return true;
+        }
+        let text = self.part.text(rest);
+        let mode = self.stack.top();
+        let is_last = self.is_ended || self.part.is_bad;
+        if !is_last && is_open(self.lexer, mode, text, &self.held) {
+            return false;
+        }
+        let lexer = self.lexer.lexer(mode);
         nothing_matches(*self.text.allocator(), lexer, text, is_last)
     }
 
@@ -363,36 +350,31 @@ impl<'rules> Stream<'rules> {
         if self.at.checked_add(rest.len()).is_none() {
             return Err(EditError::TooLarge);
         }
-        keep_cutter(*self.text.allocator(), &mut self.cutter, self.lexer)?;
+        let alloc = *self.text.allocator();
+        keep_cutter(alloc, &mut self.cutter, self.lexer)?;
         let mode = self.stack.top();
-        let text = text_of(rest, self.ends - self.given);
         let found = final_front(
-            *self.text.allocator(),
+            alloc,
             self.lexer,
             &mut self.cutter,
+            &mut self.held,
+            &mut self.part,
             mode,
             self.at,
             rest,
-            text,
-            self.is_bad,
             self.is_ended,
         );
         let Some(piece) = found else {
             return Ok(None);
         };
-        let from = self.given;
-        let start = self.at;
         act_by(self.lexer, piece.rule, &mut self.stack)?;
+        self.held = None;
+        let start = self.at;
         self.at = start + piece.size;
-        self.last = from;
-        self.given = from + piece.size;
-        go_past(
-            &self.text,
-            self.given,
-            &mut self.ends,
-            &mut self.is_bad,
-            &mut self.cutter,
-        );
+        self.last = self.given;
+        self.given += piece.size;
+        let left = &self.text[self.given..];
+        go_past(alloc, piece.size, left, &mut self.part, &mut self.cutter);
         Ok(Some(GivenPiece {
             rule: number_of(piece.rule),
             is_skipped: is_skipped(self.lexer, piece.rule),

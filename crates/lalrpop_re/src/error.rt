@@ -55,7 +55,7 @@ pub enum SyntaxKind {
     PartUnknown,
     /// A part where a flag is on.
     PartUnderFlag,
-    /// The name of a part that is none.
+    /// The name of a part that is none, or isn't followed by its `}`.
     PartName,
 }
 

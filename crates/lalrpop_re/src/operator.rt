@@ -12,7 +12,7 @@ use crate::cursor::{Cursor, error_at};
 use crate::error::{RegexError, SyntaxKind};
 use crate::number::number_of;
 use crate::opening::after_first;
-use crate::part::{Part, is_name_in_braces, part_after};
+use crate::part::{Part, begins_part, is_name_in_braces, part_after};
 use unicode::properties::is_white_space;
 
 /// How often a piece is repeated, and whether more repetitions are preferred.
@@ -41,7 +41,7 @@ pub(crate) fn is_at_operator(cursor: &Cursor, parts: &[Part]) -> bool
     }
 }
 
-/// Reads an operator where one begins. Where a part's name stands in braces, it is the name of none.
+/// Reads an operator where one begins. Where a part seems to be meant, its name is that of none.
 pub(crate) fn parse_operator_at(cursor: &mut Cursor) -> Result<RepetitionOperator, RegexError>
     ensures value { Gives (λ o.
         (o.min, o.max, o.greedy, text cursor.new)) result
@@ -51,18 +51,23 @@ pub(crate) fn parse_operator_at(cursor: &mut Cursor) -> Result<RepetitionOperato
     ensures moves { OnOk result (unread cursor.new < unread cursor.old) }
 {
     let place = cursor.position();
-    let is_unknown = is_at_unknown(cursor);
-    match parse_operator(cursor) {
-        Err(RegexError::Syntax { .. }) if is_unknown => {
-            Err(error_at(place, SyntaxKind::PartUnknown))
-        }
-        answer => answer,
+    let meant = part_refusal(cursor);
+    match (parse_operator(cursor), meant) {
+        (Err(RegexError::Syntax { .. }), Some(kind)) => Err(error_at(place, kind)),
+        (answer, _) => answer,
     }
 }
 
-/// Whether a name that is to name a part stands here in braces.
-pub(crate) fn is_at_unknown(cursor: &Cursor) -> bool {
-    cursor.knows_parts() && cursor.begins(&['{']) && is_name_in_braces(after_first(cursor.rest()))
+/// What is wrong with a part that is meant here, as the brace before a letter or `_` says, and is none.
+pub(crate) fn part_refusal(cursor: &Cursor) -> Option<SyntaxKind> {
+    if !cursor.knows_parts() || !cursor.begins(&['{']) {
+        return None;
+    }
+    let text = after_first(cursor.rest());
+    if is_name_in_braces(text) {
+        return Some(SyntaxKind::PartUnknown);
+    }
+    begins_part(*text.first()?).then_some(SyntaxKind::PartName)
 }
 
 // Reads an operator and the `?` that belongs to it.

@@ -20,7 +20,7 @@ use crate::escape_sequence::{EscapedPart, parse_escape};
 use crate::flags::Flags;
 use crate::names::repeated_name;
 use crate::opening::{GroupOpening, after_first, parse_opening};
-use crate::operator::{RepetitionOperator, is_at_operator, is_at_unknown, parse_operator_at};
+use crate::operator::{RepetitionOperator, is_at_operator, parse_operator_at, part_refusal};
 use crate::part::{Part, part_after};
 use crate::sets::{leaf_of_set, tree_of_character, tree_of_class, tree_of_dot};
 use lalrpop_hir::{Capture, Hir, Look, Regex, Repetition};
@@ -87,7 +87,8 @@ pub fn parse_regex(alloc: Global, s: &str) -> Result<Regex, RegexError>
 ///
 /// # Errors
 ///
-/// As `parse_regex`, and `PartUnknown` at the `{` of a `{NAME}` that is the name of no part.
+/// As `parse_regex`, and `PartUnknown` at the `{` of a `{NAME}` that is the name of no part, and `PartName` at a `{` before an
+/// ASCII letter or `_` that begins no name in braces.
 ///
 /// ```
 /// use lalrpop_lexer::lexer::re::{Part, parse_with};
@@ -434,11 +435,8 @@ fn parse_part(cursor: &mut Cursor, levels_left: u32, parts: &[Part]) -> Result<N
     ensures deep { IfOk result (λ p. p.depth ≤ levels_left) }
 {
     let Some(found) = part_after(parts, after_first(cursor.rest())) else {
-        return Err(cursor.error(if is_at_unknown(cursor) {
-            SyntaxKind::PartUnknown
-        } else {
-            SyntaxKind::RepetitionMissing
-        }));
+        let kind = part_refusal(cursor).unwrap_or(SyntaxKind::RepetitionMissing);
+        return Err(cursor.error(kind));
     };
     if has_flag(cursor.flags()) {
         return Err(cursor.error(SyntaxKind::PartUnderFlag));

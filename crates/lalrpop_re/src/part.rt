@@ -116,7 +116,8 @@ fn characters(alloc: Global, text: &str) -> Result<Vec<char>, AllocError>
     text.chars().collect(alloc)
 }
 
-fn begins_part(c: char) -> bool
+/// Whether the name of a part may begin with this.
+pub(crate) fn begins_part(c: char) -> bool
     ensures { result ≡ begins_part c }
 {
     c.is_ascii_alphabetic() || c == '_'

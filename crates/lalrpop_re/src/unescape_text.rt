@@ -19,8 +19,8 @@ use std::alloc::Global;
 /// # Errors
 ///
 /// `RegexError::Syntax` if an escape isn't one of a pattern or doesn't stand for a character, with the kind and the position
-/// in bytes that `parse_regex` reports. For the escape of a set or of an assertion that is `EscapeUnrecognized` at its
-/// backslash. `RegexError::OutOfMemory` if a request for memory was refused.
+/// in bytes that `parse_regex` reports. For the escape of a set or of an assertion, and for a digit, that is
+/// `EscapeUnrecognized` at the backslash. `RegexError::OutOfMemory` if a request for memory was refused.
 ///
 /// ```
 /// use lalrpop_lexer::lexer::re::unescape;
@@ -39,9 +39,18 @@ pub fn unescape(alloc: Global, s: &str) -> Result<String, RegexError>
         Ok(text) => Ok(text),
         Err(RegexError::Syntax { position, kind }) => {
             let position = byte_offset(s, position);
+            let kind = kind_in_text(kind);
             Err(RegexError::Syntax { position, kind })
         }
         Err(RegexError::OutOfMemory) => Err(RegexError::OutOfMemory),
+    }
+}
+
+// A text has no groups, so that nothing in it is taken for a reference to one.
+fn kind_in_text(kind: SyntaxKind) -> SyntaxKind {
+    match kind {
+        SyntaxKind::UnsupportedBackreference => SyntaxKind::EscapeUnrecognized,
+        other => other,
     }
 }
 

@@ -68,11 +68,7 @@ IsLook ts ps (Unbounded rules) =
 -- ---- the whole
 
 pub record IsModeReview (r : ModeRules) (m : ℕ) (x : ModeReview) : Type 0 where
-  pub automaton : List Row
-  pub here : slice_get r.automata m ≡ Some automaton
-  pub stands : IsAutomatonOf (trees_in r m) r.precedences automaton
   pub idle : AreIdle r m x.idle.items
-  pub states : x.states ≡ length automaton
   pub least_states : IsLeastStates (trees_in r m) r.precedences x.least_states
   pub look : IsLook (trees_in r m) r.precedences x.look
 

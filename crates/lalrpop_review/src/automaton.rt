@@ -1,5 +1,5 @@
 //! The automaton of a mode, and how many states one needs at least.
-ghost use Rattle.std.specs.Prelude.{◌≡◌, ◌<◌, ℕ, List, slice_get, Some, IfOk};
+ghost use Rattle.std.specs.Prelude.{◌<◌, ℕ, List, IfOk};
 ghost use Rattle.lalrpop_hir.specs.Tree.{Tree};
 ghost use Rattle.lalrpop_dfa.specs.Dfa.{RecognizesAll};
 ghost use Rattle.lalrpop_rules.specs.Modes.{trees_in};
@@ -13,7 +13,6 @@ use std::alloc::{AllocError, Global};
 /// The automaton of the mode.
 pub(crate) fn automaton(lexer: &RuleLexer, mode: usize) -> &Dfa
     requires there { mode < lexer.now.modes }
-    ensures here { slice_get lexer.now.automata mode ≡ Some result.now }
     ensures recognizes { RecognizesAll result.now (trees_in lexer.now mode) lexer.now.precedences }
 {
     lexer.lexer(mode).dense().dfa()

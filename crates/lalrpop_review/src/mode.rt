@@ -14,15 +14,13 @@ use std::alloc::{AllocError, Global};
 /// ```
 /// use lalrpop_review::ModeReview;
 ///
-/// let is_smallest = review.states == review.least_states;
+/// let all_win = review.idle.is_empty();
 /// ```
 #[derive(Debug, Drop)]
 pub struct ModeReview {
     /// The rules that belong to the mode and never win there, ascending.
     pub idle: Vec<IdleRule>,
-    /// The number of states of its automaton.
-    pub states: usize,
-    /// The least number of states of an automaton that recognizes the same trees.
+    /// The least number of states of an automaton that recognizes its trees.
     pub least_states: usize,
     /// How far past a token it reads.
     pub look: Look,
@@ -37,14 +35,11 @@ pub(crate) fn mode_review(
     requires there { mode < lexer.now.modes }
     ensures review { IfOk result (IsModeReview lexer.now mode) }
 {
-    let dfa = automaton(lexer, mode);
     let idle = idle_rules(alloc, lexer, mode)?;
-    let states = dfa.states().len();
-    let least_states = fewest_states(alloc, dfa)?;
+    let least_states = fewest_states(alloc, automaton(lexer, mode))?;
     let look = look_of(alloc, lexer.lexer(mode))?;
     Ok(ModeReview {
         idle,
-        states,
         least_states,
         look,
     })

@@ -9,8 +9,7 @@ use lalrpop_rules::RuleLexer;
 use std::alloc::{AllocError, Global};
 
 /// The review of the rules of this lexer: the rules that match the empty text; and for each mode the rules that never win there,
-/// with the rules that win their texts, the number of states of its automaton and the least number that would do, and how far past
-/// a token it reads.
+/// with the rules that win their texts, the number of states of its smallest automaton, and how far past a token it reads.
 ///
 /// A rule that matches the empty text is told even if it wins other texts. A rule never wins in a mode if each nonempty text
 /// that it matches is a token of a rule of another kind there: rules of one kind have the same tokens, so none of them hides

@@ -1,20 +1,16 @@
 -- Patterns that pass their end.
-use Rattle.std.proofs.Common.{◌≡◌, ◌≢◌, ℕ, ◌↔◌, inl, inr, Bool, false, List, ◌++◌, codes, drop, sym, ap, subst, ◌∙◌}
+use Rattle.std.proofs.Common.{◌≡◌, ℕ, ◌↔◌, inl, inr, Bool, false, List, ◌++◌, codes, drop, sym, ap, subst, ◌∙◌}
 use Rattle.std.specs.Prelude.{IsTrue}
 use Rattle.std.proofs.lemmas.Bool.{false≢true}
-use Rattle.lalrpop_rule_file.specs.PassedEnd.{ArePlain, BeginsWild, IsBetweenPlain, PassesEnd, after_plain}
+use Rattle.std.proofs.lemmas.List.{append_cancel_left}
+use Rattle.lalrpop_rule_file.specs.PassedEnd.{ArePlain, IsBetweenPlain, IsWordThenPlain, PassesEnd}
 
-wild-unique : (text rest other : List ℕ) → BeginsWild text rest → BeginsWild text other → rest ≡ other
-wild-unique text rest other (inl a) (inl b) = ap (drop 2) (sym a ∙ b)
-wild-unique text rest other (inl a) (inr b) = ap (drop 2) (sym a ∙ b)
-wild-unique text rest other (inr a) (inl b) = ap (drop 2) (sym a ∙ b)
-wild-unique text rest other (inr a) (inr b) = ap (drop 2) (sym a ∙ b)
-
-pub between : (pattern rest : List ℕ) (found : Bool) → after_plain pattern ≢ pattern → BeginsWild (after_plain pattern) rest → IsTrue found ↔ ArePlain rest → IsTrue found ↔ IsBetweenPlain pattern
-between pattern rest found begun wild is = (λ holds. (begun, (rest, (wild, is.0 holds))), λ stands. by stands)
+-- after a word
+pub then_plain : (text word rest : List ℕ) (found : Bool) → text ≡ word ++ rest → IsTrue found ↔ ArePlain rest → IsTrue found ↔ IsWordThenPlain text word
+then_plain text word rest found is plain = (λ holds. (rest, (is, plain.0 holds)), λ stands. by stands)
   where
-    by : IsBetweenPlain pattern → IsTrue found
-    by (moved, (other, (own, plain))) = is.1 (subst ArePlain (wild-unique (after_plain pattern) other rest own wild) plain)
+    by : IsWordThenPlain text word → IsTrue found
+    by (other, (own, plain-there)) = plain.1 (subst ArePlain (append_cancel_left word other rest (sym own ∙ is)) plain-there)
 
 -- after the flag
 pub flagged : (pattern rest : List ℕ) (whole found : Bool) → pattern ≡ codes "(?s)" ++ rest → whole ≡ false → IsTrue whole ↔ IsBetweenPlain pattern → IsTrue found ↔ IsBetweenPlain rest → IsTrue found ↔ PassesEnd pattern

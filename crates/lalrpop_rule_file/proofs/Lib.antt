@@ -21,6 +21,7 @@ pub mod RuleLaws
 -- the names of modes, and their numbers
 pub mod Names
 pub mod ModeNumbers
+pub mod OneOf
 -- the lines of a file, and that its rules name its modes
 pub mod FileLines
 pub mod RulesWithin

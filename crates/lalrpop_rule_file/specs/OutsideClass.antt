@@ -1,38 +1,39 @@
 -- cases: proofs/Cases/OutsideClass.antt
 -- POSIX classes that stand outside of brackets, where `[:alpha:]` is a bracket of its own, with the six characters that it shows.
-use Rattle.std.specs.Prelude.{◌≡◌, ◌==◌, ℕ, ◌⊎◌, Bool, not, List, [], ◌∷◌, ◌++◌, Contains, codes}
+use Rattle.std.specs.Prelude.{◌≡◌, ◌==◌, ◌+◌, ◌-◌, ℕ, List, [], ◌∷◌, ◌++◌, Contains, codes, drop, if◌then◌else◌}
 use Rattle.bajofeki_rules.specs.declared.rule_text.RuleText.{RuleText}
 use Rattle.bajofeki_rules.specs.declared.rule_text.RuleText.TheVariants.{Pattern, PatternWith}
-use Rattle.lalrpop_rule_file.specs.Words.{IsSpan, is_of_name}
-use Rattle.lalrpop_rule_file.specs.GoesOn.{EndsInBackslash}
+use Rattle.lalrpop_re.specs.Text.{begins}
 
--- the names of the classes
-abbrev pub class_names : List (List ℕ)
-class_names =
-    codes "alnum" ∷ codes "alpha" ∷ codes "ascii" ∷ codes "blank" ∷ codes "cntrl" ∷ codes "digit" ∷ codes "graph" ∷ codes "lower" ∷ codes "print"
-    ∷ codes "punct" ∷ codes "space" ∷ codes "upper" ∷ codes "word" ∷ codes "xdigit" ∷ []
+-- the classes, and their complements
+abbrev pub classes : List (List ℕ)
+classes =
+    codes "[:alnum:]" ∷ codes "[:alpha:]" ∷ codes "[:ascii:]" ∷ codes "[:blank:]" ∷ codes "[:cntrl:]" ∷ codes "[:digit:]" ∷ codes "[:graph:]"
+    ∷ codes "[:lower:]" ∷ codes "[:print:]" ∷ codes "[:punct:]" ∷ codes "[:space:]" ∷ codes "[:upper:]" ∷ codes "[:word:]" ∷ codes "[:xdigit:]"
+    ∷ codes "[:^alnum:]" ∷ codes "[:^alpha:]" ∷ codes "[:^ascii:]" ∷ codes "[:^blank:]" ∷ codes "[:^cntrl:]" ∷ codes "[:^digit:]" ∷ codes "[:^graph:]"
+    ∷ codes "[:^lower:]" ∷ codes "[:^print:]" ∷ codes "[:^punct:]" ∷ codes "[:^space:]" ∷ codes "[:^upper:]" ∷ codes "[:^word:]" ∷ codes "[:^xdigit:]" ∷ []
 
--- at the front stand a name of a class and `:]`
-abbrev pub NamesClass : List ℕ → Type 0
-NamesClass text = (name rest : List ℕ) × (IsSpan is_of_name text name (codes ":]" ++ rest) × Contains class_names name)
+-- one of these words is at the front
+abbrev pub BeginsOne : List (List ℕ) → List ℕ → Type 0
+BeginsOne words text = (word rest : List ℕ) × (Contains words word × (text ≡ word ++ rest))
 
--- after a `^`
-abbrev pub NamesComplement : List ℕ → Type 0
-NamesComplement text = (rest : List ℕ) × ((text ≡ codes "^" ++ rest) × NamesClass rest)
+-- a bracket after its `[`, and after a `]` that is its first character and doesn't close it
+abbrev pub after_opening : List ℕ → List ℕ
+after_opening text = if begins "]" text then drop 1 text else if begins "^]" text then drop 2 text else text
 
--- at the front stands a class, or the complement of one: `[:alpha:]` or `[:^alpha:]`
-abbrev pub BeginsClass : List ℕ → Type 0
-BeginsClass text = (rest : List ℕ) × ((text ≡ codes "[:" ++ rest) × (NamesClass rest ⊎ NamesComplement rest))
+-- how many brackets are open after this character, or the escape that it begins, and the text from there on
+abbrev pub after_one : ℕ → ℕ → List ℕ → ℕ × List ℕ
+after_one depth b text =
+    if b == 91 then (depth + 1, after_opening text)
+    else if b == 93 then (depth - 1, text) else if b == 92 then (depth, drop 1 text) else (depth, text)
 
-abbrev pub is_no_bracket : ℕ → Bool
-is_no_bracket b = not (b == 91)
-
--- the first bracket of the pattern is a class, unless a backslash makes it a character: so no bracket is open there
-abbrev pub HasClassOutside : List ℕ → Type 0
-HasClassOutside pattern = (front here : List ℕ) × (IsSpan is_no_bracket pattern front here × ((¬ EndsInBackslash front) × BeginsClass here))
+-- so many brackets are open here, and a class stands here or further on where none is
+pub data HasClass : ℕ → List ℕ → Type 0 where
+  here : {b : ℕ} {text : List ℕ} → BeginsOne classes (b ∷ text) → HasClass 0 (b ∷ text)
+  further : {depth b : ℕ} {text : List ℕ} → HasClass (after_one depth b text).0 (after_one depth b text).1 → HasClass depth (b ∷ text)
 
 -- in the text of a rule
 abbrev pub HasOutsideClass : RuleText → Type 0
-HasOutsideClass (Pattern inner) = HasClassOutside inner.now
-HasOutsideClass (PatternWith inner parts) = HasClassOutside inner.now
+HasOutsideClass (Pattern inner) = HasClass 0 inner.now
+HasOutsideClass (PatternWith inner parts) = HasClass 0 inner.now
 HasOutsideClass text = ⊥

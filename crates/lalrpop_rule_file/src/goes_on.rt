@@ -39,8 +39,8 @@ fn looks_like_more(text: &str) -> bool
     looks_like_line(here)
 }
 
-/// Whether the last byte is a backslash.
-pub(crate) fn ends_in_backslash(text: &str) -> bool
+// Whether the last byte is a backslash.
+fn ends_in_backslash(text: &str) -> bool
     ensures { IsTrue result ↔ EndsInBackslash text.now }
 {
     text.strip_suffix('\\').is_some()

@@ -1,76 +1,95 @@
 //! POSIX classes that stand outside of brackets.
-ghost use Rattle.std.specs.Prelude.{◌↔◌, Contains, IsTrue};
-ghost use Rattle.lalrpop_rule_file.specs.Words.{IsSpan};
-ghost use Rattle.lalrpop_rule_file.specs.OutsideClass.{BeginsClass, HasClassOutside, HasOutsideClass, NamesClass, NamesComplement, class_names, is_no_bracket};
+ghost use Rattle.std.specs.Prelude.{◌≡◌, ◌≤◌, ◌<◌, ◌+◌, ◌-◌, ◌^◌, ◌↔◌, IsTrue, length};
+ghost use Rattle.lalrpop_rule_file.specs.OutsideClass.{BeginsOne, HasClass, HasOutsideClass, after_one, after_opening};
+ghost use Rattle.lalrpop_rule_file.specs.Internal.Lines.{names_in};
 
-use crate::goes_on::ends_in_backslash;
-use crate::numbers::number_of;
-use crate::span::{Class, split_front};
+use crate::word::after_word;
 use bajofeki_rules::RuleText;
 
-// The names of the classes.
-const CLASS_NAMES: [&str; 14] = [
-    "alnum", "alpha", "ascii", "blank", "cntrl", "digit", "graph", "lower", "print", "punct",
-    "space", "upper", "word", "xdigit",
+// The classes, and their complements.
+const CLASSES: [&str; 28] = [
+    "[:alnum:]",
+    "[:alpha:]",
+    "[:ascii:]",
+    "[:blank:]",
+    "[:cntrl:]",
+    "[:digit:]",
+    "[:graph:]",
+    "[:lower:]",
+    "[:print:]",
+    "[:punct:]",
+    "[:space:]",
+    "[:upper:]",
+    "[:word:]",
+    "[:xdigit:]",
+    "[:^alnum:]",
+    "[:^alpha:]",
+    "[:^ascii:]",
+    "[:^blank:]",
+    "[:^cntrl:]",
+    "[:^digit:]",
+    "[:^graph:]",
+    "[:^lower:]",
+    "[:^print:]",
+    "[:^punct:]",
+    "[:^space:]",
+    "[:^upper:]",
+    "[:^word:]",
+    "[:^xdigit:]",
 ];
 
-// Whether this is one of them.
-fn is_class_name(name: &str) -> bool
-    ensures { IsTrue result ↔ Contains class_names name.now }
+// Whether one of the words is at the front.
+fn begins_one(words: &[&str], text: &[u8]) -> bool
+    ensures { IsTrue result ↔ BeginsOne (names_in words.now) text.now }
 {
-    number_of(&CLASS_NAMES, name).is_some()
+    for word in words {
+        if after_word(text, word).is_some() {
+            return true;
+        }
+    }
+    false
 }
 
-// Whether such a name and `:]` are at the front.
-fn names_class(text: &str) -> bool
-    ensures { IsTrue result ↔ NamesClass text.now }
+// A bracket after its `[`, and after a `]` that doesn't close it.
+fn after_opening(text: &[u8]) -> &[u8]
+    ensures value { result.now ≡ after_opening text.now }
+    ensures shorter { length result.now ≤ length text.now }
 {
-    let (name, rest) = split_front(text, Class::Name);
-    match rest.strip_prefix(":]") {
-        Some(_) => is_class_name(name),
-        None => false,
+    match text {
+        [b']', rest @ ..] => rest,
+        [b'^', b']', rest @ ..] => rest,
+        _ => text,
     }
 }
 
-// Whether they are after a `^`.
-fn names_complement(text: &str) -> bool
-    ensures { IsTrue result ↔ NamesComplement text.now }
+// How many brackets are open after this character, or the escape that it begins, and the text from there on.
+fn after_one(depth: usize, first: u8, text: &[u8]) -> (usize, &[u8])
+    requires few { depth < 2 ^ 64 - 1 }
+    ensures value { (result.0, result.1.now) ≡ after_one depth first text.now }
+    ensures shorter { length result.1.now ≤ length text.now }
+    ensures few { result.0 ≤ depth + 1 }
 {
-    match text.strip_prefix("^") {
-        Some(rest) => names_class(rest),
-        None => false,
+    match (first, text) {
+        (b'[', _) => (depth + 1, after_opening(text)),
+        (b']', _) => (depth.saturating_sub(1), text),
+        (b'\\', [_, rest @ ..]) => (depth, rest),
+        _ => (depth, text),
     }
 }
 
-// Whether a class is at the front, or the complement of one.
-fn begins_class(text: &str) -> bool
-    ensures { IsTrue result ↔ BeginsClass text.now }
+// Whether a class stands in the pattern where no bracket is open.
+fn has_class(pattern: &[u8]) -> bool
+    ensures { IsTrue result ↔ HasClass 0 pattern.now }
 {
-    match text.strip_prefix("[:") {
-        Some(rest) => names_class(rest) || names_complement(rest),
-        None => false,
+    let mut depth: usize = 0;
+    let mut rest = pattern;
+    while let Some((first, text)) = rest.split_first() {
+        if depth == 0 && begins_one(&CLASSES, rest) {
+            return true;
+        }
+        (depth, rest) = after_one(depth, *first, text);
     }
-}
-
-// The text before the first bracket, and that from there on.
-fn split_at_bracket(pattern: &str) -> (&str, &str)
-    ensures span { IsSpan is_no_bracket pattern.now result.0.now result.1.now }
-{
-    match pattern.find('[') {
-        Some(at) => (&pattern[..at], &pattern[at..]),
-        None => (pattern, ""),
-    }
-}
-
-// Whether the first bracket of the pattern is a class.
-fn has_class_outside(pattern: &str) -> bool
-    ensures { IsTrue result ↔ HasClassOutside pattern.now }
-{
-    let (front, here) = split_at_bracket(pattern);
-    if ends_in_backslash(front) {
-        return false;
-    }
-    begins_class(here)
+    false
 }
 
 /// Whether the text of a rule is a pattern with a class outside brackets.
@@ -78,8 +97,8 @@ pub(crate) fn has_outside_class(text: &RuleText<'_>) -> bool
     ensures { IsTrue result ↔ HasOutsideClass text.now }
 {
     match text {
-        RuleText::Pattern(text) => has_class_outside(text),
-        RuleText::PatternWith { text, .. } => has_class_outside(text),
+        RuleText::Pattern(text) => has_class(text.as_bytes()),
+        RuleText::PatternWith { text, .. } => has_class(text.as_bytes()),
         RuleText::Literal(_)
         | RuleText::Escaped(_)
         | RuleText::AnyCase(_)

@@ -1,10 +1,28 @@
 //! Patterns that pass their end.
-ghost use Rattle.std.specs.Prelude.{◌≡◌, ◌<◌, ◌↔◌, ℕ, List, IfSome, IfNone, IsTrue, length};
+ghost use Rattle.std.specs.Prelude.{◌≡◌, ◌<◌, ◌↔◌, ℕ, List, Contains, IfSome, IfNone, IsTrue, length};
 ghost use Rattle.lalrpop_re.specs.Escape.{is_mark};
 ghost use Rattle.lalrpop_re.specs.Pattern.{is_special};
-ghost use Rattle.lalrpop_rule_file.specs.PassedEnd.{ArePlain, BeginsWild, HasPassedEnd, IsBetweenPlain, PassesEnd, after_plain};
+ghost use Rattle.lalrpop_rule_file.specs.PassedEnd.{ArePlain, HasPassedEnd, IsBetweenPlain, IsWordThenPlain, PassesEnd, after_plain};
+ghost use Rattle.lalrpop_rule_file.specs.Internal.Lines.{names_in};
 
+use crate::word::after_word;
 use bajofeki_rules::RuleText;
+
+// Repetitions of any character.
+const WILDS: [&str; 12] = [
+    ".*",
+    ".+",
+    "(?s:.)*",
+    "(?s:.)+",
+    "(?s:.*)",
+    "(?s:.+)",
+    "(.|\\n)*",
+    "(.|\\n)+",
+    "(?:.|\\n)*",
+    "(?:.|\\n)+",
+    "[\\s\\S]*",
+    "[\\s\\S]+",
+];
 
 // Whether the character doesn't stand for itself.
 fn is_special(byte: u8) -> bool
@@ -51,17 +69,6 @@ fn after_plain(text: &[u8]) -> &[u8]
     rest
 }
 
-// What follows `.*` or `.+` at the front.
-fn after_wild(text: &[u8]) -> Option<&[u8]>
-    ensures some { IfSome result (λ rest. BeginsWild text.now rest.now) }
-    ensures none { IfNone result ((rest : List ℕ) → ¬ BeginsWild text.now rest) }
-{
-    match text {
-        [b'.', b'*' | b'+', rest @ ..] => Some(rest),
-        _ => None,
-    }
-}
-
 // Whether there is a character, and all are plain.
 fn are_plain(text: &[u8]) -> bool
     ensures { IsTrue result ↔ ArePlain text.now }
@@ -72,7 +79,30 @@ fn are_plain(text: &[u8]) -> bool
     after_plain(text).is_empty()
 }
 
-// Whether `.*` or `.+` stands between plain characters.
+// Whether the text is this word and plain characters after it.
+fn is_word_then_plain(word: &str, text: &[u8]) -> bool
+    ensures { IsTrue result ↔ IsWordThenPlain text.now word.now }
+{
+    match after_word(text, word) {
+        Some(rest) => are_plain(rest),
+        None => false,
+    }
+}
+
+// Whether it is one of these words and plain characters after it.
+fn is_one_then_plain(words: &[&str], text: &[u8]) -> bool
+    ensures { IsTrue result ↔ ((word : List ℕ) × (Contains (names_in words.now) word
+        × IsWordThenPlain text.now word)) }
+{
+    for word in words {
+        if is_word_then_plain(word, text) {
+            return true;
+        }
+    }
+    false
+}
+
+// Whether such a repetition stands between plain characters.
 fn is_between_plain(pattern: &[u8]) -> bool
     ensures { IsTrue result ↔ IsBetweenPlain pattern.now }
 {
@@ -80,10 +110,7 @@ fn is_between_plain(pattern: &[u8]) -> bool
     if here == pattern {
         return false;
     }
-    match after_wild(here) {
-        Some(rest) => are_plain(rest),
-        None => false,
-    }
+    is_one_then_plain(&WILDS, here)
 }
 
 // Whether the pattern passes its end.

@@ -24,10 +24,10 @@ pub enum Warning {
     /// The text of this rule goes on after a delimiter that seems to end it: with blanks and a `#`, or with blanks and a name
     /// before a `=`. A text ends at the last delimiter of its line.
     TextGoesOn { rule: usize },
-    /// The first bracket in the pattern of this rule is a POSIX class, such as `[:alpha:]`, which is a class only inside of
-    /// another bracket: `[[:alpha:]]`.
+    /// A bracket in the pattern of this rule is a POSIX class, such as `[:alpha:]`, which is a class only inside of another
+    /// bracket: `[[:alpha:]]`.
     ClassOutside { rule: usize },
-    /// The pattern of this rule is `A.*B`, or with a `+`, where A and B are plain characters: a match goes on to the last B of a
-    /// line, past the first one. `from 'A' to 'B'` ends at the first.
+    /// The pattern of this rule is `A.*B`, where A and B are plain characters, or with a `+`, or with `(?s:.)`, `(.|\n)` or
+    /// `[\s\S]` for the `.`: a match goes on to the last B, past the first one. `from 'A' to 'B'` ends at the first.
     EndPassed { rule: usize },
 }

@@ -1,5 +1,5 @@
 //! Words and marks at the front of a text.
-ghost use Rattle.std.specs.Prelude.{◌≡◌, ◌≢◌, ◌<◌, ◌∷◌, ℕ, List, IfSome, IfNone};
+ghost use Rattle.std.specs.Prelude.{◌≡◌, ◌≢◌, ◌<◌, ◌∷◌, ◌++◌, ℕ, List, IfSome, IfNone};
 ghost use Rattle.lalrpop_rule_file.specs.Words.{EachByte, IsSpan, begins, begins_name as can_begin_name, is_of_name};
 
 /// Whether the first character can begin a name.
@@ -19,6 +19,15 @@ pub(crate) fn behind(text: &str, mark: char) -> Option<&str>
     ensures none { IfNone result ((rest : List ℕ) → text.now ≢ mark ∷ rest) }
 {
     let rest = text.strip_prefix(mark)?;
+    Some(rest)
+}
+
+/// What follows the bytes of this word at the front.
+pub(crate) fn after_word<'text>(text: &'text [u8], word: &str) -> Option<&'text [u8]>
+    ensures some { IfSome result (λ rest. text.now ≡ word.now ++ rest.now) }
+    ensures none { IfNone result ((rest : List ℕ) → text.now ≢ word.now ++ rest) }
+{
+    let rest = text.strip_prefix(word.as_bytes())?;
     Some(rest)
 }
 

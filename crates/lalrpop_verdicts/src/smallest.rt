@@ -23,7 +23,7 @@ use std::alloc::{AllocError, Global};
 /// So it is one of a kind: two results that answer each word alike are equal but for their items, whatever automata they were
 /// made from. They have the same states by number, each with the same kind, the same test edges and the same other edge.
 ///
-/// The items are lost: a state stands for several sets of items here, so it holds none. Keep `dfa` for what asks for them.
+/// The items are lost: a state stands for several sets of items here. Keep `dfa` for what asks for them.
 ///
 /// Cost: rounds that split the states into classes, at most one for each state, and then one walk over the edges of one state
 /// for each class.

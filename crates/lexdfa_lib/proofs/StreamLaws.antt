@@ -5,10 +5,9 @@ use Rattle.std.proofs.Math.Seq.{take-append-add}
 use Rattle.std.proofs.lemmas.List.{take-append-le, take_all}
 use Rattle.std.proofs.KnownBytes.{Appends-trans, Consumes-nil, Consumes-trans}
 use Rattle.lexdfa_lib.proofs.Known.{Appends-none, AppendsPrefix-behind, AppendsPrefix-front}
-use Rattle.lexdfa_lib.specs.Watch.{AppendsPrefix}
 use Rattle.lexdfa_lib.specs.declared.error.RunError.{RunError}
 use Rattle.lexdfa_lib.specs.declared.error.RunError.TheVariants.{OutOfMemory, Read, Write}
-use Rattle.lexdfa_lib.specs.Streams.{Stream, Works, Breaks, ReadEnd, AtEnd, Failed, NotOpened, LeftOff, Reads, EndsReading, Takes, TakesPart, IsCause, IsTold, IsToldBy, IsToldPart}
+use Rattle.lexdfa_lib.specs.Streams.{Stream, AppendsPrefix, Works, Breaks, ReadEnd, AtEnd, Failed, NotOpened, LeftOff, Reads, EndsReading, Takes, TakesPart, IsCause, IsTold, IsToldBy, IsToldPart}
 
 -- ---- calls
 

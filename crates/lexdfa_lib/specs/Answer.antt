@@ -1,14 +1,12 @@
 -- cases: proofs/Cases/Answer.antt
--- The answer for bytes and a text: one outcome, and its line.
-use Rattle.std.specs.Prelude.{◌≡◌, ℕ, ◌⊎◌, List, length, Option, Some, None}
+-- The outcome for bytes and a text.
+use Rattle.std.specs.Prelude.{◌≡◌, ℕ, ◌⊎◌, List, length, Some, None}
 use Rattle.lalrpop_hir.specs.Tree.{Tree}
 use Rattle.lalrpop_lexer.specs.Clash.{IsClash, NoClash}
 use Rattle.lalrpop_lexer.specs.Longest.{IsLongest}
 use Rattle.lalrpop_lexer.specs.Report.{NoFault, FirstFault}
 use Rattle.bajofeki_rules.specs.Lines.{lines}
 use Rattle.lalrpop_lexer.specs.Terminals.{AreTerminals, FirstSays}
-use Rattle.lexdfa_lib.specs.Printed.{line_of}
-use Rattle.lexdfa_lib.specs.Watch.{ReadsAll, AppendsPrefix}
 use Rattle.lalrpop_lexer.specs.declared.terminal_line.TerminalLine.TheVariants.{Bad, NoTree}
 use Rattle.lexdfa_lib.specs.declared.outcome.Outcome.{Outcome}
 use Rattle.lexdfa_lib.specs.declared.outcome.Outcome.TheVariants.{Match, NoMatch, Refused, Ambiguous, Syntax, Line}
@@ -42,16 +40,3 @@ Finds ts ps text _ = ⊥
 abbrev pub IsOutcome : List ℕ → List ℕ → Outcome → Type 0
 IsOutcome bytes text outcome =
     IsReported bytes outcome ⊎ ((ts : List Tree) × ((ps : List ℕ) × (HaveAutomaton bytes ts ps × Finds ts ps text outcome)))
-
--- the line for the bytes and the text
-abbrev pub IsAnswer : List ℕ → List ℕ → List ℕ → Type 0
-IsAnswer bytes text line = (outcome : Outcome) × (IsOutcome bytes text outcome × (line ≡ line_of outcome))
-
--- a reader was read to its end, and this is the outcome for its bytes and the text
-abbrev pub ReadsOutcome : Option (List ℕ) → Option (List ℕ) → List ℕ → Outcome → Type 0
-ReadsOutcome old new text outcome = (bytes : List ℕ) × (ReadsAll old new bytes × IsOutcome bytes text outcome)
-
--- a reader was read to its end, and a writer took a prefix of the line for its bytes and the text
-abbrev pub WritesPrefix : Option (List ℕ) → Option (List ℕ) → List ℕ → Option (List ℕ) → Option (List ℕ) → Type 0
-WritesPrefix left left_now text held held_now =
-    (bytes : List ℕ) × (ReadsAll left left_now bytes × ((line : List ℕ) × (IsAnswer bytes text line × AppendsPrefix held held_now line)))

@@ -1,6 +1,6 @@
 -- cases: proofs/Cases/Ending.antt
 -- How the program ends.
-use Rattle.std.specs.Prelude.{ℕ, List, codes, Option, Some, None, Result, Ok, Err}
+use Rattle.std.specs.Prelude.{ℕ, List, [], codes, Result, Ok, Err}
 use Rattle.lexdfa_lib.specs.Status.{outcome_status, error_status}
 use Rattle.lexdfa_lib.specs.declared.ending.Failure.{Failure}
 use Rattle.lexdfa_lib.specs.declared.ending.Failure.TheVariants.{Usage, Run}
@@ -13,10 +13,10 @@ ending_status (Ok outcome) = outcome_status outcome
 ending_status (Err Usage) = 4
 ending_status (Err (Run error)) = error_status error
 
--- the line on standard error, if there is no outcome
-abbrev pub ending_message : Result Outcome Failure → Option (List ℕ)
-ending_message (Ok outcome) = None
-ending_message (Err Usage) = Some (codes "lexdfa: usage: lexdfa [--all] TEXT\n")
-ending_message (Err (Run OutOfMemory)) = Some (codes "lexdfa: out of memory\n")
-ending_message (Err (Run Read)) = Some (codes "lexdfa: read failed\n")
-ending_message (Err (Run Write)) = Some (codes "lexdfa: write failed\n")
+-- what is said on standard error: a line if there is no outcome
+abbrev pub ending_message : Result Outcome Failure → List ℕ
+ending_message (Ok outcome) = []
+ending_message (Err Usage) = codes "lexdfa: usage: lexdfa [--all] TEXT\n"
+ending_message (Err (Run OutOfMemory)) = codes "lexdfa: out of memory\n"
+ending_message (Err (Run Read)) = codes "lexdfa: read failed\n"
+ending_message (Err (Run Write)) = codes "lexdfa: write failed\n"

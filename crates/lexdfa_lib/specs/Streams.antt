@@ -2,27 +2,28 @@
 -- What a run did to its streams: what it read of them, what it wrote, and where one broke.
 use Rattle.std.specs.Prelude.{◌≡◌, ◌⊎◌, ◌≤◌, ℕ, Bool, true, false, List, [], length, take, Option, Some, None, Result, Ok, Err, codes, string_bytes}
 use Rattle.std.specs.Io.KnownBytes.{Appends, Consumes, IsAtEnd}
-use Rattle.lexdfa_lib.specs.Watch.{AppendsPrefix}
 use Rattle.lexdfa_lib.specs.declared.error.RunError.{RunError}
 use Rattle.lexdfa_lib.specs.declared.error.RunError.TheVariants.{OutOfMemory, Read, Write}
 use Rattle.lexdfa_lib.specs.declared.files.NoBytes.{NoBytes}
 use Rattle.lexdfa_lib.specs.declared.files.NoBytes.TheVariants as no_bytes
 
--- a stream: the bytes that it still gives, or those that it has taken, where they are known; whether a call can fail; and whether one has
+-- a stream: the bytes that it still gives, or those that it has taken, where they are known; whether a call can fail; whether one has; and
+-- how many calls were made after that
 pub record Stream : Type 0 where
   pub bytes : Option (List ℕ)
   pub may_fail : Bool
   pub is_broken : Bool
+  pub late : ℕ
 
 -- no call has failed yet
 abbrev pub opened : Option (List ℕ) → Bool → Stream
-opened bytes may_fail = record { bytes = bytes; may_fail = may_fail; is_broken = false }
+opened bytes may_fail = record { bytes = bytes; may_fail = may_fail; is_broken = false; late = 0 }
 
--- no call fails
+-- no call fails, and none is made after one that failed
 abbrev pub Works : Stream → Stream → Type 0
 Works old new = new ≡ record old { bytes = new.bytes }
 
--- a call fails, or one had failed before, which only a stream does that may
+-- a call fails, or one had failed before, and then none is made. Only a stream that may does so
 abbrev pub Breaks : Stream → Stream → Type 0
 Breaks old new = (old.may_fail ≡ true) × (new ≡ record old { bytes = new.bytes; is_broken = true })
 
@@ -51,6 +52,12 @@ EndsReading old new LeftOff = Works old new
 abbrev pub Reads : Stream → Stream → Reading → Type 0
 Reads old new reading = Consumes old.bytes new.bytes reading.bytes × EndsReading old new reading.end
 
+-- not all of a stream is read, for this reason: memory was refused, or a read fails
+abbrev pub ReadsPart : Stream → Stream → RunError → Type 0
+ReadsPart old new OutOfMemory = (bytes : List ℕ) × Reads old new (record { bytes = bytes; end = LeftOff })
+ReadsPart old new Read = (bytes : List ℕ) × Reads old new (record { bytes = bytes; end = Failed })
+ReadsPart old new Write = ⊥
+
 -- what a file gives that is wanted whole: all its bytes, or the reason why there are none
 abbrev pub Given : Type 0
 Given = Result (List ℕ) (List ℕ)
@@ -68,6 +75,10 @@ reason_told no_bytes.OutOfMemory = None
 reason_told (no_bytes.Because reason) = Some (string_bytes reason)
 
 -- ---- writing
+
+-- the bytes so far grow by a prefix of these
+abbrev pub AppendsPrefix : Option (List ℕ) → Option (List ℕ) → List ℕ → Type 0
+AppendsPrefix old new bytes = (n : ℕ) × (n ≤ length bytes) × Appends old new (take n bytes)
 
 -- a stream takes all of these bytes
 abbrev pub Takes : Stream → List ℕ → Stream → Type 0

@@ -1,13 +1,11 @@
 -- cases: proofs/Cases/Whole.antt
 -- The answer for bytes and a text that is cut into tokens: one outcome, and the lines of the tokens and of the outcome.
-use Rattle.std.specs.Prelude.{◌≡◌, ℕ, ◌⊎◌, List, [], ◌∷◌, ◌++◌, length, map, flat_map, Option, Ok, Err}
+use Rattle.std.specs.Prelude.{◌≡◌, ℕ, ◌⊎◌, List, [], ◌∷◌, ◌++◌, length, map, flat_map, Ok, Err}
 use Rattle.std.specs.Borrow.{Bor}
-use Rattle.std.specs.Io.KnownBytes.{Appends}
 use Rattle.lalrpop_hir.specs.Tree.{Tree}
 use Rattle.lalrpop_hir.specs.Tokens.{AreItems}
 use Rattle.lexdfa_lib.specs.Answer.{HaveAutomaton, IsReported}
 use Rattle.lexdfa_lib.specs.Printed.{line_of}
-use Rattle.lexdfa_lib.specs.Watch.{ReadsAll, AppendsPrefix}
 use Rattle.lexdfa_lib.specs.declared.outcome.Outcome.{Outcome}
 use Rattle.lexdfa_lib.specs.declared.outcome.Outcome.TheVariants.{Match, All, Stopped}
 
@@ -36,17 +34,3 @@ token_line token = line_of (Match token.0 (length token.1.now))
 abbrev pub AreAnswers : List ℕ → List ℕ → Outcome → List ℕ → Type 0
 AreAnswers bytes text outcome written =
     (tokens : List Token) × (IsWhole bytes text tokens outcome × (written ≡ flat_map token_line tokens ++ line_of outcome))
-
--- a reader was read to its end, and these are the outcome and all lines for its bytes and the text
-abbrev pub ReadsAnswers : Option (List ℕ) → Option (List ℕ) → List ℕ → Outcome → List ℕ → Type 0
-ReadsAnswers old new text outcome written = (bytes : List ℕ) × (ReadsAll old new bytes × AreAnswers bytes text outcome written)
-
--- a reader was read to its end, and a writer took all lines for its bytes and the text
-abbrev pub WritesAnswers : Option (List ℕ) → Option (List ℕ) → List ℕ → Option (List ℕ) → Option (List ℕ) → Outcome → Type 0
-WritesAnswers left left_now text held held_now outcome =
-    (written : List ℕ) × (ReadsAnswers left left_now text outcome written × Appends held held_now written)
-
--- a reader was read to its end, and a writer took a prefix of all lines for its bytes and the text
-abbrev pub WritesAnswersPrefix : Option (List ℕ) → Option (List ℕ) → List ℕ → Option (List ℕ) → Option (List ℕ) → Type 0
-WritesAnswersPrefix left left_now text held held_now =
-    (outcome : Outcome) × ((written : List ℕ) × (ReadsAnswers left left_now text outcome written × AppendsPrefix held held_now written))

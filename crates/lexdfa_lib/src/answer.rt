@@ -1,22 +1,20 @@
-//! The whole run: reads bytes, builds the automaton of their terminals, and writes one line.
-ghost use Rattle.std.specs.Prelude.{◌≡◌, ◌≢◌, ℕ, List, false, true, map, length, IfOk, OnOk, IfErr, OnErr};
-ghost use Rattle.std.specs.Io.KnownBytes.{Appends};
-ghost use Rattle.lexdfa_lib.specs.Answer.{IsOutcome, ReadsOutcome, WritesPrefix};
+//! The whole run: reads bytes, builds the automaton of their terminals, and writes the lines of the outcome.
+ghost use Rattle.std.specs.Prelude.{◌≡◌, ℕ, List, true, false, map, length, string_bytes, IfOk, IfErr};
+ghost use Rattle.lexdfa_lib.specs.Answer.{IsOutcome};
 ghost use Rattle.bajofeki_rules.specs.Lines.{lines};
-ghost use Rattle.lexdfa_lib.specs.Printed.{line_of};
 ghost use Rattle.lalrpop_lexer.specs.Terminals.{AreTerminals};
-ghost use Rattle.lexdfa_lib.specs.Watch.{AppendsPrefix};
+ghost use Rattle.lexdfa_lib.specs.Run.{AreLines, Answers as RunAnswers, Fails};
 ghost use Rattle.lexdfa_lib.specs.declared.outcome.Outcome.{Outcome};
 
+use crate::cutting::{Answers, answers_of};
 use crate::error::RunError;
 use crate::outcome::{Outcome, outcome_line};
 use crate::report::outcome_of_error;
-use crate::watched::{Watched, read_whole, write_whole};
+use crate::streams::{Reader, Sink, Source, Writer, read_whole};
 use lalrpop_lexer::lexer::dfa::Precedence;
 use lalrpop_lexer::lexer::re::Regex;
 use lalrpop_lexer::{Terminals, longest_match, read_terminals};
 use std::alloc::{AllocError, Global};
-use std::io::{Read, Write};
 
 // What the patterns find in the text.
 fn find(
@@ -56,48 +54,36 @@ fn outcome_of(alloc: Global, bytes: &[u8], text: &str) -> Result<Outcome, AllocE
     }
 }
 
-// The outcome for all bytes that the reader has left, and for the text.
-fn read_outcome<R: Read>(
-    alloc: Global,
-    reader: &mut Watched<R>,
-    text: &str,
-) -> Result<Outcome, RunError>
-    requires reader_good { reader.old.failed ≡ false }
-    ensures outcome { IfOk result (λ outcome.
-        ReadsOutcome (R.remaining reader.old.inner) (R.remaining reader.new.inner)
-        text.now outcome) }
-    ensures good { OnOk result (reader.new.failed ≡ false) }
-    ensures memory { IfErr result (λ e. e ≡ RunError.OutOfMemory → reader.new.failed ≡ false) }
-    ensures read { IfErr result (λ e. e ≡ RunError.Read → reader.new.failed ≡ true) }
-    ensures write { IfErr result (λ e. e ≢ RunError.Write) }
-    ensures no_late_read { reader.new.late ≡ reader.old.late }
+// The outcome for these bytes and the text, and all lines: of the longest match, or, if all of the text is cut, of its tokens.
+fn answers(alloc: Global, all: bool, bytes: &[u8], text: &str) -> Result<Answers, AllocError>
+    ensures { IfOk result (λ answers.
+        AreLines all text.now bytes.now answers.outcome (string_bytes answers.lines)) }
 {
-    let bytes = read_whole(alloc, reader)?;
-    outcome_of(alloc, &bytes, text).or(Err(RunError::OutOfMemory))
+    if all {
+        return answers_of(alloc, bytes, text);
+    }
+    let outcome = outcome_of(alloc, bytes, text)?;
+    let lines = outcome_line(alloc, &outcome)?;
+    Ok(Answers { outcome, lines })
 }
 
-// Writes the line of an outcome.
-fn write_outcome<W: Write>(
+/// `run_all`, or `run` if not all of the text is to be cut.
+pub(crate) fn run_over<I: Source, O: Sink>(
     alloc: Global,
-    outcome: &Outcome,
-    writer: &mut Watched<W>,
-) -> Result<(), RunError>
-    requires writer_good { writer.old.failed ≡ false }
-    ensures line { OnOk result
-        (Appends (W.contents writer.old.inner) (W.contents writer.new.inner)
-        (line_of outcome.now)) }
-    ensures good { OnOk result (writer.new.failed ≡ false) }
-    ensures nothing_written { IfErr result (λ e. e ≢ RunError.Write → writer.new ≡ writer.old) }
-    ensures write { IfErr result (λ e. e ≡ RunError.Write → writer.new.failed ≡ true) }
-    ensures prefix { IfErr result (λ e. e ≡ RunError.Write → AppendsPrefix
-        (W.contents writer.old.inner) (W.contents writer.new.inner) (line_of outcome.now)) }
-    ensures read { IfErr result (λ e. e ≢ RunError.Read) }
-    ensures no_late_write { writer.new.late ≡ writer.old.late }
+    all: bool,
+    reader: &mut Reader<I>,
+    text: &str,
+    writer: &mut Writer<O>,
+) -> Result<Outcome, RunError>
+    ensures answer { IfOk result (λ outcome. RunAnswers (AreLines all text.now)
+        reader.old reader.new writer.old writer.new outcome) }
+    ensures fails { IfErr result (λ e. Fails (AreLines all text.now)
+        reader.old reader.new writer.old writer.new e) }
 {
-    let Ok(line) = outcome_line(alloc, outcome) else {
-        return Err(RunError::OutOfMemory);
-    };
-    write_whole(writer, line.as_bytes())
+    let bytes = read_whole(alloc, reader)?;
+    let Answers { outcome, lines } = answers(alloc, all, &bytes, text)?;
+    writer.write(lines.as_bytes())?;
+    Ok(outcome)
 }
 
 /// Reads the reader to its end, and writes the line of the outcome for the bytes and the text.
@@ -106,40 +92,53 @@ fn write_outcome<W: Write>(
 /// `l` or `r`, a space, and a literal or a pattern. Each line ends with a line feed, which the last line may lack. No call is
 /// tried again: once a call of the reader or the writer has failed, it is not called any more.
 ///
+/// ```
+/// use lexdfa_lib::{Reader, Writer, run};
+///
+/// let mut reader = Reader::new("0 r [a-z]+\n".as_bytes());
+/// let mut writer = Writer::new(Vec::new(alloc));
+/// run(alloc, &mut reader, "let x", &mut writer)?;
+/// let line = writer.into_sink(); // the bytes of "match 0 3\n"
+/// ```
+///
 /// # Errors
 ///
 /// `OutOfMemory` if a request for memory was refused, and `Read` if a read failed: nothing was written. `Write` if a
 /// write failed or took no byte: a prefix of the line was written.
-pub fn run<R: Read, W: Write>(
+pub fn run<I: Source, O: Sink>(
     alloc: Global,
-    reader: &mut Watched<R>,
+    reader: &mut Reader<I>,
     text: &str,
-    writer: &mut Watched<W>,
+    writer: &mut Writer<O>,
 ) -> Result<Outcome, RunError>
-    requires reader_good { reader.old.failed ≡ false }
-    requires writer_good { writer.old.failed ≡ false }
-
-    ensures outcome { IfOk result (λ outcome.
-        ReadsOutcome (R.remaining reader.old.inner) (R.remaining reader.new.inner)
-        text.now outcome) }
-    ensures line { IfOk result (λ outcome.
-        Appends (W.contents writer.old.inner) (W.contents writer.new.inner) (line_of outcome)) }
-    ensures good { OnOk result ((reader.new.failed ≡ false) × (writer.new.failed ≡ false)) }
-
-    ensures memory { IfErr result (λ e. e ≡ RunError.OutOfMemory → reader.new.failed ≡ false) }
-    ensures read { IfErr result (λ e. e ≡ RunError.Read → reader.new.failed ≡ true) }
-    ensures nothing_written { IfErr result (λ e. e ≢ RunError.Write → writer.new ≡ writer.old) }
-
-    ensures write { IfErr result (λ e. e ≡ RunError.Write
-        → (reader.new.failed ≡ false) × (writer.new.failed ≡ true)) }
-    ensures prefix { IfErr result (λ e. e ≡ RunError.Write →
-        WritesPrefix (R.remaining reader.old.inner) (R.remaining reader.new.inner) text.now
-        (W.contents writer.old.inner) (W.contents writer.new.inner)) }
-
-    ensures no_late_read { reader.new.late ≡ reader.old.late }
-    ensures no_late_write { writer.new.late ≡ writer.old.late }
+    ensures answer { IfOk result (λ outcome. RunAnswers (AreLines false text.now)
+        reader.old reader.new writer.old writer.new outcome) }
+    ensures fails { IfErr result (λ e. Fails (AreLines false text.now)
+        reader.old reader.new writer.old writer.new e) }
 {
-    let outcome = read_outcome(alloc, reader, text)?;
-    write_outcome(alloc, &outcome, writer)?;
-    Ok(outcome)
+    run_over(alloc, false, reader, text, writer)
+}
+
+/// Reads the reader to its end, cuts the whole text into tokens by the terminals that were read, and writes a line for each
+/// token, and then one for the fault, if there is one. If the terminals have no automaton, it writes the one line of `run`.
+///
+/// The input has the form that `run` reads. All lines are made before the first is written. No call is tried again: once a call
+/// of the reader or the writer has failed, it is not called any more.
+///
+/// # Errors
+///
+/// `OutOfMemory` if a request for memory was refused, and `Read` if a read failed: nothing was written. `Write` if a
+/// write failed or took no byte: a prefix of the lines was written.
+pub fn run_all<I: Source, O: Sink>(
+    alloc: Global,
+    reader: &mut Reader<I>,
+    text: &str,
+    writer: &mut Writer<O>,
+) -> Result<Outcome, RunError>
+    ensures answer { IfOk result (λ outcome. RunAnswers (AreLines true text.now)
+        reader.old reader.new writer.old writer.new outcome) }
+    ensures fails { IfErr result (λ e. Fails (AreLines true text.now)
+        reader.old reader.new writer.old writer.new e) }
+{
+    run_over(alloc, true, reader, text, writer)
 }

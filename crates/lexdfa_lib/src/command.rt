@@ -13,12 +13,11 @@ use std::alloc::{AllocError, Global};
 /// How a text is shown.
 ///
 /// ```
-/// use lexdfa_lib::Watched;
-/// use tokens_lib::{Markup, write_page};
+/// use tokens_lib::{Console, Markup, Reader, write_page};
 ///
-/// let mut reader = Watched::new("let x".as_bytes());
-/// let mut writer = Watched::new(Vec::new(alloc));
-/// let end = write_page(alloc, &rules, Markup::Html, &mut reader, &mut writer)?;
+/// let mut reader = Reader::new("let x".as_bytes());
+/// let mut console = Console::new(Vec::new(alloc), Vec::new(alloc));
+/// let end = write_page(alloc, &lexer, Markup::Html, &mut reader, &mut console)?;
 /// ```
 #[derive(Clone, Copy, Debug, PartialEq, Eq)]
 pub enum Markup {

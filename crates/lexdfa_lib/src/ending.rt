@@ -1,5 +1,5 @@
 //! How a program ends: its status, and the line of `lexdfa` on standard error.
-ghost use Rattle.std.specs.Prelude.{◌≡◌, Result, Err, option_map};
+ghost use Rattle.std.specs.Prelude.{◌≡◌, Result, Err};
 ghost use Rattle.lexdfa_lib.specs.Ending.{ending_status, ending_message};
 
 use crate::error::RunError;
@@ -32,8 +32,8 @@ pub enum Failure {
 pub struct Ending {
     /// The exit status.
     pub status: u8,
-    /// The line for standard error, with its line feed, if any.
-    pub message: Option<&'static str>,
+    /// The line for standard error, with its line feed. It is empty if there is an outcome.
+    pub message: &'static str,
 }
 
 /// The exit status of a program with this result: the status of the outcome or of the error, or 4 for wrong arguments.
@@ -51,12 +51,12 @@ impl Ending {
     /// How the program `lexdfa` ends with this result. There is a message only if there is no outcome.
     pub fn of(found: &Result<Outcome, Failure>) -> Ending
         ensures status { result.status ≡ ending_status found.now }
-        ensures message { option_map (λ m. m.now) result.message ≡ ending_message found.now }
+        ensures message { result.message.now ≡ ending_message found.now }
     {
         let message = match found {
-            Ok(_) => None,
-            Err(Failure::Usage) => Some("lexdfa: usage: lexdfa [--all] TEXT\n"),
-            Err(Failure::Run(error)) => Some(error_message(error)),
+            Ok(_) => "",
+            Err(Failure::Usage) => "lexdfa: usage: lexdfa [--all] TEXT\n",
+            Err(Failure::Run(error)) => error_message(error),
         };
         Ending {
             status: status_of(found),
@@ -66,7 +66,7 @@ impl Ending {
 }
 
 fn error_message(error: &RunError) -> &'static str
-    ensures { Some result.now ≡ ending_message (Err (Failure.Run error.now)) }
+    ensures { result.now ≡ ending_message (Err (Failure.Run error.now)) }
 {
     match error {
         RunError::OutOfMemory => "lexdfa: out of memory\n",

@@ -1,9 +1,10 @@
 //! Files that are read by name, and standard error.
-ghost use Rattle.std.specs.Prelude.{◌≡◌, ℕ, List, [], Ok, Err, codes, string_bytes, IfOk, IfErr, IfSome, IfNone};
-ghost use Rattle.lexdfa_lib.specs.Streams.{Stream, Reading, AtEnd, Failed, NotOpened, GivesWhole, Reads, opened, reason_told};
+ghost use Rattle.std.specs.Prelude.{◌≡◌, ℕ, List, [], Ok, Err, codes, string_bytes, IfOk, IfErr, IfSome};
+ghost use Rattle.lexdfa_lib.specs.Streams.{Stream, Reading, NotOpened, GivesWhole, Reads, reason_told};
 ghost use Rattle.lexdfa_lib.specs.declared.files.NoBytes.TheVariants.{OutOfMemory};
 
-use crate::streams::{Reader, Source, System};
+use crate::error::RunError;
+use crate::streams::{Reader, Source, Watched, read_whole};
 use std::alloc::{AllocError, Global};
 use std::fs::{File, OpenFile};
 use std::io::{self, Eprint, ErrorKind, Write};
@@ -64,7 +65,7 @@ pub trait Files {
     /// Why there is nothing to read from.
     fn open(&self, alloc: Global, name: &str) -> Result<Self::Reader, NoBytes>
         ensures reader { IfOk result (λ source. (new : Stream) (reading : Reading)
-            → Reads (opened (Self.Reader.left source) (Self.Reader.may_fail source)) new reading
+            → Reads (Self.Reader.stream source) new reading
             → gives self.now name.now reading) }
         ensures reason { IfErr result (λ e. IfSome (reason_told e) (λ reason.
             gives self.now name.now (record { bytes = []; end = NotOpened reason }))) };
@@ -95,11 +96,11 @@ impl<R: RuntimeFiles> Files for SystemFiles<'_, R> {
     // No contract can say what is on a disk.
     ghost gives = { λ files name reading. Unit {0} };
 
-    type Reader = System<R::File>;
+    type Reader = Watched<R::File>;
 
-    fn open(&self, alloc: Global, name: &str) -> Result<System<R::File>, NoBytes> {
+    fn open(&self, alloc: Global, name: &str) -> Result<Watched<R::File>, NoBytes> {
         match opened(self.rt, name) {
-            Ok(file) => Ok(System(file)),
+            Ok(file) => Ok(Watched::new(file)),
             Err(error) if error.kind() == ErrorKind::OutOfMemory => Err(NoBytes::OutOfMemory),
             Err(error) => Err(NoBytes::Because(format!(in alloc; "{error}")?)),
         }
@@ -109,9 +110,9 @@ impl<R: RuntimeFiles> Files for SystemFiles<'_, R> {
 /// Standard error, as a writer of text.
 ///
 /// ```
-/// use lexdfa_lib::{ErrorStream, System, Writer};
+/// use lexdfa_lib::{ErrorStream, Watched, Writer};
 ///
-/// let errors = Writer::new(System(ErrorStream { rt }));
+/// let errors = Writer::new(Watched::new(ErrorStream { rt }));
 /// ```
 #[derive(Drop)]
 pub struct ErrorStream<'rt, R> {
@@ -129,27 +130,6 @@ impl<R: Eprint> Write for ErrorStream<'_, R> {
 
     fn flush(&mut self) -> io::Result<()> {
         Ok(())
-    }
-}
-
-// All bytes that a reader has left, or none if a read fails or has failed before.
-fn bytes_left<S: Source>(
-    alloc: Global,
-    reader: &mut Reader<S>,
-) -> Result<Option<Vec<u8>>, AllocError>
-    ensures bytes { IfOk result (λ found. IfSome found (λ all.
-        Reads reader.old reader.new (record { bytes = all.items; end = AtEnd }))) }
-    ensures failed { IfOk result (λ found. IfNone found ((bytes : List ℕ)
-        × Reads reader.old reader.new (record { bytes = bytes; end = Failed }))) }
-{
-    let mut all = Vec::new(alloc);
-    let mut buffer = [0u8; 8192];
-    loop {
-        match reader.read(&mut buffer) {
-            None => return Ok(None),
-            Some(0) => return Ok(Some(all)),
-            Some(n) => all.extend_from_slice(&buffer[..n])?,
-        }
     }
 }
 
@@ -173,8 +153,9 @@ pub fn bytes_of<F: Files>(
         Err(NoBytes::OutOfMemory) => return Err(AllocError),
         Err(NoBytes::Because(reason)) => return Ok(Err(reason)),
     };
-    match bytes_left(alloc, &mut Reader::new(source))? {
-        Some(bytes) => Ok(Ok(bytes)),
-        None => Ok(Err(String::from_str(alloc, "read failed")?)),
+    match read_whole(alloc, &mut Reader::new(source)) {
+        Ok(bytes) => Ok(Ok(bytes)),
+        Err(RunError::Read) => Ok(Err(String::from_str(alloc, "read failed")?)),
+        Err(_) => Err(AllocError),
     }
 }

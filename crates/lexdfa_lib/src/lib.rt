@@ -19,11 +19,9 @@ mod program;
 mod report;
 mod streams;
 mod usage;
-mod watched;
-mod whole_text;
 mod word;
 
-pub use answer::run;
+pub use answer::{run, run_all};
 pub use command::{
     Action, ArgumentsError, Command, Language, Markup, Verbosity, WRONG_ARGUMENTS, command_of,
 };
@@ -38,8 +36,6 @@ pub use outcome::{Outcome, clash_line, outcome_line};
 pub use output::Output;
 pub use program::{flushed, run_and_flush, run_program, without_arguments};
 pub use report::outcome_of_error;
-pub use streams::{Reader, Sink, Source, System, Writer};
+pub use streams::{Reader, Sink, Source, Watched, Writer, read_whole};
 pub use usage::{help, version, wrong_text};
-pub use watched::{Watched, read_whole, write_whole};
-pub use whole_text::run_all;
 pub use word::Word;

@@ -1,20 +1,21 @@
 //! The program `lexdfa`: its arguments, a flush after the last line, what it says if it fails, and its exit status.
-ghost use Rattle.std.specs.Prelude.{◌≡◌, ◌≢◌, ◌↔◌, ◌≤◌, ℕ, List, Option, false, true, IsOk, IfOk, IfErr};
+ghost use Rattle.std.specs.Prelude.{◌≡◌, ◌≢◌, ◌↔◌, ◌≤◌, IsOk, IfOk, IfErr};
 ghost use Rattle.std.specs.IoError.{error_kind};
 ghost use Rattle.std.specs.Process.{exit_status};
-ghost use Rattle.lexdfa_lib.specs.Answer.{ReadsOutcome};
-ghost use Rattle.lexdfa_lib.specs.Whole.{WritesAnswers};
+ghost use Rattle.lexdfa_lib.specs.Ending.{ending_status, ending_message};
+ghost use Rattle.lexdfa_lib.specs.Run.{AreLines, Answers};
+ghost use Rattle.lexdfa_lib.specs.Streams.{Stream, IsTold};
 
-use crate::answer::run;
+use crate::answer::run_over;
 use crate::command_line::arguments;
 use crate::ending::{Ending, Failure};
 use crate::error::RunError;
+use crate::files::ErrorStream;
 use crate::outcome::Outcome;
-use crate::watched::Watched;
-use crate::whole_text::run_all;
+use crate::streams::{Reader, Source, Watched, Writer};
 use std::alloc::Global;
 use std::env;
-use std::io::{self, Eprint, ErrorKind, Read, Write};
+use std::io::{self, Eprint, ErrorKind, Write};
 use std::process::ExitCode;
 use std::rt::Env;
 
@@ -46,52 +47,24 @@ pub fn flushed<T: Drop>(found: T, flush: &io::Result<()>) -> Result<T, Failure>
     }
 }
 
-// `run_all`, or `run` if not all of the text is to be cut.
-fn run_over<R: Read, W: Write>(
-    alloc: Global,
-    all: bool,
-    reader: &mut Watched<R>,
-    text: &str,
-    writer: &mut Watched<W>,
-) -> Result<Outcome, RunError>
-    requires reader_good { reader.old.failed ≡ false }
-    requires writer_good { writer.old.failed ≡ false }
-    ensures one { IfOk result (λ outcome. all ≡ false
-        → ReadsOutcome (R.remaining reader.old.inner) (R.remaining reader.new.inner)
-        text.now outcome) }
-    ensures whole { IfOk result (λ outcome. all ≡ true
-        → WritesAnswers (R.remaining reader.old.inner) (R.remaining reader.new.inner) text.now
-        (W.contents writer.old.inner) (W.contents writer.new.inner) outcome) }
-{
-    if all {
-        run_all(alloc, reader, text, writer)
-    } else {
-        run(alloc, reader, text, writer)
-    }
-}
-
-/// `run_all` over this reader and this writer, or `run` if not all of the text is to be cut, and a flush after the last line.
+/// `run_all`, or `run` if not all of the text is to be cut, and a flush after the last line.
 ///
 /// # Errors
 ///
 /// As `run`; a failed flush is a failed write.
-pub fn run_and_flush<R: Read + Drop, W: Write + Drop>(
+pub fn run_and_flush<I: Source, W: Write + Drop>(
     alloc: Global,
     all: bool,
-    reader: R,
+    reader: &mut Reader<I>,
     text: &str,
-    writer: W,
+    mut writer: Writer<Watched<W>>,
 ) -> Result<Outcome, Failure>
-    ensures one { IfOk result (λ outcome. all ≡ false → (left : Option (List ℕ))
-        × ReadsOutcome (R.remaining reader) left text.now outcome) }
-    ensures whole { IfOk result (λ outcome. all ≡ true → (left held : Option (List ℕ))
-        × WritesAnswers (R.remaining reader) left text.now (W.contents writer) held outcome) }
+    ensures answer { IfOk result (λ outcome. (taken : Stream) × Answers (AreLines all text.now)
+        reader.old reader.new writer taken outcome) }
     ensures usage { IfErr result (λ e. e ≢ Failure.Usage) }
 {
-    let mut reader = Watched::new(reader);
-    let mut writer = Watched::new(writer);
-    match run_over(alloc, all, &mut reader, text, &mut writer) {
-        Ok(outcome) => flushed(outcome, &writer.into_inner().flush()),
+    match run_over(alloc, all, reader, text, &mut writer) {
+        Ok(outcome) => flushed(outcome, &writer.into_sink().into_inner().flush()),
         Err(error) => Err(Failure::Run(error)),
     }
 }
@@ -102,7 +75,21 @@ fn answer(rt: &(impl Env + Input + Print + AllocGlobal)) -> Result<Outcome, Fail
         return Err(Failure::Run(RunError::OutOfMemory));
     };
     let (all, text) = arguments(&words).ok_or(Failure::Usage)?;
-    run_and_flush(rt.alloc(), all, rt.reader(), text, io::writer(rt))
+    let mut reader = Reader::new(Watched::new(rt.reader()));
+    let writer = Writer::new(Watched::new(io::writer(rt)));
+    run_and_flush(rt.alloc(), all, &mut reader, text, writer)
+}
+
+// Says why there is no outcome, if there is none, and returns the exit status.
+fn finish<W: Write + Drop>(found: &Result<Outcome, Failure>, err: &mut Writer<Watched<W>>) -> u8
+    ensures status { result ≡ ending_status found.now }
+    ensures said { IsTold err.old (ending_message found.now) err.new }
+    ensures bound { result ≤ 6 }
+{
+    let Ending { status, message } = Ending::of(found);
+    // If writing to standard error fails, the exit status still reports the error.
+    let _ = err.tell(message);
+    status
 }
 
 /// Does what the arguments say (`arguments`): reads terminals from standard input, and writes the lines of `run` or of `run_all` to
@@ -110,10 +97,6 @@ fn answer(rt: &(impl Env + Input + Print + AllocGlobal)) -> Result<Outcome, Fail
 pub fn run_program<R: Env + Input + Print + Eprint + AllocGlobal>(rt: &R) -> ExitCode
     ensures status { exit_status result ≤ 6 }
 {
-    let Ending { status, message } = Ending::of(&answer(rt));
-    if let Some(message) = message {
-        // If writing to standard error fails, the exit status still reports the error.
-        let _ = eprint!(rt; "{message}");
-    }
-    ExitCode::from(status)
+    let mut err = Writer::new(Watched::new(ErrorStream { rt }));
+    ExitCode::from(finish(&answer(rt), &mut err))
 }

@@ -1,11 +1,13 @@
 //! Streams: what bytes are read from, and what takes them.
-ghost use Rattle.std.specs.Prelude.{◌≡◌, ◌≢◌, ◌<◌, ◌≤◌, ℕ, List, [], Bool, Option, Some, true, false, length, take, IfOk, IfErr, OnOk, OnErr, IfSome, IfNone};
-ghost use Rattle.std.specs.Io.{ReadsAtMost};
-ghost use Rattle.std.specs.Io.KnownBytes.{ReadConsumes, Appends};
-ghost use Rattle.lexdfa_lib.specs.Watch.{AppendsPrefix};
-ghost use Rattle.lexdfa_lib.specs.Streams.{AtEnd, Failed, LeftOff, Reads, Takes, TakesPart, IsTold, IsToldPart, opened};
+ghost use Rattle.std.specs.Prelude.{◌≡◌, ◌<◌, ◌≤◌, ◌||◌, ℕ, List, [], Option, Some, Bool, true, false, length, take, IfOk, IfErr, OnOk, OnErr, IfSome, IfNone};
+ghost use Rattle.std.specs.Io.{ReadsAtMost, WritesAtMost};
+ghost use Rattle.std.specs.Io.KnownBytes.{ReadConsumes, WriteAppends};
+ghost use Rattle.lexdfa_lib.specs.Calls.{late_after, read_failed, write_failed};
+ghost use Rattle.lexdfa_lib.specs.Streams.{Stream, AtEnd, Failed, LeftOff, Reads, ReadsPart, Takes, TakesPart, IsTold, IsToldPart, opened};
 
 use crate::error::RunError;
+use lalrpop_lexer::lexer::nfa::Steps;
+use std::alloc::Global;
 use std::io::{self, Read, Write};
 use std::marker::Model;
 
@@ -17,35 +19,31 @@ use std::marker::Model;
 /// let reader = Reader::new("let x".as_bytes());
 /// ```
 pub trait Source: Drop {
-    // The bytes that it still gives, where they are known.
-    ghost left: { Self → Option (List ℕ) };
+    // What contracts see of it.
+    ghost stream: { Self → Stream };
 
-    // Whether a read can fail.
-    ghost may_fail: { Self → Bool };
-
-    /// Puts bytes at the front of `buf`, and returns their number: 0 only at the end, or if `buf` is empty.
-    ///
-    /// # Errors
-    ///
-    /// The source's own error.
-    fn give(&mut self, buf: &mut [u8]) -> io::Result<usize>
-        ensures bound { ReadsAtMost result buf.new }
-        ensures bytes { ReadConsumes (left self.old) (left self.new) result buf.new }
-        ensures fails { OnErr result (may_fail self.old ≡ true) }
-        ensures same { may_fail self.new ≡ may_fail self.old };
+    /// Puts bytes at the front of `buf`, and returns their number: 0 only at the end, or if `buf` is empty. None if a read
+    /// fails, or has failed before: then it isn't read any more.
+    fn give(&mut self, buf: &mut [u8]) -> Option<usize>
+        ensures bound { IfSome result (λ n. n ≤ length buf.new) }
+        ensures given { IfSome result (λ n. ((stream self.old).is_broken ≡ false)
+            × Reads (stream self.old) (stream self.new)
+            (record { bytes = take n buf.new; end = LeftOff })) }
+        ensures end { IfSome result (λ n. n ≡ 0 → 0 < length buf.new
+            → Reads (stream self.old) (stream self.new) (record { bytes = []; end = AtEnd })) }
+        ensures fails { IfNone result
+            (Reads (stream self.old) (stream self.new) (record { bytes = []; end = Failed })) };
 }
 
 impl Source for &[u8] {
-    ghost left = { λ s. Some s.now };
+    ghost stream = { λ s. opened (Some s.now) false };
 
-    ghost may_fail = { λ _. false };
-
-    fn give(&mut self, buf: &mut [u8]) -> io::Result<usize> {
+    fn give(&mut self, buf: &mut [u8]) -> Option<usize> {
         let count = self.len().min(buf.len());
         let (given, left) = self.split_at(count);
         buf[..count].copy_from_slice(given);
         *self = left;
-        Ok(count)
+        Some(count)
     }
 }
 
@@ -57,33 +55,30 @@ impl Source for &[u8] {
 /// let writer = Writer::new(Vec::new(alloc));
 /// ```
 pub trait Sink: Drop {
-    // The bytes that it has taken, where they are known.
-    ghost taken: { Self → Option (List ℕ) };
-
-    // Whether a write can fail.
-    ghost may_fail: { Self → Bool };
+    // What contracts see of it.
+    ghost stream: { Self → Stream };
 
     // Whether a write asks for memory.
     ghost needs_memory: { Bool };
 
-    /// Takes all of these bytes.
+    /// Takes all of these bytes. If a write has failed, nothing more is taken.
     ///
     /// # Errors
     ///
-    /// `OutOfMemory` if a request for memory was refused, and `Write` if a write failed: a prefix was taken.
+    /// `OutOfMemory` if a request for memory was refused: nothing was taken. `Write` if a write fails or has failed: a prefix was
+    /// taken.
     fn take(&mut self, bytes: &[u8]) -> Result<(), RunError>
-        ensures all { OnOk result (Appends (taken self.old) (taken self.new) bytes.now) }
-        ensures part { OnErr result (AppendsPrefix (taken self.old) (taken self.new) bytes.now) }
-        ensures read { IfErr result (λ e. e ≢ RunError.Read) }
-        ensures fails { IfErr result (λ e. e ≡ RunError.Write → may_fail self.old ≡ true) }
-        ensures memory { IfErr result (λ e. e ≡ RunError.OutOfMemory → needs_memory ≡ true) }
-        ensures same { may_fail self.new ≡ may_fail self.old };
+        ensures all { OnOk result (((stream self.old).is_broken ≡ false)
+            × Takes (stream self.old) bytes.now (stream self.new)) }
+        ensures part { IfErr result
+            (λ e. TakesPart (stream self.old) bytes.now e (stream self.new)
+            × ((stream self.old).is_broken ≡ true → stream self.new ≡ stream self.old)) }
+        ensures refused { IfErr result (λ e. e ≡ RunError.OutOfMemory
+            → (needs_memory ≡ true) × (stream self.new ≡ stream self.old)) };
 }
 
 impl Sink for Vec<u8> {
-    ghost taken = { λ v. Some v.items };
-
-    ghost may_fail = { λ _. false };
+    ghost stream = { λ v. opened (Some v.items) false };
 
     ghost needs_memory = { true };
 
@@ -95,38 +90,146 @@ impl Sink for Vec<u8> {
     }
 }
 
-/// A reader or a writer whose calls may fail, as those of the system. No call is tried again.
+/// A reader or a writer whose calls may fail, as those of the system. A source or a sink of it makes no call after one that failed.
 ///
 /// ```
-/// use lexdfa_lib::{Reader, System, Writer};
+/// use lexdfa_lib::{Reader, Watched, Writer};
 ///
-/// let mut input = Reader::new(System(rt.reader()));
-/// let mut output = Writer::new(System(io::writer(rt)));
+/// let mut input = Reader::new(Watched::new(rt.reader()));
+/// let mut output = Writer::new(Watched::new(io::writer(rt)));
 /// ```
 #[derive(Drop)]
-pub struct System<T>(pub T);
+pub struct Watched<T> {
+    inner: T,
+    is_broken: bool,
+    // The number of calls after one that failed. Only contracts read it.
+    late: Steps,
+}
 
-impl<R: Read + Drop> Source for System<R> {
-    ghost left = { λ s. R.remaining s.0 };
+impl<T> Watched<T> {
+    /// Wraps a reader or a writer, none of whose calls has failed.
+    pub fn new(inner: T) -> Watched<T>
+        ensures new { result ≡ record { inner = inner; is_broken = false; late = 0 } }
+    {
+        Watched {
+            inner,
+            is_broken: false,
+            late: Steps::new(),
+        }
+    }
 
-    ghost may_fail = { λ _. true };
+    /// Whether some call has failed.
+    pub fn failed(&self) -> bool
+        ensures failed { result ≡ self.now.is_broken }
+    {
+        self.is_broken
+    }
 
-    fn give(&mut self, buf: &mut [u8]) -> io::Result<usize> {
-        self.0.read(buf)
+    /// The reader or the writer.
+    pub fn into_inner(self) -> T
+        ensures inner { result ≡ self.inner }
+    {
+        let Watched {
+            inner,
+            is_broken: _,
+            late: _,
+        } = self;
+        inner
+    }
+
+    // Each call begins with this.
+    fn note_call(&mut self)
+        ensures { self.new ≡ record self.old { late = late_after self.old.is_broken self.old.late } }
+    {
+        if self.is_broken {
+            self.late.tick();
+        }
     }
 }
 
-impl<W: Write + Drop> Sink for System<W> {
-    ghost taken = { λ s. W.contents s.0 };
+impl<R: Read> Watched<R> {
+    /// Calls the reader once, and returns how many bytes were put at the front of `buf`.
+    ///
+    /// # Errors
+    ///
+    /// The reader's own error.
+    pub fn read(&mut self, buf: &mut [u8]) -> io::Result<usize>
+        ensures bound { ReadsAtMost result buf.new }
+        ensures bytes { ReadConsumes (R.remaining self.old.inner) (R.remaining self.new.inner)
+            result buf.new }
+        ensures broken { self.new.is_broken ≡ (self.old.is_broken || read_failed result) }
+        ensures late { self.new.late ≡ late_after self.old.is_broken self.old.late }
+    {
+        self.note_call();
+        let result = self.inner.read(buf);
+        if result.is_err() {
+            self.is_broken = true;
+        }
+        result
+    }
+}
 
-    ghost may_fail = { λ _. true };
+impl<R: Read + Drop> Source for Watched<R> {
+    ghost stream = { λ s. record {
+      bytes = R.remaining s.inner;
+      may_fail = true;
+      is_broken = s.is_broken;
+      late = s.late;
+    } };
+
+    fn give(&mut self, buf: &mut [u8]) -> Option<usize> {
+        if self.is_broken {
+            return None;
+        }
+        match self.read(buf) {
+            Ok(count) => Some(count),
+            Err(_) => None,
+        }
+    }
+}
+
+impl<W: Write> Watched<W> {
+    /// Calls the writer once, and returns how many bytes were taken. If it takes none of some bytes, the call counts as failed.
+    ///
+    /// # Errors
+    ///
+    /// The writer's own error.
+    pub fn write(&mut self, bytes: &[u8]) -> io::Result<usize>
+        ensures bound { WritesAtMost result bytes.now }
+        ensures taken { WriteAppends (W.contents self.old.inner) (W.contents self.new.inner)
+            result bytes.now }
+        ensures broken { self.new.is_broken
+            ≡ (self.old.is_broken || write_failed bytes.now result) }
+        ensures late { self.new.late ≡ late_after self.old.is_broken self.old.late }
+    {
+        self.note_call();
+        let result = self.inner.write(bytes);
+        match result {
+            Ok(0) if !bytes.is_empty() => self.is_broken = true,
+            Ok(_) => {}
+            Err(_) => self.is_broken = true,
+        }
+        result
+    }
+}
+
+impl<W: Write + Drop> Sink for Watched<W> {
+    ghost stream = { λ s. record {
+      bytes = W.contents s.inner;
+      may_fail = true;
+      is_broken = s.is_broken;
+      late = s.late;
+    } };
 
     ghost needs_memory = { false };
 
     fn take(&mut self, bytes: &[u8]) -> Result<(), RunError> {
+        if self.is_broken {
+            return Err(RunError::Write);
+        }
         let mut at = 0;
         while at < bytes.len() {
-            match self.0.write(&bytes[at..]) {
+            match self.write(&bytes[at..]) {
                 Err(_) => return Err(RunError::Write),
                 Ok(0) => return Err(RunError::Write),
                 Ok(n) => at += n,
@@ -136,54 +239,40 @@ impl<W: Write + Drop> Sink for System<W> {
     }
 }
 
-/// A source, and whether a read has failed.
+/// A source, as contracts see it: a stream.
 ///
 /// ```
-/// use lexdfa_lib::{Reader, System};
+/// use lexdfa_lib::{Reader, Watched};
 ///
 /// let text = Reader::new("let x".as_bytes());
-/// let input = Reader::new(System(rt.reader()));
+/// let input = Reader::new(Watched::new(rt.reader()));
 /// ```
 #[derive(Drop)]
 pub struct Reader<S: Source> {
     source: S,
-    is_broken: bool,
 }
 
 impl<S: Source> Model for Reader<S> {
-    ghost use Rattle.std.specs.Prelude.{◌≡◌, true};
     ghost use Rattle.lexdfa_lib.specs.Streams.{Stream};
 
     ghost Value = { Stream };
 
-    ghost view = { λ r. record {
-      bytes = S.left r.source;
-      may_fail = S.may_fail r.source;
-      is_broken = r.is_broken;
-    } };
-
-    ghost invariant = { λ r. r.is_broken ≡ true → S.may_fail r.source ≡ true };
+    ghost view = { λ r. S.stream r.source };
 }
 
 impl<S: Source> Reader<S> {
-    /// No read has failed yet.
+    /// A stream that is read from this source.
     pub fn new(source: S) -> Reader<S>
-        ensures new { result ≡ opened (S.left source) (S.may_fail source) }
+        ensures new { result ≡ S.stream source }
     {
-        Reader {
-            source,
-            is_broken: false,
-        }
+        Reader { source }
     }
 
     /// The source.
     pub fn into_source(self) -> S
-        ensures left { S.left result ≡ self.bytes }
+        ensures stream { S.stream result ≡ self }
     {
-        let Reader {
-            source,
-            is_broken: _,
-        } = self;
+        let Reader { source } = self;
         source
     }
 
@@ -191,28 +280,18 @@ impl<S: Source> Reader<S> {
     /// fails, or has failed before: then the source isn't read any more.
     pub fn read(&mut self, buf: &mut [u8]) -> Option<usize>
         ensures bound { IfSome result (λ n. n ≤ length buf.new) }
-        ensures whole { IfSome result (λ _. self.old.is_broken ≡ false) }
-        ensures given { IfSome result (λ n.
-            Reads self.old self.new (record { bytes = take n buf.new; end = LeftOff })) }
+        ensures given { IfSome result (λ n. (self.old.is_broken ≡ false)
+            × Reads self.old self.new (record { bytes = take n buf.new; end = LeftOff })) }
         ensures end { IfSome result (λ n. n ≡ 0 → 0 < length buf.new
             → Reads self.old self.new (record { bytes = []; end = AtEnd })) }
         ensures fails { IfNone result
             (Reads self.old self.new (record { bytes = []; end = Failed })) }
     {
-        if self.is_broken {
-            return None;
-        }
-        match self.source.give(buf) {
-            Ok(count) => Some(count),
-            Err(_) => {
-                self.is_broken = true;
-                None
-            }
-        }
+        self.source.give(buf)
     }
 }
 
-/// A sink, and whether a write has failed.
+/// A sink, as contracts see it: a stream.
 ///
 /// ```
 /// use lexdfa_lib::Writer;
@@ -224,40 +303,29 @@ impl<S: Source> Reader<S> {
 #[derive(Drop)]
 pub struct Writer<S: Sink> {
     sink: S,
-    is_broken: bool,
 }
 
 impl<S: Sink> Model for Writer<S> {
-    ghost use Rattle.std.specs.Prelude.{◌≡◌, true};
     ghost use Rattle.lexdfa_lib.specs.Streams.{Stream};
 
     ghost Value = { Stream };
 
-    ghost view = { λ w. record {
-      bytes = S.taken w.sink;
-      may_fail = S.may_fail w.sink;
-      is_broken = w.is_broken;
-    } };
-
-    ghost invariant = { λ w. w.is_broken ≡ true → S.may_fail w.sink ≡ true };
+    ghost view = { λ w. S.stream w.sink };
 }
 
 impl<S: Sink> Writer<S> {
-    /// No write has failed yet.
+    /// A stream that this sink takes.
     pub fn new(sink: S) -> Writer<S>
-        ensures new { result ≡ opened (S.taken sink) (S.may_fail sink) }
+        ensures new { result ≡ S.stream sink }
     {
-        Writer {
-            sink,
-            is_broken: false,
-        }
+        Writer { sink }
     }
 
     /// The sink.
     pub fn into_sink(self) -> S
-        ensures taken { S.taken result ≡ self.bytes }
+        ensures stream { S.stream result ≡ self }
     {
-        let Writer { sink, is_broken: _ } = self;
+        let Writer { sink } = self;
         sink
     }
 
@@ -265,23 +333,15 @@ impl<S: Sink> Writer<S> {
     ///
     /// # Errors
     ///
-    /// `OutOfMemory` if a request for memory was refused, and `Write` if a write fails or has failed: a prefix was written.
+    /// `OutOfMemory` if a request for memory was refused: nothing was written. `Write` if a write fails or has failed: a prefix
+    /// was written.
     pub fn write(&mut self, bytes: &[u8]) -> Result<(), RunError>
         ensures all { OnOk result (Takes self.old bytes.now self.new) }
         ensures part { IfErr result (λ e. TakesPart self.old bytes.now e self.new) }
-        ensures refused { IfErr result (λ e. e ≡ RunError.OutOfMemory → S.needs_memory ≡ true) }
+        ensures refused { IfErr result (λ e. e ≡ RunError.OutOfMemory
+            → (S.needs_memory ≡ true) × (self.new ≡ self.old)) }
     {
-        if self.is_broken {
-            return Err(RunError::Write);
-        }
-        match self.sink.take(bytes) {
-            Ok(()) => Ok(()),
-            Err(RunError::OutOfMemory) => Err(RunError::OutOfMemory),
-            Err(_) => {
-                self.is_broken = true;
-                Err(RunError::Write)
-            }
-        }
+        self.sink.take(bytes)
     }
 
     /// Writes a message. A write that fails, or has failed before, is passed over.
@@ -295,12 +355,30 @@ impl<S: Sink> Writer<S> {
             × IsToldPart self.old message.now self.new) }
         ensures refused { OnErr result (S.needs_memory ≡ true) }
     {
-        if self.is_broken {
-            return Ok(());
-        }
-        match self.write(message.as_bytes()) {
+        match self.sink.take(message.as_bytes()) {
             Err(RunError::OutOfMemory) => Err(RunError::OutOfMemory),
             Ok(()) | Err(_) => Ok(()),
+        }
+    }
+}
+
+/// All bytes that the reader has left. The first read that fails ends the reading.
+///
+/// # Errors
+///
+/// `Read` if a read fails or has failed, and `OutOfMemory` if a request for memory was refused.
+pub fn read_whole<S: Source>(alloc: Global, reader: &mut Reader<S>) -> Result<Vec<u8>, RunError>
+    ensures bytes { IfOk result (λ all.
+        Reads reader.old reader.new (record { bytes = all.items; end = AtEnd })) }
+    ensures part { IfErr result (λ e. ReadsPart reader.old reader.new e) }
+{
+    let mut all = Vec::new(alloc);
+    let mut buffer = [0u8; 8192];
+    loop {
+        match reader.read(&mut buffer) {
+            None => return Err(RunError::Read),
+            Some(0) => return Ok(all),
+            Some(n) => all.extend_from_slice(&buffer[..n])?,
         }
     }
 }

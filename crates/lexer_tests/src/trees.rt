@@ -455,7 +455,7 @@ const NO_TEXTS: &[(&str, &str)] = &[
     ("a\\d", "refused 1 EscapeUnrecognized"),
     ("é\\\\\\PL", "refused 4 EscapeUnrecognized"),
     ("\\b{start}", "refused 0 EscapeUnrecognized"),
-    ("\\1", "refused 0 UnsupportedBackreference"),
+    ("é\\0", "refused 2 EscapeUnrecognized"),
     ("\\x4", "refused 2 EscapeHex"),
     ("\\x4g", "refused 2 EscapeHex"),
     ("é\\u{D800}", "refused 4 EscapeHex"),

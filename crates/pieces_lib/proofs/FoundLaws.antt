@@ -3,7 +3,7 @@ use Rattle.std.proofs.Common.{◌≡◌, ◌≢◌, ℕ, zero, suc, ◌<◌, ◌
 use Rattle.std.specs.Prelude.{Option, Some, None, IfNone, IfSome, is_some, slice_index}
 use Rattle.std.specs.Char.{IsScalar, encode_utf8}
 use Rattle.std.specs.declared.str.Chars.{Chars}
-use Rattle.std.specs.Str.{all_scalars, chars, is_utf8, IsCharBoundary, IsUtf8, IsValidUpTo}
+use Rattle.std.specs.Str.{all_scalars, is_utf8, IsCharBoundary, IsUtf8, IsValidUpTo}
 use Rattle.std.specs.Str.Iter.{chars_rest, chars_steps}
 use Rattle.std.specs.Str.Lossy.{utf8_error_len, utf8_valid_len, valid_len_up_to}
 use Rattle.std.proofs.Math.Seq.{take-append_seam, take-length}

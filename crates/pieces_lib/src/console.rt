@@ -1,6 +1,5 @@
 //! Standard output and standard error of a run.
 ghost use Rattle.std.specs.Prelude.{◌≡◌, IfOk, IfErr, OnOk};
-ghost use Rattle.lexdfa_lib.specs.Streams.{opened};
 ghost use Rattle.reports_lib.specs.Answer.{remark};
 ghost use Rattle.pieces_lib.specs.Console.{Answers, Fails, Says, Writes, WritesPart};
 
@@ -31,12 +30,9 @@ impl<O: Sink, E: Sink> Model for Console<O, E> {
 }
 
 impl<O: Sink, E: Sink> Console<O, E> {
-    /// No write has failed yet.
+    /// Writes go to these.
     pub fn new(out: O, err: E) -> Console<O, E>
-        ensures new { result ≡ record {
-          out = opened (O.taken out) (O.may_fail out);
-          err = opened (E.taken err) (E.may_fail err);
-        } }
+        ensures new { result ≡ record { out = O.stream out; err = E.stream err } }
     {
         Console {
             out: Writer::new(out),
@@ -44,7 +40,7 @@ impl<O: Sink, E: Sink> Console<O, E> {
         }
     }
 
-    /// Both, with whether a write has failed.
+    /// Both, as writers.
     pub fn into_writers(self) -> (Writer<O>, Writer<E>)
         ensures out { result.0 ≡ self.out }
         ensures err { result.1 ≡ self.err }
@@ -55,8 +51,8 @@ impl<O: Sink, E: Sink> Console<O, E> {
 
     /// Standard output and standard error.
     pub fn into_sinks(self) -> (O, E)
-        ensures out { O.taken result.0 ≡ self.out.bytes }
-        ensures err { E.taken result.1 ≡ self.err.bytes }
+        ensures out { O.stream result.0 ≡ self.out }
+        ensures err { E.stream result.1 ≡ self.err }
     {
         let (out, err) = self.into_writers();
         (out.into_sink(), err.into_sink())

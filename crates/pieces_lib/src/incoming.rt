@@ -1,9 +1,9 @@
 //! A text that is read as it comes, and cut.
 
-ghost use Rattle.std.specs.Prelude.{◌≡◌, ◌<◌, ◌≤◌, ◌+◌, ◌++◌, ◌/◌, List, ℕ, [], true, false, length, IfOk, IfSome, IfNone, OnOk, OnErr};
+ghost use Rattle.std.specs.Prelude.{◌≡◌, ◌<◌, ◌≤◌, ◌+◌, ◌++◌, List, ℕ, [], true, false, length, IfOk, OnOk, OnErr};
 ghost use Rattle.bajofeki.specs.Chunked.{nothing_come};
 ghost use Rattle.lalrpop_rule_file.specs.RuleFile.{without_mark as unmarked};
-ghost use Rattle.lexdfa_lib.specs.Streams.{AtEnd, Failed, LeftOff, Reads};
+ghost use Rattle.lexdfa_lib.specs.Streams.{LeftOff, Reads};
 ghost use Rattle.pieces_lib.specs.Internal.Incoming.{BeginsMark, EndsBy, GrowsBy, IsIncoming, IsSettled, ReadsOn, end_of, held};
 
 use bajofeki::Stream;
@@ -12,7 +12,7 @@ use lalrpop_rules::RuleLexer;
 use lexdfa_lib::{Reader, Source};
 use std::alloc::{AllocError, Global};
 
-/// How many bytes a read asks for. More than these are much to hold back.
+/// How many bytes a read asks for.
 const AT_ONCE: usize = 65536;
 
 /// A text that is read as it comes, and cut. A byte order mark at its beginning is left out.
@@ -101,56 +101,7 @@ impl<'rules> Incoming<'rules> {
         self.begin()
     }
 
-    // Reads once: how many bytes came, or none at the end. Nothing, if the read failed.
-    fn read_once<S: Source>(&mut self, reader: &mut Reader<S>) -> Result<Option<usize>, AllocError>
-        ensures more { IfOk result (λ told. IfSome told (λ n.
-            ReadsOn reader.old reader.new LeftOff self.old self.new
-            × (held self.old + n ≤ held self.new))) }
-        ensures nothing { IfOk result (λ told. IfSome told (λ n. n ≡ 0
-            → ReadsOn reader.old reader.new AtEnd self.old self.new)) }
-        ensures failure { IfOk result (λ told. IfNone told
-            (ReadsOn reader.old reader.new Failed self.old self.new)) }
-        ensures lost { OnErr result ((more : List ℕ)
-            × Reads reader.old reader.new (record { bytes = more; end = LeftOff })) }
-    {
-        let mut buffer = [0u8; AT_ONCE];
-        match reader.read(&mut buffer) {
-            None => Ok(None),
-            Some(0) => Ok(Some(0)),
-            Some(n) => {
-                self.take_bytes(&buffer[..n])?;
-                Ok(Some(n))
-            }
-        }
-    }
-
-    // Reads until `wanted` bytes have come, or a read brings nothing or fails.
-    fn read_much<S: Source>(
-        &mut self,
-        reader: &mut Reader<S>,
-        wanted: usize,
-    ) -> Result<Brought, AllocError>
-        requires some { 0 < wanted }
-        ensures brought { IfOk result (λ b.
-            ReadsOn reader.old reader.new (end_of b) self.old self.new) }
-        ensures more { IfOk result (λ b. b ≡ Brought.More
-            → held self.old + wanted ≤ held self.new) }
-        ensures lost { OnErr result ((more : List ℕ)
-            × Reads reader.old reader.new (record { bytes = more; end = LeftOff })) }
-    {
-        let mut left = wanted;
-        loop {
-            match self.read_once(reader)? {
-                None => return Ok(Brought::Failure),
-                Some(0) => return Ok(Brought::Nothing),
-                Some(n) if n < left => left -= n,
-                Some(_) => return Ok(Brought::More),
-            }
-        }
-    }
-
-    /// Reads more of the text, so that it may be cut further: by one read, unless much is held back. Then it reads half as much
-    /// again, so that a piece of any length is read in linear time. It stops where a read brings nothing or fails.
+    /// Reads more of the text by one read, so that it may be cut further.
     ///
     /// # Errors
     ///
@@ -162,13 +113,17 @@ impl<'rules> Incoming<'rules> {
         ensures brought { IfOk result (λ b.
             ReadsOn reader.old reader.new (end_of b) self.old self.new) }
         ensures more { IfOk result (λ b. b ≡ Brought.More → held self.old < held self.new) }
-        ensures much { IfOk result (λ b. b ≡ Brought.More → 65536 < length self.old.chunks.rest
-            → held self.old + length self.old.chunks.rest / 2 ≤ held self.new) }
         ensures lost { OnErr result ((more : List ℕ)
             × Reads reader.old reader.new (record { bytes = more; end = LeftOff })) }
     {
-        let held = self.chunks.rest().len();
-        let wanted = if held > AT_ONCE { held / 2 } else { 1 };
-        self.read_much(reader, wanted)
+        let mut buffer = [0u8; AT_ONCE];
+        match reader.read(&mut buffer) {
+            None => Ok(Brought::Failure),
+            Some(0) => Ok(Brought::Nothing),
+            Some(n) => {
+                self.take_bytes(&buffer[..n])?;
+                Ok(Brought::More)
+            }
+        }
     }
 }

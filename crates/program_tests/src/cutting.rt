@@ -7,7 +7,7 @@ use std::alloc::Global;
 use std::io;
 use std::io::{Read, Write};
 use tokens_lib::{
-    Console, CutEnd, Found, Layout, LineForm, Markup, OpenMode, Reader, RuleLexer, System,
+    Console, CutEnd, Found, Layout, LineForm, Markup, OpenMode, Reader, RuleLexer, Watched,
     write_items, write_page,
 };
 
@@ -174,8 +174,8 @@ fn write_shape(
     alloc: Global,
     lexer: &RuleLexer,
     shape: Shape,
-    reader: &mut Reader<System<Fed<'_>>>,
-    console: &mut Console<System<Full<'_>>, Vec<u8>>,
+    reader: &mut Reader<Watched<Fed<'_>>>,
+    console: &mut Console<Watched<Full<'_>>, Vec<u8>>,
 ) -> Ended {
     match shape {
         Shape::Lines(form, file) => {
@@ -229,11 +229,12 @@ fn is_so(alloc: Global, lexer: &RuleLexer, run: &Run<'_>, at_once: usize) -> boo
         is_wrong: false,
         calls: 0,
     };
-    let mut reader = Reader::new(System(Fed::new(run.text, at_once, run.breaks)));
-    let mut console = Console::new(System(sink), Vec::new(alloc));
+    let mut reader = Reader::new(Watched::new(Fed::new(run.text, at_once, run.breaks)));
+    let mut console = Console::new(Watched::new(sink), Vec::new(alloc));
     let end = write_shape(alloc, lexer, run.shape, &mut reader, &mut console);
-    let (System(sink), _) = console.into_sinks();
-    let System(source) = reader.into_source();
+    let (sink, _) = console.into_sinks();
+    let sink = sink.into_inner();
+    let source = reader.into_source().into_inner();
     end == run.end
         && sink.wanted.is_empty()
         && !sink.is_wrong

@@ -3,7 +3,7 @@
 
 use crate::cutting::{ALL, Fed};
 use std::alloc::{AllocError, Global};
-use tokens_lib::{Console, Files, LineForm, NoBytes, Reader, System, check_answer, run};
+use tokens_lib::{Console, Files, LineForm, NoBytes, Reader, Watched, check_answer, run};
 
 const RULES: &[u8] = b"WORD = /[a-z]+/\nSPACE skip = / /\n";
 
@@ -23,12 +23,12 @@ fn bytes_of(name: &str) -> Option<&'static [u8]> {
 impl Files for Named {
     ghost gives = { λ files name given. Unit {0} };
 
-    type Reader = System<Fed<'static>>;
+    type Reader = Watched<Fed<'static>>;
 
-    fn open(&self, alloc: Global, name: &str) -> Result<System<Fed<'static>>, NoBytes> {
+    fn open(&self, alloc: Global, name: &str) -> Result<Watched<Fed<'static>>, NoBytes> {
         match bytes_of(name) {
-            Some(bytes) if name.starts_with("torn") => Ok(System(Fed::new(bytes, ALL, true))),
-            Some(bytes) => Ok(System(Fed::new(bytes, ALL, false))),
+            Some(bytes) if name.starts_with("torn") => Ok(Watched::new(Fed::new(bytes, ALL, true))),
+            Some(bytes) => Ok(Watched::new(Fed::new(bytes, ALL, false))),
             None => Err(NoBytes::Because(String::from_str(alloc, "not found")?)),
         }
     }
@@ -53,7 +53,7 @@ fn words_of(alloc: Global, words: &str) -> Result<Vec<String>, AllocError> {
 }
 
 fn is_answered(alloc: Global, row: &Row, words: &[String], at_once: usize) -> bool {
-    let mut input = Reader::new(System(Fed::new(row.input, at_once, true)));
+    let mut input = Reader::new(Watched::new(Fed::new(row.input, at_once, true)));
     let mut console = Console::new(Vec::new(alloc), Vec::new(alloc));
     let status = run(alloc, words, &Named, &mut input, &mut console);
     let (out, err) = console.into_sinks();
@@ -151,7 +151,7 @@ const CHECKED: &[(&[u8], u8, &str, &str)] = &[
     (
         b"D part = /0/\nA = 'a'\n",
         1,
-        "{\"file\":\"f\",\"line\":1,\"column\":1,\"kind\":\"part-unused\",\"part\":\"D\"}\n{\"file\":\"f\",\"kind\":\"automaton\",\"states\":3,\"least_states\":3,\"past\":1}\n",
+        "{\"file\":\"f\",\"line\":1,\"column\":1,\"kind\":\"part-unused\",\"part\":\"D\"}\n{\"file\":\"f\",\"kind\":\"automaton\",\"least_states\":3,\"past\":1}\n",
         "",
     ),
     (

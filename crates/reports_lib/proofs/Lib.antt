@@ -2,6 +2,8 @@ mod Cases
 -- the parts of a plain line
 pub mod Pushes
 pub mod SliceLaws
+-- lines of JSON
+pub mod JsonLaws
 -- members of objects
 pub mod Steps
 -- clashes
@@ -16,5 +18,6 @@ pub mod Refusals
 pub mod LineLaws
 pub mod SafeLaws
 pub mod SafeMessages
+pub mod SafeJson
 pub mod SafePieces
 pub mod SafeNames

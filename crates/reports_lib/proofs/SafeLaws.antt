@@ -1,6 +1,6 @@
 -- What is safe to show: quoted forms, and lines of a file with a caret below.
-use Rattle.std.proofs.Common.{◌≡◌, ◌≢◌, ℕ, zero, suc, ◌+◌, ◌-◌, ◌/◌, ◌%◌, ◌<◌, ◌≤◌, ◌⊎◌, inl, inr, Bool, true, false, ◌&&◌, ◌||◌, List, [], ◌∷◌, ◌++◌, length, map, take, drop, Option, Some, None, flat_map, codes, decimal, refl, sym, ap, subst, ◌∙◌, arith, IsUtf8, append-nil, get_or, length-append}
-use Rattle.std.specs.Prelude.{not, nat_le, nat_lt, nat_eq, ◌==◌, if◌then◌else◌, option_map, unwrap_or, slice_get}
+use Rattle.std.proofs.Common.{◌≡◌, ◌≢◌, ℕ, zero, suc, ◌-◌, ◌/◌, ◌%◌, ◌<◌, ◌≤◌, ◌⊎◌, inl, inr, Bool, true, false, ◌&&◌, ◌||◌, List, [], ◌∷◌, ◌++◌, length, map, take, drop, Option, Some, None, flat_map, codes, decimal, refl, sym, ap, subst, ◌∙◌, arith, IsUtf8, append-nil, get_or, length-append}
+use Rattle.std.specs.Prelude.{not, nat_le, nat_lt, ◌==◌, if◌then◌else◌, option_map, unwrap_or, slice_get}
 use Rattle.std.specs.Bool.{then_some}
 use Rattle.std.specs.Char.{IsScalar, encode_utf8}
 use Rattle.std.specs.Fmt.{digit_glyph, digits, digits_onto}
@@ -19,14 +19,14 @@ use Rattle.lalrpop_rule_file.specs.RuleFile.{without_return}
 use Rattle.lalrpop_rule_file.proofs.Returns.{return_parts}
 use Rattle.reports_lib.specs.ItemLines.{byte_told, slice_told}
 use Rattle.reports_lib.specs.Safe.{IsSafe, can_steer}
-use Rattle.reports_lib.specs.ShownLine.{sign, signs_of, signs_at, dots, shown, first_shown, pointed_from, pointed, numbered}
+use Rattle.reports_lib.specs.ShownLine.{sign, signs_of, signs_at, dots, shown, first_shown, pointed, numbered}
 
 -- ---- characters
 
-safe_char : (c : ℕ) → IsScalar c → can_steer c ≡ false → IsSafe (encode_utf8 c)
+pub safe_char : (c : ℕ) → IsScalar c → can_steer c ≡ false → IsSafe (encode_utf8 c)
 safe_char c is seen = record { text = IsUtf8-encode c is; seen = (c ∷ [], append-nil (encode_utf8 c), (seen, tt)) }
 
-seen_steers_not : (c : ℕ) → is_unseen c ≡ false → can_steer c ≡ false
+pub seen_steers_not : (c : ℕ) → is_unseen c ≡ false → can_steer c ≡ false
 seen_steers_not c seen = ap (λ (t : Bool). t && not (c == 10)) seen
 
 -- the sign for a character that isn't seen, U+FFFD, and dots, U+2026, are seen
@@ -44,7 +44,7 @@ backslash_is_seen =
     let utf8 : IsUtf8 (codes "\n") = (codes "\n", (refl, refl)) in
     NoCharPasses-byte is_unseen (quoted (codes "\n")) 1 (quoted_is_seen (codes "\n") utf8) (omega arith) (omega arith)
 
-ascii_is_seen : (b : ℕ) → 32 ≤ b → b < 127 → is_unseen b ≡ false
+pub ascii_is_seen : (b : ℕ) → 32 ≤ b → b < 127 → is_unseen b ≡ false
 ascii_is_seen b low high = by (cases_eq b 34) (cases_eq b 92)
   where
     by : (b ≡ 34) ⊎ (b ≢ 34) → (b ≡ 92) ⊎ (b ≢ 92) → is_unseen b ≡ false
@@ -154,7 +154,7 @@ told_are_safe (c ∷ cs) scalars = let parts = and_parts _ (all_scalars cs) scal
 in_quotes : {text : List ℕ} → IsSafe text → IsSafe (codes "\"" ++ (text ++ codes "\""))
 in_quotes safe = said (codes "\"") refl (safe_append safe (plain_is_safe (codes "\"") refl))
 
-quoted_is_safe : (slice : List ℕ) → IsUtf8 slice → IsSafe (quoted slice)
+pub quoted_is_safe : (slice : List ℕ) → IsUtf8 slice → IsSafe (quoted slice)
 quoted_is_safe slice utf8 = in_quotes (told_are_safe (chars slice) (scalars-chars slice utf8))
 
 pub byte_is_safe : (b : ℕ) → IsSafe (byte_told b)

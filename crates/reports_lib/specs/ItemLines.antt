@@ -1,6 +1,7 @@
 -- cases: proofs/Cases/ItemLines.antt
 -- The lines of the pieces of a text that rules cut.
-use Rattle.std.specs.Prelude.{ℕ, ◌+◌, nat_lt, Bool, true, false, if◌then◌else◌, List, [], ◌∷◌, ◌++◌, length, map, Option, Some, None, option_map, unwrap_or, slice_get, codes, decimal, flat_map, string_bytes}
+use Rattle.std.specs.Prelude.{ℕ, ◌+◌, nat_lt, Bool, true, false, if◌then◌else◌, List, [], ◌∷◌, ◌++◌, length, map, Option, Some, None, option_map, unwrap_or, slice_get, chars, codes, decimal, encode_utf8, flat_map, string_bytes}
+use Rattle.std.specs.Char.Escape.{encode_utf16, hex_digit_at}
 use Rattle.std.specs.Fmt.{digits}
 use Rattle.std.specs.Str.{is_utf8}
 use Rattle.std.specs.Str.Lossy.{utf8_lossy}
@@ -13,7 +14,7 @@ use Rattle.lalrpop_rules.specs.Modes.{ModeRules, after}
 use Rattle.bajofeki_rules.specs.Stack.{Stack, start as first_stack}
 use Rattle.lalrpop_rules.specs.declared.item.Item.{Item}
 use Rattle.lalrpop_rules.specs.declared.item.Item.TheVariants.{Token, Skipped, Fault}
-use Rattle.bajofeki_rules.specs.Quoted.{quoted, told}
+use Rattle.bajofeki_rules.specs.Quoted.{is_unseen, quoted, told}
 use Rattle.lexdfa_lib.specs.declared.layout.Layout.{Layout}
 use Rattle.lexdfa_lib.specs.declared.layout.LineForm.{LineForm}
 use Rattle.lexdfa_lib.specs.declared.layout.LineForm.TheVariants.{Plain, Json}
@@ -66,9 +67,21 @@ mode_member (Some mode) = string_member (codes "mode") mode
 abbrev pub kind_member : List ℕ → List json.Token
 kind_member kind = string_member (codes "kind") kind
 
+-- the escape of a unit of UTF-16: four hexadecimal digits
+abbrev pub unit_told : ℕ → List ℕ
+unit_told u = codes "\\u" ++ (hex_digit_at 4096 u ∷ hex_digit_at 256 u ∷ hex_digit_at 16 u ∷ hex_digit_at 1 u ∷ [])
+
+-- a character that isn't seen is written as the escapes of its units, another as it is
+abbrev pub json_told : ℕ → List ℕ
+json_told c = if is_unseen c then flat_map unit_told (encode_utf16 c) else encode_utf8 c
+
+-- the characters of what is printed; U+FFFD would stand for what isn't UTF-8, but JSON always is
+abbrev pub escaped : List ℕ → List ℕ
+escaped printed = flat_map json_told (chars (utf8_lossy printed))
+
 -- the line of an object with these members
 abbrev pub object_line : List json.Token → List ℕ
-object_line members = print (json.begin_object ∷ (members ++ json.end_object ∷ [])) ++ codes "\n"
+object_line members = escaped (print (json.begin_object ∷ (members ++ json.end_object ∷ []))) ++ codes "\n"
 
 -- the object: where the piece begins, as a line, a column and an offset in bytes, where it ends, its rule, its mode and its slice, with U+FFFD
 -- for what isn't UTF-8
@@ -80,7 +93,7 @@ object_of file p start name mode slice =
     ++ (rule_member name ++ (mode_member mode ++ (string_member (codes "text") (utf8_lossy slice) ++ json.end_object ∷ []))))))))
 
 abbrev pub json_line : Option (List ℕ) → Position → ℕ → Option (List ℕ) → Option (List ℕ) → List ℕ → List ℕ
-json_line file p start name mode slice = print (object_of file p start name mode slice) ++ codes "\n"
+json_line file p start name mode slice = escaped (print (object_of file p start name mode slice)) ++ codes "\n"
 
 -- ---- the line of a piece
 

@@ -33,7 +33,7 @@ syntax_text kinds.ClassRangeInvalid = codes "this range ends before it starts"
 syntax_text kinds.ClassRangeLiteral = codes "a range needs a single character at both ends"
 syntax_text kinds.ClassEscapeInvalid = codes "this escape can't stand in brackets"
 syntax_text kinds.EscapeUnexpectedEof = codes "the pattern ends inside an escape"
-syntax_text kinds.EscapeUnrecognized = codes "this escape is unknown"
+syntax_text kinds.EscapeUnrecognized = codes "this escape is unknown: a character by its number is \\u{0}"
 syntax_text kinds.EscapeHex = codes "this number names no character"
 syntax_text kinds.UnicodeSetUnknown = codes "there is no set of characters by this name"
 syntax_text kinds.RepetitionMissing = codes "there is nothing to repeat before this operator: the character itself has a backslash before it"
@@ -43,9 +43,9 @@ syntax_text kinds.GroupName = codes "this group name is malformed, missing or ta
 syntax_text kinds.UnsupportedLookAround = codes "patterns have no look-around"
 syntax_text kinds.UnsupportedBackreference = codes "patterns have no references to groups"
 syntax_text kinds.NestLimitExceeded = codes "groups, brackets and repetitions nest too deeply"
-syntax_text kinds.PartUnknown = codes "there is no part by this name above: a part is a line NAME part = /PATTERN/"
+syntax_text kinds.PartUnknown = codes "no part above has this name: a part is a line NAME part = /PATTERN/ above this one, and a rule is no part"
 syntax_text kinds.PartUnderFlag = codes "a part stands only where no flag is on"
-syntax_text kinds.PartName = codes "this name of a part is malformed"
+syntax_text kinds.PartName = codes "this name of a part is malformed, or its brace isn't closed: a part is {NAME}, and a brace itself \\{"
 
 -- why a pattern can't be compiled
 abbrev pub refusal_text : NfaConstructionError → List ℕ

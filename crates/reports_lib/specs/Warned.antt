@@ -56,7 +56,7 @@ warning_line name section file (ModeNotLeft m) =
 warning_line name section file (TextGoesOn i) =
     warned_at name (text_place file i) (codes "this text goes on to the last delimiter of the line, past one that seems to end it")
 warning_line name section file (ClassOutside i) =
-    warned_at name (text_place file i) (codes "the first bracket is a set of the characters in it: a class stands in brackets, as [[:alpha:]]")
+    warned_at name (text_place file i) (codes "a bracket such as [:alpha:] is a set of its characters: a class stands in brackets, as [[:alpha:]]")
 warning_line name section file (EndPassed i) =
     warned_at name (text_place file i) (codes "a match goes on past the first end to the last one: write from 'A' to 'B', or `[^x]*x` for `.*x`")
 

@@ -3,8 +3,9 @@ ghost use Rattle.std.specs.Prelude.{◌≡◌, ◌+◌, ◌≤◌, ◌∷◌, []
 ghost use Rattle.std.specs.Str.Lossy.{utf8_lossy};
 ghost use Rattle.json.specs.Print.{print};
 ghost use Rattle.json.specs.Token.{begin_object, end_object, key, string};
-ghost use Rattle.reports_lib.specs.ItemLines.{number_member, string_member, file_member, rule_member, mode_member, object_of, json_line};
+ghost use Rattle.reports_lib.specs.ItemLines.{number_member, string_member, file_member, rule_member, mode_member, object_of, json_line, escaped};
 
+use crate::escaped::escape_from;
 use crate::shown::Shown;
 use json::Writer;
 use lalrpop_lexer::Position;
@@ -141,7 +142,7 @@ fn write_object(
     writer.end_object()
 }
 
-/// Appends the line of a piece. U+FFFD stands for what isn't UTF-8 in it.
+/// Appends the line of a piece. U+FFFD stands for what isn't UTF-8 in it, and characters that aren't seen are escaped.
 ///
 /// # Errors
 ///
@@ -159,9 +160,11 @@ pub fn push_json(
         (option_map (λ n. n.now) shown.now.name) (option_map (λ m. m.now) shown.now.mode)
         shown.now.slice.now) }
 {
+    let start = lines.len();
     let mut writer = Writer::new(mem::replace(lines, Vec::new(alloc)));
     write_object(alloc, &mut writer, file, position, shown)?;
     let mut all = writer.into_inner();
+    escape_from(alloc, &mut all, start)?;
     all.push(b'\n')?;
     *lines = all;
     Ok(())
@@ -181,17 +184,18 @@ pub fn begun_object(alloc: Global) -> Result<Writer, AllocError>
     Ok(writer)
 }
 
-/// Ends the object and its line.
+/// Ends the object and its line. Characters that aren't seen are escaped.
 ///
 /// # Errors
 ///
 /// `AllocError` if a request for memory was refused.
-pub fn ended_line(mut writer: Writer) -> Result<Vec<u8>, AllocError>
+pub fn ended_line(alloc: Global, mut writer: Writer) -> Result<Vec<u8>, AllocError>
     ensures { IfOk result (λ line. line.items
-        ≡ writer.before ++ (print (writer.tokens ++ end_object ∷ []) ++ codes "\n")) }
+        ≡ escaped (writer.before ++ print (writer.tokens ++ end_object ∷ [])) ++ codes "\n") }
 {
     writer.end_object()?;
     let mut line = writer.into_inner();
+    escape_from(alloc, &mut line, 0)?;
     line.push(b'\n')?;
     Ok(line)
 }

@@ -2,6 +2,7 @@
 #![tactic(auto)]
 
 mod by_rules;
+mod escaped;
 mod file_lexer;
 mod json_line;
 mod messages;

@@ -24,7 +24,8 @@ pub(crate) fn syntax_text(kind: SyntaxKind) -> &'static str
         SyntaxKind::ClassRangeLiteral => "a range needs a single character at both ends",
         SyntaxKind::ClassEscapeInvalid => "this escape can't stand in brackets",
         SyntaxKind::EscapeUnexpectedEof => "the pattern ends inside an escape",
-        SyntaxKind::EscapeUnrecognized => "this escape is unknown",
+        SyntaxKind::EscapeUnrecognized =>
+            "this escape is unknown: a character by its number is \\u{0}",
         SyntaxKind::EscapeHex => "this number names no character",
         SyntaxKind::UnicodeSetUnknown => "there is no set of characters by this name",
         SyntaxKind::RepetitionMissing =>
@@ -37,9 +38,10 @@ pub(crate) fn syntax_text(kind: SyntaxKind) -> &'static str
         SyntaxKind::UnsupportedBackreference => "patterns have no references to groups",
         SyntaxKind::NestLimitExceeded => "groups, brackets and repetitions nest too deeply",
         SyntaxKind::PartUnknown =>
-            "there is no part by this name above: a part is a line NAME part = /PATTERN/",
+            "no part above has this name: a part is a line NAME part = /PATTERN/ above this one, and a rule is no part",
         SyntaxKind::PartUnderFlag => "a part stands only where no flag is on",
-        SyntaxKind::PartName => "this name of a part is malformed",
+        SyntaxKind::PartName =>
+            "this name of a part is malformed, or its brace isn't closed: a part is {NAME}, and a brace itself \\{",
     }
 }
 

@@ -126,7 +126,7 @@ fn warning_object(
 {
     let mut writer = begun_object(alloc)?;
     write_warning(&mut writer, name, bytes, file, warning)?;
-    ended_line(writer)
+    ended_line(alloc, writer)
 }
 
 /// The warnings about a file of rules (`RuleFile::warnings`) as JSON: a line for each, with an object whose members are `file`, `line`, `column`, `kind`, and `part`,

@@ -19,7 +19,7 @@ const TEXT_GOES_ON: &str =
     "this text goes on to the last delimiter of the line, past one that seems to end it";
 
 const CLASS_OUTSIDE: &str =
-    "the first bracket is a set of the characters in it: a class stands in brackets, as [[:alpha:]]";
+    "a bracket such as [:alpha:] is a set of its characters: a class stands in brackets, as [[:alpha:]]";
 
 const END_PASSED: &str =
     "a match goes on past the first end to the last one: write from 'A' to 'B', or `[^x]*x` for `.*x`";

@@ -1,5 +1,5 @@
--- The plain lines of a review are safe to show, if the names of the file and of its rules and modes are.
-use Rattle.std.proofs.Common.{◌≡◌, ℕ, ◌+◌, Bool, true, false, List, [], ◌∷◌, ◌++◌, refl, codes, decimal, flat_map}
+-- The lines of a review are safe to show: objects always, and plain lines if the names of the file and of its rules and modes are.
+use Rattle.std.proofs.Common.{◌≡◌, ℕ, ◌+◌, Bool, true, false, List, [], ◌∷◌, ◌++◌, refl, codes, decimal, flat_map, IsUtf8}
 use Rattle.std.specs.Prelude.{All, Option, Some, None, ◌==◌, if◌then◌else◌}
 use Rattle.std.specs.List.{join_by}
 use Rattle.lalrpop_hir.specs.Clashes.{Entry}
@@ -14,10 +14,14 @@ use Rattle.lalrpop_verdicts.specs.WonWord.{WonWord}
 use Rattle.reports_lib.specs.ItemLines.{mode_named, name_at}
 use Rattle.reports_lib.specs.Reasons.{place_at, mode_said}
 use Rattle.reports_lib.specs.ReportedFile.{ReportedFile}
-use Rattle.reviews_lib.specs.ReviewLines.{after_text, automaton_line, by_mode, characters_text, clash_line, clash_report, clash_told, empty_line, empty_told, idle_line, idle_once, idle_reason, is_only_empty, look_text, mode_before, mode_told, pair_text, place_text, review_text, rules_text, states_text, winner_text, winners_text, witness_text}
+use Rattle.reviews_lib.specs.Pictured.{no_rule}
+use Rattle.reviews_lib.specs.ReviewJson.{automaton_members, clash_members, empty_members, idle_members}
+use Rattle.reviews_lib.specs.ReviewLines.{after_text, automaton_line, automaton_told, by_mode, characters_text, clash_line, clash_report, clash_told, empty_line, empty_told, idle_line, idle_once, idle_reason, idle_told, is_only_empty, look_text, mode_before, mode_told, pair_text, place_text, review_text, rules_text, states_text, winner_text, winners_text, witness_text}
 use Rattle.reports_lib.specs.Safe.{IsSafe}
-use Rattle.lexdfa_lib.specs.declared.layout.LineForm.TheVariants.{Plain}
-use Rattle.reports_lib.proofs.SafeLaws.{decimal_is_safe, plain_is_safe, quoted_word_is_safe, safe_append, safe_nil, said}
+use Rattle.lexdfa_lib.specs.declared.layout.LineForm.{LineForm}
+use Rattle.lexdfa_lib.specs.declared.layout.LineForm.TheVariants.{Plain, Json}
+use Rattle.reports_lib.proofs.SafeJson.{object_lines_are_safe}
+use Rattle.reports_lib.proofs.SafeLaws.{decimal_is_safe, plain_is_safe, quoted_is_safe, quoted_word_is_safe, safe_append, safe_nil, said}
 use Rattle.reports_lib.proofs.SafeMessages.{IsSafeIfSome, each_is_safe, mode_is_safe, mode_said_is_safe, name_is_safe}
 
 joined_are_safe : {X : Type 0} (tell : X → List ℕ) → ((x : X) → IsSafe (tell x)) → (xs : List X) → IsSafe (join_by tell (codes ", ") xs)
@@ -98,23 +102,45 @@ module _ (r : ReportedFile) (file_safe : IsSafe r.file) (names_safe : All IsSafe
 
   pub automaton_is_safe : (mode : Option (List ℕ)) → IsSafeIfSome mode → (x : ModeReview) → IsSafe (automaton_line r mode x)
   automaton_is_safe mode safe x =
-      safe_append file_safe (said (codes ": ") refl (safe_append (before mode safe) (safe_append (states x.states) (said (codes ", ") refl
-      (safe_append (decimal_is_safe x.least_states) (said (codes " in the smallest automaton; ") refl (safe_append (look x.look) (plain_is_safe (codes "\n") refl))))))))
+      safe_append file_safe (said (codes ": ") refl (safe_append (before mode safe) (safe_append (states x.least_states)
+      (said (codes " in the smallest automaton; ") refl (safe_append (look x.look) (plain_is_safe (codes "\n") refl))))))
 
-  once : (empty : List ℕ) (mode : Option (List ℕ)) → IsSafeIfSome mode → (x : IdleRule) → IsSafe (idle_once Plain r empty mode x)
-  once empty mode safe x = by (is_only_empty empty x)
+  empty_in : (form : LineForm) (i : ℕ) → IsSafe (empty_told form r i)
+  empty_in Plain i = empty_is_safe i
+  empty_in Json i = object_lines_are_safe (empty_members r i)
+
+  idle_in : (form : LineForm) (mode : Option (List ℕ)) → IsSafeIfSome mode → (x : IdleRule) → IsSafe (idle_told form r mode x)
+  idle_in Plain mode safe x = idle_is_safe mode safe x
+  idle_in Json mode safe x = object_lines_are_safe (idle_members r mode x)
+
+  automaton_in : (form : LineForm) (mode : Option (List ℕ)) → IsSafeIfSome mode → (x : ModeReview) → IsSafe (automaton_told form r mode x)
+  automaton_in Plain mode safe x = automaton_is_safe mode safe x
+  automaton_in Json mode safe x = object_lines_are_safe (automaton_members r mode x)
+
+  clash_in : (form : LineForm) (mode : Option (List ℕ)) → IsSafeIfSome mode → (c : Entry) → IsSafe (clash_told form r mode c)
+  clash_in Plain mode safe c = pair_is_safe mode safe c
+  clash_in Json mode safe c = object_lines_are_safe (clash_members r mode c)
+
+  once : (form : LineForm) (empty : List ℕ) (mode : Option (List ℕ)) → IsSafeIfSome mode → (x : IdleRule) → IsSafe (idle_once form r empty mode x)
+  once form empty mode safe x = by (is_only_empty empty x)
     where
-      by : (t : Bool) → IsSafe (if t then [] else idle_line r mode x)
+      by : (t : Bool) → IsSafe (if t then [] else idle_told form r mode x)
       by true = safe_nil
-      by false = idle_is_safe mode safe x
+      by false = idle_in form mode safe x
 
-  told : (empty : List ℕ) (mode : Option (List ℕ)) → IsSafeIfSome mode → (x : ModeReview) → IsSafe (mode_told Plain r empty mode x)
-  told empty mode safe x = safe_append (each_is_safe (idle_once Plain r empty mode) (once empty mode safe) x.idle.items) (automaton_is_safe mode safe x)
+  told : (form : LineForm) (empty : List ℕ) (mode : Option (List ℕ)) → IsSafeIfSome mode → (x : ModeReview) → IsSafe (mode_told form r empty mode x)
+  told form empty mode safe x = safe_append (each_is_safe (idle_once form r empty mode) (once form empty mode safe) x.idle.items) (automaton_in form mode safe x)
 
-  pub review_is_safe : (review : Review) → All IsSafe r.modes → IsSafe (review_text Plain r.file r.modes r.names r.places review)
-  review_is_safe review modes_safe =
-      safe_append (each_is_safe (empty_line r) empty_is_safe review.empty.items) (by_mode_is_safe (mode_told Plain r review.empty.items) r.modes 0 review.modes.items modes_safe (told review.empty.items))
+  pub review_is_safe : (form : LineForm) (review : Review) → All IsSafe r.modes → IsSafe (review_text form r.file r.modes r.names r.places review)
+  review_is_safe form review modes_safe =
+      safe_append (each_is_safe (empty_told form r) (empty_in form) review.empty.items)
+      (by_mode_is_safe (mode_told form r review.empty.items) r.modes 0 review.modes.items modes_safe (told form review.empty.items))
 
-  pub report_is_safe : (m : ℕ) (css : List (List Entry)) → All IsSafe r.modes → IsSafe (clash_report Plain r.file r.modes r.names r.places m css)
-  report_is_safe m css modes_safe =
-      by_mode_is_safe (λ mode cs. flat_map (clash_told Plain r mode) cs) r.modes m css modes_safe (λ mode safe cs. each_is_safe (clash_line r mode) (pair_is_safe mode safe) cs)
+  pub report_is_safe : (form : LineForm) (m : ℕ) (css : List (List Entry)) → All IsSafe r.modes → IsSafe (clash_report form r.file r.modes r.names r.places m css)
+  report_is_safe form m css modes_safe =
+      by_mode_is_safe (λ mode cs. flat_map (clash_told form r mode) cs) r.modes m css modes_safe (λ mode safe cs. each_is_safe (clash_told form r mode) (clash_in form mode safe) cs)
+
+-- the message that no rule has a name
+pub no_rule_is_safe : (name : List ℕ) → IsUtf8 name → IsSafe (no_rule name)
+no_rule_is_safe name text =
+    said (codes "no rule has the name ") refl (safe_append (quoted_is_safe name text) (plain_is_safe (codes "; leave it out to draw each mode") refl))

@@ -3,6 +3,7 @@
 use Rattle.std.specs.Prelude.{◌≡◌, ℕ, ◌⊎◌, true, false, List, [], ◌∷◌, ◌++◌, Option, Some, None, codes, length, map, filter, slice_get}
 use Rattle.std.specs.List.{AllZip, concat, range_with_len}
 use Rattle.std.specs.Str.{bytes_eq}
+use Rattle.bajofeki_rules.specs.Quoted.{quoted}
 use Rattle.lalrpop_hir.specs.Tree.{Tree}
 use Rattle.lalrpop_dfa.specs.Dfa.{RecognizesAll, Row}
 use Rattle.lalrpop_review.specs.Apart.{told}
@@ -71,7 +72,7 @@ IsMissing r given name = (given ≡ Some name) × (has r.names name ≡ false)
 
 -- what is said of it
 abbrev pub no_rule : List ℕ → List ℕ
-no_rule name = codes "no rule has the name \"" ++ (name ++ codes "\"; leave it out to draw each mode")
+no_rule name = codes "no rule has the name " ++ (quoted name ++ codes "; leave it out to draw each mode")
 
 -- the pictures are written; or it is said of the file that no rule has the name
 abbrev pub PictureAnswer : List ℕ → Option (List ℕ) → ModeRules → List (List ℕ) → Answer → Type 0

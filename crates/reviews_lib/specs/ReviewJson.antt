@@ -79,7 +79,7 @@ abbrev pub automaton_members : ReportedFile → Option (List ℕ) → ModeReview
 automaton_members r mode x =
     string_member (codes "file") r.file
     ++ (kind_member (codes "automaton") ++ (mode_member mode
-    ++ (number_member (codes "states") x.states ++ (number_member (codes "least_states") x.least_states ++ look_members r x.look))))
+    ++ (number_member (codes "least_states") x.least_states ++ look_members r x.look)))
 
 -- a clash: the place is where the later rule's text begins
 abbrev pub clash_members : ReportedFile → Option (List ℕ) → Entry → List json.Token

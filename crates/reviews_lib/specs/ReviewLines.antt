@@ -88,8 +88,8 @@ mode_before (Some mode) = codes "mode " ++ (mode ++ codes ": ")
 
 abbrev pub automaton_line : ReportedFile → Option (List ℕ) → ModeReview → List ℕ
 automaton_line r mode x =
-    r.file ++ (codes ": " ++ (mode_before mode ++ (states_text x.states ++ (codes ", " ++ (decimal x.least_states
-    ++ (codes " in the smallest automaton; " ++ (look_text r x.look ++ codes "\n")))))))
+    r.file ++ (codes ": " ++ (mode_before mode ++ (states_text x.least_states
+    ++ (codes " in the smallest automaton; " ++ (look_text r x.look ++ codes "\n")))))
 
 -- ---- a line of either form
 

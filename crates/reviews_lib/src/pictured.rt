@@ -12,6 +12,7 @@ ghost use Rattle.reports_lib.specs.NamedRules.{ByLexer};
 ghost use Rattle.reviews_lib.specs.Pictured.{ArePictures, BytesPictured, IsDrawn, IsMissing, IsModePicture, IsRulePicture, IsSmallestIn, IsSmallestOf, PictureAnswer, label, labels, no_rule, rules_named};
 
 use crate::compared::push_token;
+use bajofeki_rules::quoted;
 use lalrpop_lexer::lexer::dfa::{Dfa, NfaIndex, Precedence, build_dfa};
 use lalrpop_lexer::lexer::re::Regex;
 use lalrpop_rules::RuleLexer;
@@ -160,7 +161,8 @@ fn drawing(alloc: Global, rules: &FileLexer, given: Option<&str>) -> Result<Stri
 fn no_rule(alloc: Global, name: &str) -> Result<String, AllocError>
     ensures { IfOk result (λ reason. string_bytes reason ≡ no_rule name.now) }
 {
-    format!(in alloc; "no rule has the name \"{name}\"; leave it out to draw each mode")
+    let shown = quoted(alloc, name)?;
+    format!(in alloc; "no rule has the name {shown}; leave it out to draw each mode")
 }
 
 // What is answered if no rule of the file has the name.

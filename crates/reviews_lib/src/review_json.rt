@@ -239,7 +239,6 @@ fn write_automaton(
     write_string(writer, "file", reported.file())?;
     write_string(writer, "kind", "automaton")?;
     write_mode(writer, mode)?;
-    write_number(writer, "states", review.states)?;
     write_number(writer, "least_states", review.least_states)?;
     write_look(alloc, writer, reported, &review.look)
 }
@@ -279,7 +278,7 @@ pub(crate) fn empty_object(
 {
     let mut writer = begun_object(alloc)?;
     write_empty(&mut writer, reported, rule)?;
-    ended_line(writer)
+    ended_line(alloc, writer)
 }
 
 /// The line of a rule that never wins in the mode.
@@ -298,7 +297,7 @@ pub(crate) fn idle_object(
 {
     let mut writer = begun_object(alloc)?;
     write_idle(alloc, &mut writer, reported, mode, idle)?;
-    ended_line(writer)
+    ended_line(alloc, writer)
 }
 
 /// The line of the automaton of a mode.
@@ -317,7 +316,7 @@ pub(crate) fn automaton_object(
 {
     let mut writer = begun_object(alloc)?;
     write_automaton(alloc, &mut writer, reported, mode, review)?;
-    ended_line(writer)
+    ended_line(alloc, writer)
 }
 
 /// The line of a clash.
@@ -336,5 +335,5 @@ pub(crate) fn clash_object(
 {
     let mut writer = begun_object(alloc)?;
     write_clash(alloc, &mut writer, reported, mode, clash)?;
-    ended_line(writer)
+    ended_line(alloc, writer)
 }

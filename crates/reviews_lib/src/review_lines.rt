@@ -254,10 +254,9 @@ fn automaton_line(
 {
     let file = reported.file();
     let mode = mode_before(alloc, mode)?;
-    let states = states_text(alloc, review.states)?;
-    let least = review.least_states;
+    let states = states_text(alloc, review.least_states)?;
     let look = look_text(alloc, reported, &review.look)?;
-    format!(in alloc; "{file}: {mode}{states}, {least} in the smallest automaton; {look}\n")
+    format!(in alloc; "{file}: {mode}{states} in the smallest automaton; {look}\n")
 }
 
 // The line of a rule that matches the empty text, in either form.
@@ -456,7 +455,7 @@ fn review_told(
 ///
 /// let text = review_text(alloc, LineForm::Plain, "a.rules", &["INITIAL"], &rules, &places, &review)?;
 /// // a.rules:1:6: IF never wins: NAME wins "if"
-/// // a.rules: 4 states, 3 in the smallest automaton; at most 1 character is read past a token
+/// // a.rules: 3 states in the smallest automaton; at most 1 character is read past a token
 /// ```
 ///
 /// # Errors

@@ -349,8 +349,10 @@ A push C = 'a';[B];D pop mode C = 'd';[C];E push B mode C = 'e' => [ModeNotLeft 
 A = 'a' # 'b';B = 'b#' c';C = 'c' D = 'd' => [TextGoesOn { rule: 0 }, TextGoesOn { rule: 2 }]
 A = "a\" # ";B = "a" # ";C = anycase 'c'  D  = 'd';D = from ' # ' to '' E=' => [TextGoesOn { rule: 1 }, TextGoesOn { rule: 2 }, TextGoesOn { rule: 3 }]
 A = /[:alpha:]+/;B = /[[:alpha:]]+/;C = /a[:^word:]/;D = /\[:word:]/;E = /[:Alpha:]/;F = '[:alpha:]' => [ClassOutside { rule: 0 }, ClassOutside { rule: 2 }]
+A = /[a][:alpha:]/;B = /\\[b[:digit:]]?[:digit:]|é/;C = /[^]\]][:^word:]]/;D = /[^][:space:]]*/;E = /[]\]][:alpha:]/ => [ClassOutside { rule: 0 }, ClassOutside { rule: 1 }, ClassOutside { rule: 2 }, ClassOutside { rule: 4 }]
 A = /".*"/;B = /\/\*.+\*\//;C = /(?s)<!--.*-->/;D = /a\.\?.*b/;E = /ä.*ö/ => [EndPassed { rule: 0 }, EndPassed { rule: 1 }, EndPassed { rule: 2 }, EndPassed { rule: 3 }, EndPassed { rule: 4 }]
-A = /#.*/;B = /#.*\n/;C = /"[^"]*"/;D = /\".\*"/;E = /.*x/;F = /a.*b+/;G = '".*"';H = /a.?b/;I = /a\.*b/;J = /".*\"?/;K = /(a).*b/ => []
+A = /\/\*(?s:.)*\*\//;B = /<!--(.|\n)*-->/;C = /'[\s\S]+'/;D = /\((?s:.*)\)/;E = /a(?:.|\n)*b/ => [EndPassed { rule: 0 }, EndPassed { rule: 1 }, EndPassed { rule: 2 }, EndPassed { rule: 3 }, EndPassed { rule: 4 }]
+A = /#.*/;B = /#.*\n/;C = /"[^"]*"/;D = /\".\*"/;E = /.*x/;F = /a.*b+/;G = '".*"';H = /a.?b/;I = /a\.*b/;J = /".*\"?/;K = /(a).*b/;L = /a(.|\n)*/;M = /a[\S\n]*b/ => []
 D part = /d/;[A];B = /a.*b/;[C];E pop = 'e' => [PartUnused { part: 0 }, ModeNotEntered { mode: 1 }, EndPassed { rule: 0 }]
 "#;
 

@@ -1,23 +1,21 @@
 //! Runs of the program `lexdfa` over readers and writers: bytes of every kind, outcomes and the names of errors; and over those that fail:
 //! what is written then, that no call is made after one that failed, that no run flushes, and that a failed flush is told.
-ghost use Rattle.std.specs.Prelude.{◌≡◌, false};
 
-use lexdfa_lib::{Failure, Outcome, RunError, Watched, run, run_all, run_and_flush};
+use lexdfa_lib::{
+    Failure, Outcome, Reader, RunError, Sink, Source, Watched, Writer, run, run_all, run_and_flush,
+};
 use std::alloc::Global;
 use std::io;
 use std::io::{Read, Write};
 
 // A run that finds the longest match, or one that cuts all of the text.
-pub(crate) fn run_over<R: Read, W: Write>(
+pub(crate) fn run_over<I: Source, O: Sink>(
     alloc: Global,
     all: bool,
-    reader: &mut Watched<R>,
+    reader: &mut Reader<I>,
     text: &str,
-    writer: &mut Watched<W>,
-) -> Result<Outcome, RunError>
-    requires reader_good { reader.old.failed ≡ false }
-    requires writer_good { writer.old.failed ≡ false }
-{
+    writer: &mut Writer<O>,
+) -> Result<Outcome, RunError> {
     if all {
         run_all(alloc, reader, text, writer)
     } else {
@@ -53,14 +51,12 @@ fn line_with(place: usize, byte: u8) -> [u8; 6] {
     line
 }
 
-// Whether the run writes this, and neither its reader nor its writer fails.
+// Whether the run writes this.
 fn is_answered(alloc: Global, input: &[u8], wanted: &[u8]) -> bool {
-    let mut reader = Watched::new(input);
-    let mut writer = Watched::new(Vec::new(alloc));
+    let mut reader = Reader::new(input);
+    let mut writer = Writer::new(Vec::new(alloc));
     let is_ok = run_over(alloc, false, &mut reader, "a", &mut writer).is_ok();
-    let fails = reader.failed() || writer.failed();
-    let written = writer.into_inner();
-    is_ok && !fails && written.as_slice() == wanted
+    is_ok && writer.into_sink().as_slice() == wanted
 }
 
 #[test]
@@ -75,8 +71,8 @@ fn each_byte_at_each_place_of_a_line(rt: HostRuntime) {
 const WORDS: &[u8] = b"1 l class\n0 r [a-zA-Z_][a-zA-Z0-9_]*\n0 r  +\n";
 
 fn ends_so(alloc: Global, text: &str, wanted: Outcome) -> bool {
-    let mut reader = Watched::new(WORDS);
-    let mut writer = Watched::new(Vec::new(alloc));
+    let mut reader = Reader::new(WORDS);
+    let mut writer = Writer::new(Vec::new(alloc));
     match run_over(alloc, true, &mut reader, text, &mut writer) {
         Ok(outcome) => outcome == wanted,
         Err(_) => false,
@@ -187,17 +183,17 @@ const JOBS: &[Job] = &[
 ];
 
 fn writes_nothing(alloc: Global, job: &Job, given: &[u8], kind: io::ErrorKind) -> bool {
-    let mut reader = Watched::new(FailsAtEnd {
+    let mut reader = Reader::new(Watched::new(FailsAtEnd {
         left: given,
         kind,
         calls: 0,
-    });
-    let mut writer = Watched::new(Vec::new(alloc));
+    }));
+    let mut writer = Writer::new(Vec::new(alloc));
     let result = run_over(alloc, job.all, &mut reader, job.text, &mut writer);
-    let ended = matches!(&result, Err(RunError::Read)) && reader.failed() && !writer.failed();
+    let source = reader.into_source();
+    let ended = matches!(&result, Err(RunError::Read)) && source.failed();
     let calls = if given.is_empty() { 1 } else { 2 };
-    let written = writer.into_inner();
-    ended && reader.into_inner().calls == calls && written.is_empty()
+    ended && source.into_inner().calls == calls && writer.into_sink().is_empty()
 }
 
 fn never_writes(alloc: Global, job: &Job, kind: io::ErrorKind) -> bool {
@@ -222,19 +218,20 @@ fn a_failed_read_writes_nothing(rt: HostRuntime) {
 
 // A run into a writer with room for as many bytes: it fails unless all of its lines have room.
 fn leaves_a_prefix(alloc: Global, job: &Job, room: usize, kind: Option<io::ErrorKind>) -> bool {
-    let mut reader = Watched::new(job.input);
-    let mut writer = Watched::new(FailsAfter {
+    let mut reader = Reader::new(job.input);
+    let mut writer = Writer::new(Watched::new(FailsAfter {
         taken: Vec::new(alloc),
         room,
         kind,
         calls: 0,
         flushes: 0,
-    });
+    }));
     let result = run_over(alloc, job.all, &mut reader, job.text, &mut writer);
     let fails = room < job.lines.len();
     let is_told = matches!(&result, Err(RunError::Write)) == fails && result.is_err() == fails;
-    let is_named = !reader.failed() && writer.failed() == fails;
-    let end = writer.into_inner();
+    let sink = writer.into_sink();
+    let is_named = sink.failed() == fails;
+    let end = sink.into_inner();
     let calls = if fails { room.saturating_add(1) } else { room };
     is_told
         && is_named
@@ -277,7 +274,9 @@ impl Write for FailsToFlush {
 }
 
 fn fails_to_flush(alloc: Global, job: &Job) -> bool {
-    let found = run_and_flush(alloc, job.all, job.input, job.text, FailsToFlush);
+    let mut reader = Reader::new(job.input);
+    let writer = Writer::new(Watched::new(FailsToFlush));
+    let found = run_and_flush(alloc, job.all, &mut reader, job.text, writer);
     matches!(&found, Err(Failure::Run(RunError::Write)))
 }
 

@@ -147,8 +147,8 @@ page_low : (set : ModeRules) (modes : List (List ℕ)) (markup : Markup) (name :
 page_low set modes markup name reading answer is = cut_low set modes true (λ text xs. page_of markup set.names xs) name reading answer is
 
 source_low : (language : Language) (file : List ℕ) (set : ModeRules) (answer : Answer) → SourceAnswer language file set answer → IsLow answer
-source_low language file set answer (inl (n, (are, e))) = low answer _ e (omega arith)
-source_low language file set answer (inr (error, (other, (is, e)))) = low answer _ e (omega arith)
+source_low language file set answer (inl (none, (n, (are, e)))) = low answer _ e (omega arith)
+source_low language file set answer (inr (error, (is, e))) = low answer _ e (omega arith)
 
 picture_low : (file : List ℕ) (given : Option (List ℕ)) (set : ModeRules) (modes : List (List ℕ)) (answer : Answer) → PictureAnswer file given set modes answer → IsLow answer
 picture_low file given set modes answer (inl (text, (drawn, e))) = low answer _ e (omega arith)

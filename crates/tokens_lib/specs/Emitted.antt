@@ -29,9 +29,9 @@ abbrev pub IsFileError : Language → List (List ℕ) → EmitError → Type 0
 IsFileError (C prefix) names e = IsSourceError (prefix_of prefix) e
 IsFileError Rust names e = IsRustError names e
 
--- the rules have no numbers, or their names can't be written
+-- a reason why there is no source file: the rules have no numbers, or their names can't be written
 abbrev pub IsNoSource : Language → ModeRules → EmitError → Type 0
-IsNoSource language r e = IsNumbersError r e ⊎ IsFileError language (distinct_names r.names) e
+IsNoSource language r e = (e ≢ error.OutOfMemory) × (IsNumbersError r e ⊎ IsFileError language (distinct_names r.names) e)
 
 -- what is said of it
 abbrev pub error_reason : EmitError → List ℕ
@@ -47,8 +47,9 @@ error_reason error.BadPrefix = codes "the prefix isn't an identifier: ASCII lett
 error_reason error.NoTable = codes "the table of these rules would be too large"
 error_reason error.OutOfMemory = codes "out of memory"
 
--- the source file of the rules is written; or it is said why there is none
+-- there is no such reason, and the source file of the rules is written; or there is one, which is said
 abbrev pub SourceAnswer : Language → List ℕ → ModeRules → Answer → Type 0
 SourceAnswer language file r answer =
-    ((n : NumberedRules) × (AreNumbersOf r n × (answer ≡ record { status = 0; out = source_file language n; err = [] })))
-    ⊎ ((e : EmitError) × ((e ≢ error.OutOfMemory) × (IsNoSource language r e × (answer ≡ refusal 2 (about file (error_reason e))))))
+    (¬ ((e : EmitError) × IsNoSource language r e)
+    × ((n : NumberedRules) × (AreNumbersOf r n × (answer ≡ record { status = 0; out = source_file language n; err = [] }))))
+    ⊎ ((e : EmitError) × (IsNoSource language r e × (answer ≡ refusal 2 (about file (error_reason e)))))

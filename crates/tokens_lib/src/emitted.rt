@@ -54,6 +54,8 @@ fn file_of(
 ) -> Result<String, EmitError>
     ensures file { IfOk result (λ source.
         string_bytes source ≡ source_file language.entry numbers.now) }
+    ensures exact { OnOk result ((e : EmitError) → IsFileError language.entry numbers.now.names e
+        → e ≡ EmitError.OutOfMemory) }
     ensures error { IfErr result (IsFileError language.entry numbers.now.names) }
 {
     match language {
@@ -66,7 +68,9 @@ fn file_of(
 fn source_of(alloc: Global, lexer: &RuleLexer, language: Language<'_>) -> Result<String, EmitError>
     ensures source { IfOk result (λ source. (n : NumberedRules)
         × (AreNumbersOf lexer.now n × (string_bytes source ≡ source_file language.entry n))) }
-    ensures refused { IfErr result (IsNoSource language.entry lexer.now) }
+    ensures exact { OnOk result (¬ ((e : EmitError) × IsNoSource language.entry lexer.now e)) }
+    ensures refused { IfErr result (λ e. e ≢ EmitError.OutOfMemory
+        → IsNoSource language.entry lexer.now e) }
 {
     let numbers = LexerNumbers::new(alloc, lexer)?;
     file_of(alloc, &numbers, language)

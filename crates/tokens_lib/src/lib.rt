@@ -10,7 +10,7 @@ pub use lalrpop_rules::{
 };
 pub use lexdfa_lib::{
     Action, ArgumentsError, Command, Files, Language, Markup, NoBytes, Reader, Sink, Source,
-    System, Verbosity, command_of,
+    Verbosity, Watched, command_of,
 };
 pub use pieces_lib::{Console, CutEnd, Found, OpenMode, write_items, write_page};
 pub use program::{run, run_program};

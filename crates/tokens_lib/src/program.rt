@@ -14,7 +14,7 @@ ghost use Rattle.lexdfa_lib.specs.Usage.{help, version, wrong_text};
 use crate::emitted::emit;
 use lexdfa_lib::{
     Action, ArgumentsError, Command, ErrorStream, Failure, Files, Markup, Output, Reader, RunError,
-    Sink, Source, System, SystemFiles, Verbosity, WRONG_ARGUMENTS, Writer, command_of, flushed,
+    Sink, Source, SystemFiles, Verbosity, WRONG_ARGUMENTS, Watched, Writer, command_of, flushed,
     help, joined, status_of, version, without_arguments, wrong_text,
 };
 use pieces_lib::{Console, Task, cut_all, reading_message};
@@ -205,7 +205,7 @@ fn arguments_refused(alloc: Global, error: &ArgumentsError<'_>) -> Result<Reply,
 /// (`warnings_message`), which `--quiet` leaves out; if a write there fails, nothing more is said, and the run goes on.
 ///
 /// `--check` reads the rules alone. If some clash, it writes all clashes; otherwise it writes a review (`lalrpop_review`): the
-/// rules that match the empty text, and for each mode the rules that never win and how large its automaton is. With `--json` the
+/// rules that match the empty text, and for each mode the rules that never win and how large its smallest automaton is. With `--json` the
 /// warnings are written to `out` too, before these lines (`warnings_json`), and aren't said. `--diff` reads two files of rules,
 /// and for each mode writes the least text of which they make different tokens, if there is one.
 ///
@@ -258,7 +258,7 @@ fn run_in_system<R: Env + RuntimeFiles + Input + AllocGlobal, O: Sink, E: Sink>(
         return Err(Failure::Run(RunError::OutOfMemory));
     };
     let files = SystemFiles { rt };
-    let mut input = Reader::new(System(rt.reader()));
+    let mut input = Reader::new(Watched::new(rt.reader()));
     match run(rt.alloc(), &words, &files, &mut input, console) {
         Ok(status) => Ok(status),
         Err(error) => Err(Failure::Run(error)),
@@ -278,7 +278,7 @@ fn failure_text(failure: &Failure) -> &'static str
 }
 
 // Says why a run failed, and returns the exit status.
-fn fail<W: Write + Drop>(failure: Failure, err: &mut Writer<System<W>>) -> u8
+fn fail<W: Write + Drop>(failure: Failure, err: &mut Writer<Watched<W>>) -> u8
     ensures status { result ≡ ending_status (Err failure) }
     ensures said { IsTold err.old (failure_text failure) err.new }
 {
@@ -293,7 +293,7 @@ fn finish<W: Write + Drop>(
     found: Result<u8, Failure>,
     flush: &io::Result<()>,
     is_closed: bool,
-    err: &mut Writer<System<W>>,
+    err: &mut Writer<Watched<W>>,
 ) -> u8
     ensures status { result ≡ (ending is_closed flush.now found).status }
     ensures said { IsTold err.old (ending is_closed flush.now found).err err.new }
@@ -318,12 +318,12 @@ pub fn run_program<R: Env + RuntimeFiles + Input + Print + Eprint + AllocGlobal>
     ensures status { exit_status result ≤ 6 }
 {
     let mut console = Console::new(
-        System(Output::new(io::writer(rt))),
-        System(ErrorStream { rt }),
+        Watched::new(Output::new(io::writer(rt))),
+        Watched::new(ErrorStream { rt }),
     );
     let found = run_in_system(rt, &mut console);
     let (out, mut err) = console.into_writers();
-    let System(mut output) = out.into_sink();
+    let mut output = out.into_sink().into_inner();
     let flush = output.flush();
     ExitCode::from(finish(found, &flush, output.is_closed(), &mut err))
 }

@@ -1,5 +1,5 @@
 -- A run over memory gives exactly one answer's bytes.
-use Rattle.std.proofs.Common.{◌≡◌, ℕ, Bool, true, false, List, [], Some, None, sym, subst}
+use Rattle.std.proofs.Common.{◌≡◌, ℕ, Bool, true, false, List, [], Some, None, sym, ap, subst}
 use Rattle.std.specs.Prelude.{Option}
 use Rattle.std.specs.Io.KnownBytes.{Appends}
 use Rattle.lexdfa_lib.specs.Streams.{IsToldBy, Stream, opened}
@@ -19,13 +19,13 @@ told true new bytes all e is = absurd (cc (e.0.0))
 
 pub exact : (Is : Answer → Type 0) (first second : List ℕ) (old : Console) (status : ℕ) (new : Console) (out err : List ℕ) → first ≡ [] → second ≡ []
     → old ≡ record { out = opened (Some first) false; err = opened (Some second) false } → Answers Is old status new
-    → Some out ≡ new.out.bytes → Some err ≡ new.err.bytes → Is (record { status = status; out = out; err = err })
+    → opened (Some out) false ≡ new.out → opened (Some err) false ≡ new.err → Is (record { status = status; out = out; err = err })
 exact Is first second old status new out err nothing neither begun (answer, (is, (has, gives))) written said =
     let b = subst (λ (l : List ℕ). old ≡ record { out = memory; err = opened (Some l) false }) neither
     (subst (λ (l : List ℕ). old ≡ record { out = opened (Some l) false; err = opened (Some second) false }) nothing begun) in
     let g = subst (λ (o : Console). Gives o answer new) b gives in
-    let o = appended new.out.bytes answer.out out g.out.1 written in
-    let e = told new.err.is_broken new.err answer.err err g.err said in
+    let o = appended new.out.bytes answer.out out g.out.1 (ap (λ (s : Stream). s.bytes) written) in
+    let e = told new.err.is_broken new.err answer.err err g.err (ap (λ (s : Stream). s.bytes) said) in
     subst (λ (l : List ℕ). Is (record { status = status; out = out; err = l })) e
     (subst (λ (l : List ℕ). Is (record { status = status; out = l; err = answer.err })) o
     (subst (λ (s : ℕ). Is (record { status = s; out = answer.out; err = answer.err })) (sym has) is))

@@ -10,8 +10,8 @@ use tokens_lib::LineForm;
 
 // Needs tokens_lib::run: answer, fails. tokens_lib::LineForm.
 /// By the file of rules: it has a bad line, no lexer can be made of its rules, or nothing is wrong with
-/// them. Then by the text: it is clean, it is cut whole past its faults, cutting stops at its first
-/// fault, or it isn't UTF-8. Each has exactly its bytes and its status.
+/// them. Then by the text, of any bytes: it is clean, it is cut whole past its faults or up to an open
+/// mode, or cutting stops at its first fault. Each has exactly its bytes and its status.
 ///
 /// # Errors
 ///

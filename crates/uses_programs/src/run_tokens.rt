@@ -133,8 +133,8 @@ fn two_words_of(alloc: Global, form: LineForm, recovers: bool) -> Result<Vec<Str
 }
 
 // Needs tokens_lib::run: answer, fails. tokens_lib::LineForm.
-/// `tokens [--recover] [--json] rules`, with the text on standard input. A bad line of the rules, rules that clash, a fault, a
-/// text that isn't UTF-8: each has its bytes and its status, and nothing else is answered.
+/// `tokens [--recover] [--json] rules`, with the text on standard input. A bad line of the rules, rules that clash, a fault, an
+/// open mode: each has its bytes and its status, and nothing else is answered.
 ///
 /// # Errors
 ///

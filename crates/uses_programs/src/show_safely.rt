@@ -1,5 +1,5 @@
 //! What is written and said has only characters that are seen, so that no text can steer a terminal.
-ghost use Rattle.std.specs.Prelude.{map, string_bytes, All, IfOk, OnOk};
+ghost use Rattle.std.specs.Prelude.{◌+◌, ◌≤◌, length, map, string_bytes, All, IfOk, OnOk};
 ghost use Rattle.lalrpop_rules.specs.ModeSet.{rules_of};
 ghost use Rattle.lalrpop_rules.specs.RuleSet.{names_of};
 ghost use Rattle.reports_lib.specs.Reasons.{CanBeSaid};
@@ -7,7 +7,7 @@ ghost use Rattle.reports_lib.specs.Safe.{IsSafe};
 
 use lalrpop_lexer::Position;
 use lalrpop_rules::RulesError;
-use reports_lib::{Shown, push_plain};
+use reports_lib::{Shown, push_json, push_plain};
 use std::alloc::{AllocError, Global};
 use tokens_lib::{ModeFile, RuleFileError, bad_line_message, rules_message};
 
@@ -31,6 +31,23 @@ pub fn line_of_a_token(
         slice,
     };
     push_plain(alloc, lines, None, position, &shown)?;
+    Ok(())
+}
+
+// The object of any bytes, in a file and by a rule of any names, after lines that are safe.
+// Needs reports_lib::push_json.
+pub fn object_of_a_token(
+    alloc: Global,
+    lines: &mut Vec<u8>,
+    file: &str,
+    position: Position,
+    shown: &Shown<'_, '_, '_>,
+) -> Result<(), AllocError>
+    requires fits { shown.now.start + length shown.now.slice.now ≤ usize.MAX }
+    requires lines { IsSafe lines.old.items }
+    ensures safe { OnOk result (IsSafe lines.new.items) }
+{
+    push_json(alloc, lines, Some(file), position, shown)?;
     Ok(())
 }
 

@@ -2,6 +2,7 @@ mod Counting
 mod EditCosts
 mod Edits
 mod Joining
+mod LexdfaRuns
 mod ModePieces
 mod Pages
 mod ReadFiles

@@ -1,20 +1,19 @@
 //! The statuses and the lines that a program ends with.
-ghost use Rattle.std.specs.Prelude.{◌≡◌, ◌≢◌, ◌≤◌, ◌++◌, ℕ, List, Option, length, IfOk, IfErr, OnOk, OnErr, string_bytes};
+ghost use Rattle.std.specs.Prelude.{◌≡◌, ◌≢◌, ◌≤◌, ◌++◌, ℕ, List, length, IfOk, IfErr, OnOk, OnErr, string_bytes};
 ghost use Rattle.std.specs.IoError.{error_kind};
-ghost use Rattle.std.specs.Option.{option_map_or};
 ghost use Rattle.std.specs.Process.{exit_status};
-ghost use Rattle.lexdfa_lib.specs.Answer.{ReadsOutcome};
 ghost use Rattle.lexdfa_lib.specs.Ending.{ending_status, ending_message};
 ghost use Rattle.lexdfa_lib.specs.Printed.{line_of};
+ghost use Rattle.lexdfa_lib.specs.Run.{AreLines};
 ghost use Rattle.lexdfa_lib.specs.Status.{outcome_status, error_status};
-ghost use Rattle.lexdfa_lib.specs.Whole.{WritesAnswers};
+ghost use Rattle.lexdfa_lib.specs.Streams.{AtEnd, Reads};
 
 use lexdfa_lib::{
-    Ending, Failure, Outcome, RunError, Word, clash_line, flushed, outcome_line, run_and_flush,
-    run_program, without_arguments,
+    Ending, Failure, Outcome, Reader, RunError, Source, Watched, Word, Writer, clash_line, flushed,
+    outcome_line, run_and_flush, run_program, without_arguments,
 };
 use std::alloc::{AllocError, Global};
-use std::io::{self, Eprint, ErrorKind, Read, Write};
+use std::io::{self, Eprint, ErrorKind, Write};
 use std::process::ExitCode;
 use std::rt::Env;
 
@@ -35,13 +34,10 @@ pub fn status_of(found: &Result<Outcome, RunError>) -> u8
 /// The exit status of a program, and how long its message is.
 pub fn status_and_message(found: &Result<Outcome, Failure>) -> (u8, usize)
     ensures status { result.0 ≡ ending_status found.now }
-    ensures message { result.1 ≡ option_map_or length (ending_message found.now) 0 }
+    ensures message { result.1 ≡ length (ending_message found.now) }
 {
     let Ending { status, message } = Ending::of(found);
-    match message {
-        Some(message) => (status, message.len()),
-        None => (status, 0),
-    }
+    (status, message.len())
 }
 
 // Needs lexdfa_lib::outcome_line: line.
@@ -94,44 +90,25 @@ pub fn status_after(status: u8, flush: &io::Result<()>) -> u8
     }
 }
 
-// Needs lexdfa_lib::run_and_flush: one, usage.
-/// The outcome for the front of a text.
+// Needs lexdfa_lib::run_and_flush: answer, usage.
+/// The outcome for a text, or for its front if not all of it is cut.
 ///
 /// # Errors
 ///
 /// The status of the failure: 5 or 6.
-pub fn front_of<R: Read + Drop, W: Write + Drop>(
+pub fn outcome_for<I: Source, W: Write + Drop>(
     alloc: Global,
-    reader: R,
+    all: bool,
+    reader: &mut Reader<I>,
     text: &str,
     writer: W,
 ) -> Result<Outcome, u8>
-    ensures outcome { IfOk result (λ outcome. (left : Option (List ℕ))
-        × ReadsOutcome (R.remaining reader) left text.now outcome) }
+    ensures outcome { IfOk result (λ outcome. (bytes : List ℕ)
+        × (Reads reader.old reader.new (record { bytes = bytes; end = AtEnd })
+        × ((written : List ℕ) × AreLines all text.now bytes outcome written))) }
     ensures status { IfErr result (λ status. 5 ≤ status) }
 {
-    match run_and_flush(alloc, false, reader, text, writer) {
-        Ok(outcome) => Ok(outcome),
-        Err(failure) => Err(lexdfa_lib::status_of(&Err(failure))),
-    }
-}
-
-// Needs lexdfa_lib::run_and_flush: whole.
-/// The outcome for all of a text.
-///
-/// # Errors
-///
-/// The status of the failure.
-pub fn whole_of<R: Read + Drop, W: Write + Drop>(
-    alloc: Global,
-    reader: R,
-    text: &str,
-    writer: W,
-) -> Result<Outcome, u8>
-    ensures outcome { IfOk result (λ outcome. (left held : Option (List ℕ))
-        × WritesAnswers (R.remaining reader) left text.now (W.contents writer) held outcome) }
-{
-    match run_and_flush(alloc, true, reader, text, writer) {
+    match run_and_flush(alloc, all, reader, text, Writer::new(Watched::new(writer))) {
         Ok(outcome) => Ok(outcome),
         Err(failure) => Err(lexdfa_lib::status_of(&Err(failure))),
     }

@@ -4,17 +4,18 @@ use Rattle.std.specs.Prelude.{Some, None}
 use Rattle.std.proofs.lemmas.Str.{IsUtf8-nil}
 use Rattle.lalrpop_hir.specs.Tree.{Tree}
 use Rattle.lalrpop_rules.specs.Found.{MatchesAt}
-use Rattle.bajofeki.specs.Internal.Parts.{Tells, IsLeft, IsVoid, IsParted, size_in_fault}
+use Rattle.bajofeki.specs.Internal.Parts.{Tells, TellsTurn, IsLeft, IsPart, IsParted, size_in_fault}
 use Rattle.bajofeki.specs.declared.parts.Told.{Told}
 use Rattle.bajofeki.specs.declared.parts.Told.TheVariants.{Whole, Nothing, Open}
+use Rattle.bajofeki.specs.declared.parts.Turn.TheVariants.{Void}
 use Rattle.bajofeki.proofs.Cases.Begun.{a_first_byte_begins, letter, of_no_character}
 use Rattle.bajofeki.proofs.BegunLaws.{begun_not_bad, nothing_begun}
 
 -- ---- what a text tells
 
 -- nothing is open once no character comes
-never_open : (ts : List Tree) (ps text : List ℕ) (is_match : Bool) → ¬ Tells ts ps text true (Open is_match)
-never_open ts ps text is_match told = absurd (cc (told.0))
+never_open : (ts : List Tree) (ps text : List ℕ) (is_match : Bool) (void : ℕ) → ¬ Tells ts ps text true (Open is_match void)
+never_open ts ps text is_match void told = absurd (cc (told.0))
 
 -- while one may, it isn't known that nothing matches
 never_nothing : (ts : List Tree) (ps text : List ℕ) → ¬ Tells ts ps text false Nothing
@@ -43,23 +44,26 @@ byte_taken_for_half left = begun_not_bad (0xFF ∷ []) (left.0 refl) of_no_chara
 -- ---- what has come
 
 -- of `a` and half of `ä` nothing was given, and then `a`
-letter_and_half : IsParted (97 ∷ 0xC3 ∷ []) 0 1 false
+letter_and_half : IsParted (97 ∷ 0xC3 ∷ []) (record { from = 0; ends = 1; is_bad = false })
 letter_and_half = record { order = omega arith; within = omega arith; utf8 = letter; left = half_left }
 
-letter_given : IsParted (97 ∷ 0xC3 ∷ []) 1 1 false
+letter_given : IsParted (97 ∷ 0xC3 ∷ []) (record { from = 1; ends = 1; is_bad = false })
 letter_given = record { order = omega arith; within = omega arith; utf8 = IsUtf8-nil; left = half_left }
 
-text_past_the_end : ¬ IsParted (97 ∷ []) 0 2 false
+text_past_the_end : ¬ IsParted (97 ∷ []) (record { from = 0; ends = 2; is_bad = false })
 text_past_the_end parted = omega (arith, parted.within)
 
 -- ---- where nothing matches
 
-nowhere_yet : (ts : List Tree) → IsVoid ts (0xFF ∷ []) false 0 true
-nowhere_yet ts = record { within = omega arith; left = byte_left; over = λ goes. absurd (cc); nothing = λ more may n below m. omega arith }
+nowhere_yet : (ts : List Tree) → IsPart ts (0xFF ∷ []) (record { from = 0; ends = 0; is_bad = true })
+nowhere_yet ts = record {
+  parted = record { order = omega arith; within = omega arith; utf8 = IsUtf8-nil; left = byte_left };
+  nothing = λ more n below m. omega arith;
+}
 
 -- after a character that has begun more may come, before the text ends
-half_before_the_end : (ts : List Tree) → ¬ IsVoid ts (0xC3 ∷ []) false 0 false
-half_before_the_end ts void = absurd (cc (void.over refl))
+half_before_the_end : (ts : List Tree) (ps : List ℕ) → ¬ TellsTurn ts ps (0xC3 ∷ []) false (record { from = 0; ends = 0; is_bad = false }) Void
+half_before_the_end ts ps told = absurd (cc (told.0 refl))
 
 -- ---- what belongs to a fault
 

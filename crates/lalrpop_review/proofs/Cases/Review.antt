@@ -18,7 +18,7 @@ use Rattle.lalrpop_rules.specs.Modes.{ModeRules, trees_in}
 use Rattle.lalrpop_verdicts.specs.Answers.{IsTextWord}
 use Rattle.lalrpop_verdicts.specs.WonWord.{WonWord}
 use Rattle.lalrpop_verdicts.specs.Verdicts.{AreWinners, IsWonBy, words_of}
-use Rattle.lalrpop_review.specs.Review.{AreThose, AreOneKind, NeverWins, IsIdle, AreIdle, IsAutomatonOf, IsLeastStates, IsLeastOpen, IsLook, IsModeReview, IsReview}
+use Rattle.lalrpop_review.specs.Review.{AreThose, AreOneKind, NeverWins, IsIdle, AreIdle, IsAutomatonOf, IsLeastStates, IsLeastOpen, IsLook, IsReview}
 use Rattle.lalrpop_review.specs.declared.look.Look.TheVariants.{AtMost, Unbounded}
 use Rattle.lalrpop_review.specs.declared.mode.ModeReview.{ModeReview}
 
@@ -270,10 +270,6 @@ one_is_too_few least =
     let (y, (there, behind)) = the_some (slice_get d (after d (97 ∷ []))) (λ x. IsRightKind (a ∷ []) (0 ∷ []) (97 ∷ []) x.kind) (is.1.kinds (97 ∷ [])) in
     let same : y ≡ x = same_Some y x (sym there ∙ ap (slice_get d) back ∙ at) in
     one_state_says_one_thing x.kind before (subst (λ (z : Row). IsRightKind (a ∷ []) (0 ∷ []) (97 ∷ []) z.kind) same behind)
-
--- a mode's automaton has as many at least
-no_fewer_than_the_least : (r : ModeRules) (m : ℕ) (x : ModeReview) → IsModeReview r m x → x.least_states ≤ x.states
-no_fewer_than_the_least r m x is = let least = is.least_states.none_fewer is.automaton is.stands in omega (arith, least, is.states)
 
 -- ---- reading past a token
 

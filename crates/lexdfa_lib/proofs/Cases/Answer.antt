@@ -1,7 +1,6 @@
 -- Cases of specs/Answer.antt: the input `0 l a` with a line feed and the text `a`, and the input `x`.
-use Rattle.std.proofs.Common.{◌≡◌, ℕ, zero, suc, ◌≤◌, List, [], ◌∷◌, ◌++◌, length, Some, None, inl, inr, refl, sym, ap, subst, ◌∙◌, codes, length-append, arith}
+use Rattle.std.proofs.Common.{◌≡◌, ℕ, zero, suc, ◌≤◌, List, [], ◌∷◌, ◌++◌, length, Some, None, inl, inr, refl, ap, subst, codes, length-append, arith}
 use Rattle.std.specs.Prelude.{slice_index}
-use Rattle.std.specs.Fmt.{digits}
 use Rattle.std.specs.Str.{chars}
 use Rattle.lalrpop_hir.specs.Word.{Shortlex}
 use Rattle.lalrpop_hir.specs.Tree.{Tree, literal}
@@ -13,8 +12,7 @@ use Rattle.lalrpop_lexer.specs.Report.{NoFault}
 use Rattle.lalrpop_lexer.specs.Winners.{TreeMatches}
 use Rattle.lalrpop_lexer.specs.Clash.{NoClash}
 use Rattle.lalrpop_lexer.specs.Longest.{IsLongest, IsMatch}
-use Rattle.lexdfa_lib.specs.Answer.{HaveAutomaton, Reports, IsReported, Finds, IsOutcome, IsAnswer, ReadsOutcome, WritesPrefix}
-use Rattle.lexdfa_lib.specs.Printed.{line_of}
+use Rattle.lexdfa_lib.specs.Answer.{HaveAutomaton, Reports, IsReported, Finds, IsOutcome}
 use Rattle.lexdfa_lib.specs.declared.outcome.Outcome.{Outcome}
 use Rattle.lexdfa_lib.specs.declared.outcome.Outcome.TheVariants.{Match, NoMatch, All, Ambiguous, Syntax, Line}
 use Rattle.lexdfa_lib.proofs.Unique.{outcome-unique}
@@ -149,14 +147,14 @@ whole_text_is_not_the_outcome : ¬ IsOutcome (codes "0 l a\n") (codes "a") (All 
 whole_text_is_not_the_outcome h = let e : Match 0 1 ≡ All 1 = outcome-unique (codes "0 l a\n") (codes "a") _ _ match_is_the_outcome h in absurd (cc)
 
 -- the input `x`: line 0 is bad, and nothing else is reported
-bad_line_is_the_outcome : IsOutcome (codes "x\n") (codes "a") (Line 0)
+pub bad_line_is_the_outcome : IsOutcome (codes "x\n") (codes "a") (Line 0)
 bad_line_is_the_outcome = inl x_is_bad
 
 none_is_not_the_outcome_of_a_bad_line : ¬ IsOutcome (codes "x\n") (codes "a") NoMatch
 none_is_not_the_outcome_of_a_bad_line h = let e : Line 0 ≡ NoMatch = outcome-unique (codes "x\n") (codes "a") _ _ bad_line_is_the_outcome h in absurd (cc)
 
 -- the input `0 r *a`: the pattern of line 0 doesn't parse
-syntax_is_the_outcome : IsOutcome (codes "0 r *a\n") (codes "a") (Syntax 0)
+pub syntax_is_the_outcome : IsOutcome (codes "0 r *a\n") (codes "a") (Syntax 0)
 syntax_is_the_outcome = inl line_says_no_tree
 
 -- it is neither a terminal nor a bad line
@@ -179,39 +177,3 @@ nothing_matches text p m = let e : None ≡ Some m.2.1.0 = m.2.1.1.0 in absurd (
 
 none_is_the_outcome_of_no_lines : IsOutcome (codes "") (codes "a") NoMatch
 none_is_the_outcome_of_no_lines = inr ([], ([], (no_lines_have_automaton, nothing_matches (codes "a"))))
-
--- ---- lines
-
-line_is_the_answer : IsAnswer (codes "x\n") (codes "a") (codes "line 0\n")
-unfolding digits
-line_is_the_answer = (Line 0, (bad_line_is_the_outcome, refl))
-
-syntax_is_the_answer : IsAnswer (codes "0 r *a\n") (codes "a") (codes "syntax 0\n")
-unfolding digits
-syntax_is_the_answer = (Syntax 0, (syntax_is_the_outcome, refl))
-
--- not without its line feed
-line_without_its_end_is_not_the_answer : ¬ IsAnswer (codes "x\n") (codes "a") (codes "line 0")
-unfolding digits
-line_without_its_end_is_not_the_answer h =
-    let e : Line 0 ≡ h.0 = outcome-unique (codes "x\n") (codes "a") _ _ bad_line_is_the_outcome h.1.0 in
-    let n : 6 ≡ 7 = ap length (h.1.1 ∙ ap line_of (sym e)) in
-    omega (arith, n)
-
--- ---- readers and writers
-
--- the reader had `x` and is at its end
-reader_at_its_end_gives_the_outcome : ReadsOutcome (Some (codes "x\n")) (Some []) (codes "a") (Line 0)
-reader_at_its_end_gives_the_outcome = (codes "x\n", ((refl, refl), bad_line_is_the_outcome))
-
--- not before that
-reader_with_bytes_left_gives_no_outcome : (o : Outcome) → ¬ ReadsOutcome (Some (codes "x\n")) (Some (codes "\n")) (codes "a") o
-reader_with_bytes_left_gives_no_outcome o h = let n : 1 ≡ 0 = ap length h.1.0.1 in omega (arith, n)
-
--- the writer took `li` of the line
-writer_takes_a_prefix : WritesPrefix (Some (codes "x\n")) (Some []) (codes "a") (Some []) (Some (codes "li"))
-writer_takes_a_prefix = (codes "x\n", ((refl, refl), (codes "line 0\n", (line_is_the_answer, (2, omega arith, refl)))))
-
--- it doesn't lose what it held
-writer_loses_nothing : ¬ WritesPrefix (Some (codes "x\n")) (Some []) (codes "a") (Some (codes "a")) (Some [])
-writer_loses_nothing h = absurd (cc)

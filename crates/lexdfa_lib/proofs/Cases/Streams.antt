@@ -1,8 +1,8 @@
 -- Cases of specs/Streams.antt.
-use Rattle.std.proofs.Common.{◌≡◌, List, ℕ, [], ◌∷◌, true, false, inl, inr, Some, codes, refl, ap, arith}
+use Rattle.std.proofs.Common.{◌≡◌, List, ℕ, zero, suc, [], ◌∷◌, length, take, get_or, true, false, inl, inr, Some, codes, refl, ap, arith}
 use Rattle.std.specs.Prelude.{Ok, Err}
 use Rattle.lexdfa_lib.specs.declared.error.RunError.TheVariants.{OutOfMemory, Read, Write}
-use Rattle.lexdfa_lib.specs.Streams.{Stream, AtEnd, Failed, NotOpened, LeftOff, GivesWhole, Reads, EndsReading, Takes, TakesPart, IsTold, opened}
+use Rattle.lexdfa_lib.specs.Streams.{Stream, AtEnd, Failed, NotOpened, LeftOff, GivesWhole, Reads, ReadsPart, EndsReading, AppendsPrefix, Takes, TakesPart, Works, IsTold, opened}
 
 -- bytes in memory, of which no read or write fails; and a pipe, of which one may
 abbrev memory : List ℕ → Stream
@@ -12,7 +12,7 @@ abbrev pipe : List ℕ → Stream
 pipe bytes = opened (Some bytes) true
 
 abbrev broken : List ℕ → Stream
-broken bytes = record { bytes = Some bytes; may_fail = true; is_broken = true }
+broken bytes = record { bytes = Some bytes; may_fail = true; is_broken = true; late = 0 }
 
 -- ---- what is read
 
@@ -50,7 +50,35 @@ no_end_of_a_broken_one new e = let whole = e.0 in absurd (cc)
 no_stream_unopened : (old new : Stream) (reason : List ℕ) → ¬ EndsReading old new (NotOpened reason)
 no_stream_unopened old new reason e = e
 
+-- a run that asks for memory in vain has read some bytes; over bytes in memory no read is the reason
+read_in_part : ReadsPart (memory (codes "ab")) (memory (codes "b")) OutOfMemory
+read_in_part = (codes "a", (refl, refl))
+
+memory_is_readable : (new : Stream) → (¬ ReadsPart (memory (codes "ab")) new Read) × (¬ ReadsPart (memory (codes "ab")) new Write)
+memory_is_readable new = ((λ e. memory_fails e.1.1.0), (λ e. e))
+  where
+    memory_fails : false ≡ true → ⊥
+    memory_fails e = cc
+
+-- a call after one that failed is late: a stream of which one was made has done no work
+late_call : ¬ Works (broken (codes "ab")) (record (broken (codes "b")) { late = 1 })
+late_call e = let n : 1 ≡ 0 = ap (λ (s : Stream). s.late) e in omega (arith, n)
+
+late_read : (bytes : List ℕ) → ¬ Reads (broken (codes "ab")) (record (broken (codes "b")) { late = 1 }) (record { bytes = bytes; end = Failed })
+late_read bytes e = let n : 1 ≡ 0 = ap (λ (s : Stream). s.late) e.1.1 in omega (arith, n)
+
 -- ---- what is written
+
+-- a writer that held `x` and holds `xa` has taken a prefix of `ab`; one that holds `xb` hasn't
+prefix_is_taken : AppendsPrefix (Some (codes "x")) (Some (codes "xa")) (codes "ab")
+prefix_is_taken = (1, omega arith, refl)
+
+no_other_part_is : ¬ AppendsPrefix (Some (codes "x")) (Some (codes "xb")) (codes "ab")
+no_other_part_is h = by_number h.0 h.2
+  where
+    by_number : (n : ℕ) → codes "xb" ≡ 120 ∷ take n (codes "ab") → ⊥
+    by_number zero e = let n : 2 ≡ 1 = ap length e in omega (arith, n)
+    by_number (suc n) e = let k : 98 ≡ 97 = ap (λ u. get_or u 1 0) e in omega (arith, k)
 
 -- a stream takes everything
 takes_all : Takes (memory (codes "a")) (codes "b") (memory (codes "ab"))

@@ -6,7 +6,7 @@ use Rattle.lalrpop_hir.specs.Tree.{Tree}
 use Rattle.lalrpop_hir.proofs.LastFaults.{end_behind}
 use Rattle.lalrpop_lexer.specs.Longest.{IsLongest}
 use Rattle.lexdfa_lib.specs.Answer.{IsOutcome}
-use Rattle.lexdfa_lib.specs.Whole.{Token, Cuts, IsWhole, token_line, AreAnswers, ReadsAnswers, WritesAnswers, WritesAnswersPrefix}
+use Rattle.lexdfa_lib.specs.Whole.{Token, Cuts, IsWhole, token_line, AreAnswers}
 use Rattle.lexdfa_lib.specs.declared.outcome.Outcome.TheVariants.{Match, NoMatch, All, Stopped, Line}
 use Rattle.lexdfa_lib.proofs.UniqueWhole.{answers-unique}
 use Rattle.lalrpop_lexer.proofs.Cases.Line.{x_is_bad}
@@ -109,29 +109,9 @@ fault_without_a_line h =
     let n : 7 ≡ 0 = ap length same.1 in
     omega (arith, n)
 
-bad_line_has_its_line : (text : List ℕ) → AreAnswers (codes "x\n") text (Line 0) (codes "line 0\n")
+pub bad_line_has_its_line : (text : List ℕ) → AreAnswers (codes "x\n") text (Line 0) (codes "line 0\n")
 unfolding digits
 bad_line_has_its_line text = ([], (bad_line_is_reported text, refl))
 
 empty_text_has_no_line : AreAnswers (codes "") [] (All 0) []
 empty_text_has_no_line = ([], (inr ([], ([], (no_lines_have_automaton, empty_text_is_no_token [] []))), refl))
-
--- ---- readers and writers
-
--- the reader had `x` and is at its end, or isn't
-reader_at_its_end : ReadsAnswers (Some (codes "x\n")) (Some []) (codes "a") (Line 0) (codes "line 0\n")
-reader_at_its_end = (codes "x\n", ((refl, refl), bad_line_has_its_line (codes "a")))
-
-reader_with_bytes_left : ¬ ReadsAnswers (Some (codes "x\n")) (Some (codes "\n")) (codes "a") (Line 0) (codes "line 0\n")
-reader_with_bytes_left h = let n : 1 ≡ 0 = ap length h.1.0.1 in omega (arith, n)
-
--- the writer took all lines, or a prefix; it doesn't lose what it held
-writer_takes_all : WritesAnswers (Some (codes "x\n")) (Some []) (codes "a") (Some []) (Some (codes "line 0\n")) (Line 0)
-writer_takes_all = (codes "line 0\n", (reader_at_its_end, refl))
-
-writer_takes_a_prefix : WritesAnswersPrefix (Some (codes "x\n")) (Some []) (codes "a") (Some []) (Some (codes "li"))
-writer_takes_a_prefix = (Line 0, (codes "line 0\n", (reader_at_its_end, (2, omega arith, refl))))
-
-writer_loses_nothing : (¬ WritesAnswers (Some (codes "x\n")) (Some []) (codes "a") (Some (codes "a")) (Some []) (Line 0))
-    × (¬ WritesAnswersPrefix (Some (codes "x\n")) (Some []) (codes "a") (Some (codes "a")) (Some []))
-writer_loses_nothing = ((λ h. cc), (λ h. cc))

@@ -23,7 +23,7 @@ page rules text xs = page_of Html rules.names xs
 
 -- standard output takes these bytes, and is broken or not
 abbrev screen : List ℕ → Bool → Console
-screen bytes is_broken = record { out = record { bytes = Some bytes; may_fail = true; is_broken = is_broken }; err = opened (Some []) true }
+screen bytes is_broken = record { out = record { bytes = Some bytes; may_fail = true; is_broken = is_broken; late = 0 }; err = opened (Some []) true }
 
 -- of an empty text nothing is written, and it has no fault
 nothing_is_written : (rules : ModeRules) → WritesCut rules true (page rules) all_of_nothing (screen [] false) (screen [] false) (Whole false None)

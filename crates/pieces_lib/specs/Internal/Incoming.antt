@@ -1,5 +1,5 @@
 -- A text that is read as it comes, and cut.
-use Rattle.std.specs.Prelude.{◌≡◌, ◌<◌, ◌⊎◌, ◌+◌, ℕ, Bool, true, false, if◌then◌else◌, List, [], ◌∷◌, ◌++◌, length, take}
+use Rattle.std.specs.Prelude.{◌≡◌, ◌<◌, ◌⊎◌, ◌+◌, ℕ, true, false, if◌then◌else◌, List, [], ◌∷◌, ◌++◌, length, take}
 use Rattle.bajofeki.specs.Chunked.{Chunked}
 use Rattle.lalrpop_rule_file.specs.RuleFile.{without_mark}
 use Rattle.lexdfa_lib.specs.Streams.{Stream, Reads, ReadEnd, AtEnd, Failed, LeftOff}

@@ -9,7 +9,8 @@ use Rattle.json.specs.Print.{print_from, escape_byte}
 use Rattle.bajofeki_rules.specs.declared.position.Position.{Position}
 use Rattle.lalrpop_rules.specs.Modes.{ModeRules}
 use Rattle.bajofeki_rules.specs.Stack.{Stack}
-use Rattle.reports_lib.specs.ItemLines.{byte_told, slice_told, plain_line, json_line, name_at, fault_line, mode_named, piece_lines}
+use Rattle.reports_lib.specs.ItemLines.{byte_told, slice_told, plain_line, json_told, json_line, name_at, fault_line, mode_named, piece_lines}
+use Rattle.reports_lib.proofs.JsonLaws.{line_as_is}
 use Rattle.lexdfa_lib.specs.declared.layout.LineForm.{LineForm}
 
 abbrev second : Position
@@ -57,23 +58,29 @@ line_of_bytes = refl
 
 object_of_a_name : json_line None second 1 (Some (codes "N")) None (codes "\"") ≡ codes "{\"line\":1,\"column\":2,\"start\":1,\"end\":2,\"rule\":\"N\",\"text\":\"\\\"\"}\n"
 unfolding digits print_from escape_byte chars is_utf8 lib.Utf8.encode utf8_lossy utf8_valid_len
-object_of_a_name = refl
+object_of_a_name = line_as_is (codes "{\"line\":1,\"column\":2,\"start\":1,\"end\":2,\"rule\":\"N\",\"text\":\"\\\"\"}") refl
 
 object_of_a_fault : json_line (Some (codes "f")) second 1 None None (codes "a")
     ≡ codes "{\"file\":\"f\",\"line\":1,\"column\":2,\"start\":1,\"end\":2,\"rule\":null,\"text\":\"a\"}\n"
 unfolding digits print_from escape_byte chars is_utf8 lib.Utf8.encode utf8_lossy utf8_valid_len
-object_of_a_fault = refl
+object_of_a_fault = line_as_is (codes "{\"file\":\"f\",\"line\":1,\"column\":2,\"start\":1,\"end\":2,\"rule\":null,\"text\":\"a\"}") refl
 
 -- the mode stands after the rule
 object_with_a_mode : json_line None second 1 (Some (codes "N")) (Some (codes "M")) (codes "a")
     ≡ codes "{\"line\":1,\"column\":2,\"start\":1,\"end\":2,\"rule\":\"N\",\"mode\":\"M\",\"text\":\"a\"}\n"
 unfolding digits print_from escape_byte chars is_utf8 lib.Utf8.encode utf8_lossy utf8_valid_len
-object_with_a_mode = refl
+object_with_a_mode = line_as_is (codes "{\"line\":1,\"column\":2,\"start\":1,\"end\":2,\"rule\":\"N\",\"mode\":\"M\",\"text\":\"a\"}") refl
 
 -- U+FFFD stands for the byte that is of no character, and the end counts the bytes of the slice
 object_of_bytes : json_line None second 1 None None bad ≡ codes "{\"line\":1,\"column\":2,\"start\":1,\"end\":3,\"rule\":null,\"text\":\"" ++ (239 ∷ 191 ∷ 189 ∷ codes "?\"}\n")
-unfolding digits print_from escape_byte chars is_utf8 lib.Utf8.encode utf8_lossy utf8_valid_len utf8_error_len
+unfolding digits print_from escape_byte chars is_utf8 lib.Utf8.encode utf8_lossy utf8_valid_len utf8_error_len ucd_category ucd_derived
 object_of_bytes = refl
+
+-- the bidirectional override U+202E, the tag U+E0041 of two units, DEL and the soft hyphen aren't seen; `é` is, and it stands as it is
+characters_of_json : (json_told 0x202E ≡ codes "\\u202e") × (json_told 0xE0041 ≡ codes "\\udb40\\udc41") × (json_told 127 ≡ codes "\\u007f")
+    × (json_told 0xAD ≡ codes "\\u00ad") × (json_told 0xE9 ≡ 195 ∷ 169 ∷ [])
+unfolding lib.Utf8.encode ucd_category ucd_derived
+characters_of_json = (refl, refl, refl, refl, refl)
 
 -- ---- pieces
 

@@ -9,6 +9,7 @@ use Rattle.lalrpop_rule_file.specs.declared.part_line.PartLine.{PartLine}
 use Rattle.lalrpop_rule_file.specs.declared.warning.Warning.TheVariants.{NoRules, PartUnused, ModeNotEntered, ModeNotLeft, TextGoesOn, ClassOutside, EndPassed}
 use Rattle.reports_lib.specs.ModePlace.{TellsSections}
 use Rattle.reports_lib.specs.Warned.{AreWarnings, SaysWarnings, warned_at, warned_of, warning_text}
+use Rattle.reports_lib.proofs.JsonLaws.{line_as_is}
 use Rattle.lexdfa_lib.specs.declared.layout.LineForm.{LineForm}
 use Rattle.lexdfa_lib.specs.declared.layout.LineForm.TheVariants.{Plain, Json}
 
@@ -46,7 +47,7 @@ unfolding digits
 text_going_on file r rules at = rw rules (rw at refl)
 
 class_outside : (file : RuleFile) (r : FileRule) → file.rules.items ≡ r ∷ [] → r.place ≡ place 3 6
-    → warning_text Plain (codes "r") there file (ClassOutside 0) ≡ codes "tokens: r:3:6: warning: the first bracket is a set of the characters in it: a class stands in brackets, as [[:alpha:]]\n"
+    → warning_text Plain (codes "r") there file (ClassOutside 0) ≡ codes "tokens: r:3:6: warning: a bracket such as [:alpha:] is a set of its characters: a class stands in brackets, as [[:alpha:]]\n"
 unfolding digits
 class_outside file r rules at = rw rules (rw at refl)
 
@@ -59,37 +60,37 @@ end_passed file r rules at = rw rules (rw at refl)
 
 no_rule_object : (file : RuleFile) → warning_text Json (codes "r") there file NoRules ≡ codes "{\"file\":\"r\",\"kind\":\"no-rules\"}\n"
 unfolding print_from escape_byte
-no_rule_object file = refl
+no_rule_object file = line_as_is _ refl
 
 part_object : (file : RuleFile) (p : PartLine) → file.part_lines.items ≡ p ∷ [] → p.name.now ≡ codes "D" → p.place ≡ place 2 1
     → warning_text Json (codes "r") there file (PartUnused 0) ≡ codes "{\"file\":\"r\",\"line\":2,\"column\":1,\"kind\":\"part-unused\",\"part\":\"D\"}\n"
 unfolding digits print_from escape_byte
-part_object file p parts name at = rw parts (rw (name, at) refl)
+part_object file p parts name at = rw parts (rw (name, at) (line_as_is _ refl))
 
 mode_object : (file : RuleFile) (m : Bor (List ℕ)) → file.modes.items ≡ m ∷ [] → m.now ≡ codes "M"
     → warning_text Json (codes "r") there file (ModeNotEntered 0) ≡ codes "{\"file\":\"r\",\"line\":4,\"column\":1,\"kind\":\"mode-not-entered\",\"mode\":\"M\"}\n"
 unfolding digits print_from escape_byte
-mode_object file m modes name = rw modes (rw name refl)
+mode_object file m modes name = rw modes (rw name (line_as_is _ refl))
 
 left_object : (file : RuleFile) (m : Bor (List ℕ)) → file.modes.items ≡ m ∷ [] → m.now ≡ codes "M"
     → warning_text Json (codes "r") there file (ModeNotLeft 0) ≡ codes "{\"file\":\"r\",\"line\":4,\"column\":1,\"kind\":\"mode-not-left\",\"mode\":\"M\"}\n"
 unfolding digits print_from escape_byte
-left_object file m modes name = rw modes (rw name refl)
+left_object file m modes name = rw modes (rw name (line_as_is _ refl))
 
 text_object : (file : RuleFile) (r : FileRule) → file.rules.items ≡ r ∷ [] → r.place ≡ place 3 6 → r.rule.name.now ≡ codes "A"
     → warning_text Json (codes "r") there file (TextGoesOn 0) ≡ codes "{\"file\":\"r\",\"line\":3,\"column\":6,\"kind\":\"text-goes-on\",\"rule\":\"A\"}\n"
 unfolding digits print_from escape_byte
-text_object file r rules at name = rw rules (rw (at, name) refl)
+text_object file r rules at name = rw rules (rw (at, name) (line_as_is _ refl))
 
 class_object : (file : RuleFile) (r : FileRule) → file.rules.items ≡ r ∷ [] → r.place ≡ place 3 6 → r.rule.name.now ≡ codes "A"
     → warning_text Json (codes "r") there file (ClassOutside 0) ≡ codes "{\"file\":\"r\",\"line\":3,\"column\":6,\"kind\":\"class-outside\",\"rule\":\"A\"}\n"
 unfolding digits print_from escape_byte
-class_object file r rules at name = rw rules (rw (at, name) refl)
+class_object file r rules at name = rw rules (rw (at, name) (line_as_is _ refl))
 
 end_object : (file : RuleFile) (r : FileRule) → file.rules.items ≡ r ∷ [] → r.place ≡ place 3 6 → r.rule.name.now ≡ codes "A"
     → warning_text Json (codes "r") there file (EndPassed 0) ≡ codes "{\"file\":\"r\",\"line\":3,\"column\":6,\"kind\":\"end-passed\",\"rule\":\"A\"}\n"
 unfolding digits print_from escape_byte
-end_object file r rules at name = rw rules (rw (at, name) refl)
+end_object file r rules at name = rw rules (rw (at, name) (line_as_is _ refl))
 
 -- another line, or none, is another warning
 another_line : warned_at (codes "r") (place 1 1) (codes "a") ≢ warned_at (codes "r") (place 2 1) (codes "a")

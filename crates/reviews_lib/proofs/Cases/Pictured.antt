@@ -2,7 +2,10 @@
 use Rattle.std.proofs.Common.{◌≡◌, ℕ, true, false, List, [], ◌∷◌, codes, refl, sym, ap, subst, ◌∙◌, inl, inr, arith}
 use Rattle.std.specs.Prelude.{Some, None, slice_get}
 use Rattle.std.specs.List.{AllZip, range_with_len}
+use Rattle.std.specs.Str.{chars}
 use Rattle.std.proofs.lemmas.Option.{same_Some}
+use Rattle.ucd_category.proofs.Computing.{ucd_category}
+use Rattle.ucd_derived.proofs.Computing.{ucd_derived}
 use Rattle.bajofeki_rules.specs.declared.action.Action.TheVariants.{Mode, Push, Pop}
 use Rattle.lalrpop_hir.specs.Tree.{Tree}
 use Rattle.lalrpop_hir.specs.Winners.{Matched}
@@ -77,6 +80,7 @@ none_missing r name (given, absent) = absurd (cc (given))
 
 refused : (r : ModeRules) (modes : List (List ℕ)) → has r.names (codes "B") ≡ false
     → PictureAnswer (codes "one") (Some (codes "B")) r modes (refusal 4 (codes "tokens: one: no rule has the name \"B\"; leave it out to draw each mode\n"))
+unfolding chars lib.Utf8.encode ucd_category ucd_derived
 refused r modes absent = inr (codes "B", ((refl, absent), refl))
 
 -- nothing else is refused

@@ -15,6 +15,7 @@ use Rattle.lalrpop_verdicts.specs.WonWord.{WonWord}
 use Rattle.reports_lib.specs.ReportedFile.{ReportedFile}
 use Rattle.reviews_lib.specs.ReviewJson.{shown_value, word_text, rule_member, place_members, empty_members, winner_object, winners_member, idle_members, after_members, witness_members, unbounded_members, look_members, automaton_members, clash_members}
 use Rattle.reports_lib.specs.ItemLines.{kind_member, object_line}
+use Rattle.reports_lib.proofs.JsonLaws.{line_as_is}
 
 -- two rules, IF in line 1 and NAME in line 2
 abbrev two : ReportedFile
@@ -52,13 +53,13 @@ rules = refl
 
 places : object_line (place_members two 1) ≡ codes "{\"file\":\"f\",\"line\":2,\"column\":8}\n"
 unfolding digits print_from escape_byte
-places = refl
+places = line_as_is _ refl
 
 -- ---- objects
 
 name_is_empty : object_line (empty_members two 1) ≡ codes "{\"file\":\"f\",\"line\":2,\"column\":8,\"kind\":\"matches-empty\",\"rule\":\"NAME\"}\n"
 unfolding digits print_from escape_byte
-name_is_empty = refl
+name_is_empty = line_as_is _ refl
 
 -- a winner has its text
 one_winner : winner_object two name_wins ≡ begin_object ∷ key (codes "rule") ∷ string (codes "NAME") ∷ key (codes "text") ∷ string (codes "if") ∷ end_object ∷ []
@@ -67,15 +68,15 @@ one_winner = refl
 
 one_of_the_winners : object_line (winners_member two (name_wins ∷ [])) ≡ codes "{\"winners\":[{\"rule\":\"NAME\",\"text\":\"if\"}]}\n"
 unfolding digits print_from escape_byte lib.Utf8.encode
-one_of_the_winners = refl
+one_of_the_winners = line_as_is _ refl
 
 no_winners : object_line (winners_member two []) ≡ codes "{\"winners\":[]}\n"
 unfolding print_from escape_byte
-no_winners = refl
+no_winners = line_as_is _ refl
 
 left_open : object_line (after_members (49 ∷ []) (101 ∷ 43 ∷ [])) ≡ codes "{\"after\":\"1\",\"when\":\"e+\"}\n"
 unfolding print_from escape_byte lib.Utf8.encode
-left_open = refl
+left_open = line_as_is _ refl
 
 left_open_by_nothing : after_members (49 ∷ []) [] ≡ []
 left_open_by_nothing = refl
@@ -91,17 +92,17 @@ with_no_witness = refl
 
 unbounded : object_line (unbounded_members two (0 ∷ 1 ∷ [])) ≡ codes "{\"past\":null,\"rules\":[\"IF\",\"NAME\"]}\n"
 unfolding print_from escape_byte
-unbounded = refl
+unbounded = line_as_is _ refl
 
 -- one more than the count
 bounded : object_line (look_members two (AtMost 1 None)) ≡ codes "{\"past\":2}\n"
 unfolding digits print_from escape_byte
-bounded = refl
+bounded = line_as_is _ refl
 
 clash_of_a_mode : object_line (clash_members two (Some (codes "M")) clash)
     ≡ codes "{\"file\":\"f\",\"line\":2,\"column\":8,\"kind\":\"clash\",\"rule\":\"NAME\",\"mode\":\"M\",\"other\":\"IF\",\"text\":\"if\"}\n"
 unfolding digits print_from escape_byte lib.Utf8.encode
-clash_of_a_mode = refl
+clash_of_a_mode = line_as_is _ refl
 
 -- the earlier rule is the other one
 clash_turned : clash_members two None clash ≢ clash_members two None (record { match0 = 0; match1 = 1; word = 105 ∷ 102 ∷ [] })
@@ -118,12 +119,12 @@ module _ (alloc : Global) where
   if_never_wins : object_line (idle_members two None idle_if)
       ≡ codes "{\"file\":\"f\",\"line\":1,\"column\":6,\"kind\":\"never-wins\",\"rule\":\"IF\",\"winners\":[{\"rule\":\"NAME\",\"text\":\"if\"}]}\n"
   unfolding digits print_from escape_byte lib.Utf8.encode
-  if_never_wins = refl
+  if_never_wins = line_as_is _ refl
 
   abbrev mode_of_two : ModeReview
-  mode_of_two = record { idle = vector [] (omega arith); states = 4; least_states = 3; look = Unbounded (vector (1 ∷ []) (omega arith)) }
+  mode_of_two = record { idle = vector [] (omega arith); least_states = 3; look = Unbounded (vector (1 ∷ []) (omega arith)) }
 
   size_of_a_mode : object_line (automaton_members two (Some (codes "M")) mode_of_two)
-      ≡ codes "{\"file\":\"f\",\"kind\":\"automaton\",\"mode\":\"M\",\"states\":4,\"least_states\":3,\"past\":null,\"rules\":[\"NAME\"]}\n"
+      ≡ codes "{\"file\":\"f\",\"kind\":\"automaton\",\"mode\":\"M\",\"least_states\":3,\"past\":null,\"rules\":[\"NAME\"]}\n"
   unfolding digits print_from escape_byte
-  size_of_a_mode = refl
+  size_of_a_mode = line_as_is _ refl

@@ -15,6 +15,7 @@ use Rattle.lalrpop_review.specs.declared.mode.ModeReview.{ModeReview}
 use Rattle.lalrpop_review.specs.declared.whole.Review.{Review}
 use Rattle.lalrpop_verdicts.specs.WonWord.{WonWord}
 use Rattle.reports_lib.specs.ReportedFile.{ReportedFile}
+use Rattle.reports_lib.proofs.JsonLaws.{line_as_is}
 use Rattle.reviews_lib.specs.ReviewLines.{place_text, empty_line, winner_text, winners_text, idle_reason, idle_line, pair_text, clash_line, states_text, characters_text, after_text, witness_text, rules_text, look_text, mode_before, automaton_line, empty_told, idle_told, automaton_told, clash_told, by_mode, is_only_empty, idle_once, mode_told, review_told, review_text, clashes_told, clash_report, has_idle, has_findings}
 use Rattle.lexdfa_lib.specs.declared.layout.LineForm.TheVariants.{Plain, Json}
 
@@ -137,10 +138,10 @@ module _ (alloc : Global) where
   idle_if = record { rule = 0; winners = vector (name_wins ∷ []) (omega arith) }
 
   abbrev smallest : ModeReview
-  smallest = record { idle = vector [] (omega arith); states = 4; least_states = 4; look = AtMost 0 None }
+  smallest = record { idle = vector [] (omega arith); least_states = 4; look = AtMost 0 None }
 
   abbrev mode_of_if : ModeReview
-  mode_of_if = record { idle = vector (idle_if ∷ []) (omega arith); states = 4; least_states = 3; look = AtMost 0 None }
+  mode_of_if = record { idle = vector (idle_if ∷ []) (omega arith); least_states = 3; look = AtMost 0 None }
 
   if_never_wins : idle_line two None idle_if ≡ codes "f:1:6: IF never wins: NAME wins \"if\"\n"
   unfolding digits lib.Utf8.encode ucd_category ucd_derived
@@ -149,7 +150,7 @@ module _ (alloc : Global) where
   unbounded : look_text two (Unbounded (vector (0 ∷ 1 ∷ []) (omega arith))) ≡ codes "any number of characters is read past a token of IF, NAME"
   unbounded = refl
 
-  size_of_a_mode : automaton_line two (Some (codes "A")) mode_of_if ≡ codes "f: mode A: 4 states, 3 in the smallest automaton; at most 1 character is read past a token\n"
+  size_of_a_mode : automaton_line two (Some (codes "A")) mode_of_if ≡ codes "f: mode A: 3 states in the smallest automaton; at most 1 character is read past a token\n"
   unfolding digits
   size_of_a_mode = refl
 
@@ -158,7 +159,7 @@ module _ (alloc : Global) where
   -- a line of either form
   empty_in_json : empty_told Json two 1 ≡ codes "{\"file\":\"f\",\"line\":2,\"column\":8,\"kind\":\"matches-empty\",\"rule\":\"NAME\"}\n"
   unfolding digits print_from escape_byte
-  empty_in_json = refl
+  empty_in_json = line_as_is _ refl
 
   empty_in_plain : empty_told Plain two 1 ≡ empty_line two 1
   empty_in_plain = refl

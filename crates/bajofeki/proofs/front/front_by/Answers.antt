@@ -15,7 +15,9 @@ use Rattle.bajofeki.specs.Internal.Reach.{IsSettledBy}
 use Rattle.bajofeki.specs.Internal.Noted.{IsSound}
 use Rattle.bajofeki.specs.Internal.Paying.{IsRunPaid, size_of}
 use Rattle.bajofeki.proofs.Noting.{left_sound}
+use Rattle.bajofeki.specs.Internal.Parts.{IsVoidTo}
 use Rattle.bajofeki.proofs.Fronts.{read_start, read_more, fault_before, fault_to_end, none_up_to, token_front, waits_more}
+use Rattle.bajofeki.proofs.Voids.{void_none, void_there}
 use Rattle.bajofeki.proofs.NewNotes.{char_size}
 use Rattle.bajofeki.proofs.Reading.{AreOpen, none_read, read_past, fault_read, token_read}
 use Rattle.bajofeki.proofs.FrontCosts.{walked_start, walked_more, run_there, token_paid, fault_paid, end_paid}
@@ -85,6 +87,7 @@ loop-offset-init c =
       reads = λ d ts ps walks trim h. none_read ts text;
       paid = λ whole d ts ps walks trim h. ([], (0, (walked_start c.args.walker.now ts c.args.memo.now c.args.mode c.args.at text (IsCharBoundary-start text c.utf8.rest), omega arith)));
       never_falls = omega arith;
+      void = λ d ts ps walks h. void_none ts text c.utf8.rest;
     }
 
 pub loop-offset-preserved : goal.loop-offset-preserved
@@ -99,18 +102,18 @@ loop-offset-preserved c =
     let found = c.longest_settled-found in
     let w = c.args.walker.now in
     let at2 = char_indices_offset c.next.new.self in
-    let cut2 = cut_more text rest (char_indices_rest c.next.new.self) at at2 c.in-Some.field-0-1 c.utf8.rest inv.cut s.1 s.2 in
+    let cut2 = cut_more text rest (char_indices_rest c.next.new.self) at at2 c.in-Some.c c.utf8.rest inv.cut s.1 s.2 in
     let begins = cut_boundary text rest at c.utf8.rest inv.cut in
     let begins2 = cut_boundary text (char_indices_rest c.next.new.self) at2 c.utf8.rest cut2 in
-    let further : at < at2 = omega (arith, s.2, char_size c.in-Some.field-0-1) in
+    let further : at < at2 = omega (arith, s.2, char_size c.in-Some.c) in
     record {
       cut = cut2;
       before = λ d ts ps walks h.
-          before_next ts ps text rest _ at _ c.in-Some.field-0-1 c.utf8.rest inv.cut s.1 s.2 (inv.before d ts ps walks h)
+          before_next ts ps text rest _ at _ c.in-Some.c c.utf8.rest inv.cut s.1 s.2 (inv.before d ts ps walks h)
           (subst (λ (t : List ℕ). IsLongest ts ps t None) here
           (subst (λ o. IsLongest ts ps c.range_from.result.now (option_map (λ m. (m.0, m.1.now)) o)) c.in_default.is (found.ensures.answer d ts ps walks h)));
       read = λ d ts ps walks h.
-          read_more ts text rest _ at _ c.in-Some.field-0-1 c.loop-offset.reach c.max-reach.result found.result.reach c.utf8.rest inv.cut s.1 s.2 (inv.read d ts ps walks h) (omega (arith, c.max-reach.ensures))
+          read_more ts text rest _ at _ c.in-Some.c c.loop-offset.reach c.max-reach.result found.result.reach c.utf8.rest inv.cut s.1 s.2 (inv.read d ts ps walks h) (omega (arith, c.max-reach.ensures))
           (omega (arith, s.0, c.max-reach.ensures))
           (subst (λ (t : List ℕ). IsSettledBy ts t found.result.reach) there (found.ensures.settled d ts ps walks h));
       within = omega (arith, inv.within, c.max-reach.ensures, found.ensures.within, ap length there, length-drop at text, s.0, cut_within text rest at inv.cut);
@@ -136,6 +139,17 @@ loop-offset-preserved c =
           (omega (arith, further)) inv.stays found.ensures.stays (inl refl) walked paid in
           (xs ++ ys, (more.0, (more.1.1, omega (arith, further, cost, paid.cost, length-append xs ys))));
       never_falls = omega (arith, inv.never_falls, found.ensures.never_falls);
+      void = λ d ts ps walks h.
+          let before2 = before_next ts ps text rest _ at _ c.in-Some.c c.utf8.rest inv.cut s.1 s.2 (inv.before d ts ps walks h)
+          (subst (λ (t : List ℕ). IsLongest ts ps t None) here
+          (subst (λ o. IsLongest ts ps c.range_from.result.now (option_map (λ m. (m.0, m.1.now)) o)) c.in_default.is (found.ensures.answer d ts ps walks h))) in
+          let read2 = read_more ts text rest _ at _ c.in-Some.c c.loop-offset.reach c.max-reach.result found.result.reach c.utf8.rest inv.cut s.1 s.2 (inv.read d ts ps walks h) (omega (arith, c.max-reach.ensures))
+          (omega (arith, s.0, c.max-reach.ensures))
+          (subst (λ (t : List ℕ). IsSettledBy ts t found.result.reach) there (found.ensures.settled d ts ps walks h)) in
+          elim c.void_up_to-void.ensures [
+            | inl near ↦ void_there ts text at2 c.max-reach.result c.void_up_to-void.result c.utf8.rest begins2 before2 read2 near.0 (omega (arith, near.1, s.0, s.2, c.len_utf8.ensures.len))
+            | inr same ↦ subst (IsVoidTo ts text) (sym same) (inv.void d ts ps walks h)
+          ];
     }
 
 pub returns-in-Some-longest-clause-held : goal.returns-in-Some-longest-clause-held

@@ -9,6 +9,7 @@ use Rattle.lalrpop_rules.specs.Found.{NoMatchBefore}
 use Rattle.bajofeki.proofs.Fronts.{AreRead, BeginsMore}
 use Rattle.bajofeki.proofs.FrontCosts.{IsWalked}
 use Rattle.bajofeki.specs.Internal.Kept.{IsReadFor}
+use Rattle.bajofeki.specs.Internal.Parts.{IsVoidTo}
 use Rattle.bajofeki.specs.Internal.Walking.{IsWalkerOf}
 use Rattle.bajofeki.specs.Internal.Noted.{IsKnown, IsNoted, IsSound}
 use Rattle.bajofeki.proofs.front.front_by.Given as goal
@@ -29,4 +30,5 @@ invariant-loop-offset l = record {
       → (news : List (ℕ × (ℕ × ℕ))) × ((far : ℕ) × (IsWalked l.walker ts l.initial.memo l.memo l.mode l.at l.rest (char_indices_offset l.offset-iterator) news far
       × (l.steps ≤ l.initial.steps + 134 * char_indices_offset l.offset-iterator + 128 * length news)));
   never_falls : l.initial.steps ≤ l.steps;
+  void : (d : List Row) (ts : List Tree) (ps : List ℕ) → IsWalkerOf l.walker d → RecognizesAll d ts ps → IsVoidTo ts l.rest l.void;
 }

@@ -20,6 +20,7 @@ returns-then-not-is_last-clause-told c =
       f.ensures.held c.if-front-text.false,
       (λ is. match_here lexer.trees lexer.precedences c.args.text.now f.result.rule f.result.size f.result.reach f.ensures.front f.ensures.boundary.0 (sym c.is_some-is_match.ensures ∙ is)),
       (λ is. none_here lexer.trees lexer.precedences c.args.text.now f.result.rule f.result.size f.result.reach f.ensures.front f.ensures.boundary.0 f.ensures.some (sym c.is_some-is_match.ensures ∙ is)),
+      f.ensures.void,
     )
 
 pub returns-then-is_match-clause-told : goal.returns-then-is_match-clause-told

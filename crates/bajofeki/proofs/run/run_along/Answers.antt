@@ -1,49 +1,17 @@
-use Rattle.std.proofs.Common.{◌≡◌, ℕ, ◌≢◌, ◌+◌, ◌-◌, ◌/◌, ◌<◌, ◌≤◌, ◌++◌, ◌∷◌, inl, inr, List, [], length, take, drop, refl, sym, ap, subst, ◌∙◌, arith, length-append}
+use Rattle.std.proofs.Common.{◌≡◌, ℕ, ◌≢◌, ◌+◌, ◌-◌, ◌/◌, ◌<◌, ◌++◌, ◌∷◌, inl, inr, [], length, take, drop, refl, sym, ap, subst, ◌∙◌, arith}
 use Rattle.std.specs.Prelude.{Some, None}
 use Rattle.std.specs.Char.{encode_utf8}
-use Rattle.std.specs.Str.{chars, IsUtf8}
-use Rattle.std.proofs.lemmas.Str.{chars-nil, len_utf8_bounds, length-encode, IsCharBoundary-from_take}
-use Rattle.lalrpop_hir.proofs.TextWords.{chars-none}
-use Rattle.lalrpop_hir.proofs.Cuts.{IsCut, cut_start, cut_within, cut_more, word_after}
-use Rattle.lalrpop_lexer.proofs.TextWalks.{next_at}
+use Rattle.std.specs.Str.{chars}
+use Rattle.std.proofs.lemmas.Str.{chars-nil, IsCharBoundary-from_take}
+use Rattle.lalrpop_hir.proofs.Cuts.{cut_start, cut_within}
 use Rattle.lalrpop_dfa.specs.declared.Kind.TheVariants.{Accepts, Reject, Neither}
-use Rattle.bajofeki.specs.declared.walker.Walker.{Walker}
-use Rattle.bajofeki.specs.Internal.Walking.{IsMet, Reads, behind, next_of, says}
+use Rattle.bajofeki.specs.Internal.Walking.{IsMet, behind, next_of, says}
 use Rattle.bajofeki.specs.Internal.Noted.{IsKnown, IsOver}
-use Rattle.bajofeki.proofs.Walking.{behind_push, met_behind, met_next, text_scalars}
+use Rattle.bajofeki.proofs.Walking.{met_behind, met_next, text_scalars}
 use Rattle.bajofeki.proofs.Noting.{first_below, over_within, stand_there}
+use Rattle.bajofeki.proofs.Steps.{at_end, step}
 use Rattle.bajofeki.proofs.Vain.{if_none, vain_none, vain_more, vain_stop}
 use Rattle.bajofeki.proofs.run.run_along.Goals as goal
-
--- the character was read that lies between these two bytes, and led from the one place to the other
-record Step (w : Walker) (text : List ℕ) (place at next end c : ℕ) : Type 0 where
-  cut : IsCut text end (drop end text)
-  whole : end + length (drop end text) ≡ length text
-  first : chars (drop at text) ≡ c ∷ chars (drop end text)
-  count : length (chars (take end text)) ≡ length (chars (take at text)) + 1
-  forward : at < end
-  near : end ≤ at + 4
-  reached : place ≡ behind w (chars (take at text)) → next ≡ behind w (chars (take end text))
-
-step : (w : Walker) (text : List ℕ) (place at next end : ℕ) → IsUtf8 text → IsCut text at (drop at text) → (s : Reads w text place at next end)
-    → Step w text place at next end s.character
-step w text place at next end u before s =
-    let c = s.character in
-    let cut = cut_more text (drop at text) (drop end text) at end c u before s.split s.size in
-    let word = word_after text (drop at text) (drop end text) at end c before s.split s.size in
-    record {
-      cut = cut;
-      whole = cut_within text (drop end text) end cut;
-      first = next_at text (drop at text) (drop end text) at c before s.split;
-      count = omega (arith, ap length word, length-append (chars (take at text)) (c ∷ []));
-      forward = omega (arith, s.size, length-encode c, len_utf8_bounds c);
-      near = omega (arith, s.size, length-encode c, len_utf8_bounds c);
-      reached = λ there. s.leads ∙ ap (λ (p : ℕ). next_of w p c) there ∙ sym (ap (behind w) word ∙ behind_push w (chars (take at text)) c);
-    }
-
--- nothing is left to read
-at_end : (text : List ℕ) (at : ℕ) → IsCut text at (drop at text) → length text ≤ at → (at ≡ length text) × (chars (drop at text) ≡ [])
-at_end text at cut le = (omega (arith, cut_within text (drop at text) at cut, le), chars-none (drop at text) (omega (arith, cut_within text (drop at text) at cut, le)))
 
 pub walk-init : goal.walk-init
 walk-init c =

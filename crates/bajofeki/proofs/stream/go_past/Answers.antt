@@ -1,33 +1,35 @@
-use Rattle.std.proofs.Common.{◌≡◌, ◌+◌, ◌-◌, take, drop, arith, sym, subst, length-take, length-drop}
-use Rattle.std.specs.Str.{IsUtf8}
+use Rattle.std.proofs.Common.{◌≡◌, ℕ, List, ◌+◌, ◌-◌, drop, arith, refl, sym, ap, subst, ◌∙◌}
+use Rattle.bajofeki.specs.declared.parts.Part.{Part}
 use Rattle.std.proofs.lemmas.Option.{IfSome_then}
-use Rattle.std.proofs.lemmas.Str.{IsUtf8-nil}
 use Rattle.bajofeki.specs.Internal.Noted.{IsCutter}
+use Rattle.bajofeki.specs.Internal.Parts.{IsPart, text_in}
 use Rattle.bajofeki.proofs.Chunking.{cutter_behind}
-use Rattle.bajofeki.proofs.PartLaws.{parted_behind, text_behind}
+use Rattle.bajofeki.proofs.PartLaws.{front_part, left_parted, left_text, part_size}
 use Rattle.bajofeki.proofs.stream.go_past.Goals as goal
 
-pub returns-then-given-ends-clause-parted : goal.returns-then-given-ends-clause-parted
-returns-then-given-ends-clause-parted c from parted le begins =
-    let order = c.if-given-ends.true in
-    parted_behind c.args.bytes.now from c.args.given c.args.ends.now c.args.is_bad.now parted le order (begins order)
+pub returns-in-Some-clause-part : goal.returns-in-Some-clause-part
+returns-in-Some-clause-part c = λ ts bytes left parted from begins.
+    let is = c.in-Some.ensures.some in
+    let p = c.args.part.now in
+    let next : Part = record { from = 0; ends = p.ends - c.args.size; is_bad = p.is_bad } in
+    subst (λ (t : List ℕ). IsPart ts t c.in-Some.same) (sym left)
+    (subst (λ (q : Part). IsPart ts (drop c.args.size bytes) q) (sym is.1)
+    (front_part ts (drop c.args.size bytes) next (left_parted bytes p c.args.size parted from is.0 (begins is.0)) refl))
 
-pub returns-then-given-ends-clause-cutter : goal.returns-then-given-ends-clause-cutter
-returns-then-given-ends-clause-cutter c = λ r at from le within is.
-    let bytes = c.args.bytes.now in
-    let given = c.args.given in
-    let ends = c.args.ends.now in
-    IfSome_then c.args.cutter.now is
-    (λ t here. subst (IsCutter r t (at + (given - from))) (text_behind bytes from given ends le c.if-given-ends.true within)
-    (cutter_behind r t at (given - from) (take (ends - from) (drop from bytes))
-    (omega (arith, c.if-given-ends.true, within, le, length-take (ends - from) (drop from bytes), length-drop from bytes)) here))
+pub returns-in-Some-clause-cutter : goal.returns-in-Some-clause-cutter
+returns-in-Some-clause-cutter c = λ r at bytes left parted from cutter.
+    let is = c.in-Some.ensures.some in
+    let p = c.args.part.now in
+    let size = c.args.size in
+    let next : Part = record { from = 0; ends = p.ends - size; is_bad = p.is_bad } in
+    let place : (at + p.from) + (size - p.from) ≡ at + size = omega (arith, from) in
+    let text : drop (size - p.from) (text_in bytes p) ≡ text_in c.args.left.now c.in-Some.same =
+    sym (left_text bytes p size parted from is.0) ∙ ap (λ (t : List ℕ). text_in t next) (sym left) ∙ ap (text_in c.args.left.now) (sym is.1) in
+    IfSome_then c.args.cutter.now cutter
+    (λ t here. subst (λ (n : ℕ). IsCutter r t n (text_in c.args.left.now c.in-Some.same)) place
+    (subst (IsCutter r t ((at + p.from) + (size - p.from))) text
+    (cutter_behind r t (at + p.from) (size - p.from) (text_in bytes p) (omega (arith, part_size bytes p parted, is.0, from)) here)))
 
-pub returns-clause-parted : goal.returns-clause-parted
-returns-clause-parted c from parted le begins =
-    let given = c.args.given in
-    let none : 0 ≡ given - given = omega arith in
-    c.read_on.ensures.parted given (omega arith) (subst (λ n. IsUtf8 (take n (drop given c.args.bytes.now))) none IsUtf8-nil) (λ bad. absurd (cc))
-
-pub returns-clause-cutter : goal.returns-clause-cutter
-returns-clause-cutter c = λ r at from le within is.
-    c.forget.ensures.right r (at + (c.args.given - from)) (take (c.read_on.new.ends - c.args.given) (drop c.args.given c.args.bytes.now))
+pub returns-in-None-clause-cutter : goal.returns-in-None-clause-cutter
+returns-in-None-clause-cutter c = λ r at bytes left parted from cutter.
+    c.forget.ensures.right r (at + c.args.part.now.from) (at + c.args.size) (text_in bytes c.args.part.now) (text_in c.args.left.now c.of.result) cutter

@@ -1,4 +1,4 @@
-use Rattle.std.proofs.Common.{length, inl, inr, sym, ◌∙◌}
+use Rattle.std.proofs.Common.{length, inl, sym, ◌∙◌}
 use Rattle.std.proofs.lemmas.Bool.{leb-true}
 use Rattle.bajofeki.proofs.Chunking.{none_comes, none_follows, some_there}
 use Rattle.bajofeki.proofs.stream.nothing_matches.Goals as goal

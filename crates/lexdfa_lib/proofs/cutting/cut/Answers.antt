@@ -1,4 +1,4 @@
-use Rattle.std.proofs.Common.{◌≡◌, ◌+◌, ◌≤◌, [], ◌∷◌, ◌++◌, length, map, arith, refl, rules}
+use Rattle.std.proofs.Common.{◌+◌, ◌≤◌, [], ◌∷◌, ◌++◌, length, map, arith, refl, rules}
 use Rattle.std.specs.Prelude.{Ok}
 use Rattle.std.proofs.lemmas.Result.{IfOk-weaker}
 use Rattle.lexdfa_lib.proofs.CutLemmas.{items_more, fault_is_last, these_are_all, one_more, tokens_more, count_more, lines_more, told, fault_ends, end_ends}

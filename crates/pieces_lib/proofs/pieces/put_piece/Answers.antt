@@ -1,4 +1,4 @@
-use Rattle.std.proofs.Common.{◌≡◌, false, ℕ, List, [], ◌++◌, sym, ap, subst, ◌∙◌}
+use Rattle.std.proofs.Common.{◌≡◌, false, ℕ, List, [], ◌++◌, sym, ◌∙◌}
 use Rattle.std.proofs.lemmas.Str.{utf8_lossy-IsUtf8}
 use Rattle.bajofeki.specs.Given.{item_of}
 use Rattle.lalrpop_rules.proofs.Results.{handed_on}

@@ -1,18 +1,14 @@
-use Rattle.std.proofs.Common.{◌≡◌, ℕ, List, ◌+◌, ◌-◌, length, take, drop, arith, refl, sym, ap, subst, ◌∙◌}
+use Rattle.std.proofs.Common.{◌≡◌, ℕ, List, ◌+◌, ◌-◌, length, take, drop, arith, length-drop, refl, sym, ap, subst, ◌∙◌}
 use Rattle.std.specs.Prelude.{Some, IfSome}
+use Rattle.std.proofs.lemmas.List.{drop-drop}
+use Rattle.lalrpop_rules.specs.Modes.{trees_in}
 use Rattle.bajofeki.specs.Chunked.{Chunked, GivesFinal, IsHeldBack}
 use Rattle.bajofeki.specs.Given.{item_by}
 use Rattle.bajofeki.specs.Internal.Noted.{IsCutter}
+use Rattle.bajofeki.specs.Internal.Parts.{IsPart, text_in}
 use Rattle.bajofeki.proofs.Chunking.{held_back_here, gives_here}
-use Rattle.bajofeki.proofs.PartLaws.{from_on, left_here, next_parted}
+use Rattle.bajofeki.proofs.PartLaws.{from_on}
 use Rattle.bajofeki.proofs.stream.Stream.next_piece.Goals as goal
-
-pub final_front-found-requires-clause-left : goal.final_front-found-requires-clause-left
-final_front-found-requires-clause-left c =
-    let i = c.self.inside in
-    let rest = take (length c.deref.result.now - i.given) (drop i.given c.deref.result.now) in
-    let left : rest ≡ drop i.given i.text.items = from_on i.given c.deref.result.now ∙ ap (drop i.given) c.deref.ensures.value in
-    left_here i.text.items rest c.text_of-text.result.now i.given i.ends i.is_bad c.self.invariant.1 left c.text_of-text.ensures.front
 
 pub returns-in_default-clause-gives : goal.returns-in_default-clause-gives
 returns-in_default-clause-gives c =
@@ -27,25 +23,29 @@ returns-in_default-clause-gives c =
 pub invariant_of-self-2 : goal.invariant_of-self-2
 invariant_of-self-2 c =
     let i = c.self.inside in
+    let r = i.lexer.now in
     let size = c.in-Some.piece.size in
     let text = i.text.items in
-    let now = c.deref-2.result.now in
+    let q = c.final_front-found.new.part in
+    let given = c.in-Some.ensures.given in
+    let parted = c.in-Some.ensures.part.parted in
     let past = c.go_past in
+    let now = c.deref-2.result.now in
     let rest = take (length c.deref.result.now - i.given) (drop i.given c.deref.result.now) in
+    let after = take (length now - (i.given + size)) (drop (i.given + size) now) in
     let left : rest ≡ drop i.given text = from_on i.given c.deref.result.now ∙ ap (drop i.given) c.deref.ensures.value in
-    let same : now ≡ text = c.deref-2.ensures.value in
-    let front : c.text_of-text.result.now ≡ take (i.ends - i.given) (drop i.given now) =
-    c.text_of-text.ensures.front ∙ ap (take (i.ends - i.given)) (left ∙ ap (drop i.given) (sym same)) in
-    let parted = c.self.invariant.1 in
-    let before : IfSome c.final_front-found.new.kept (λ t. IsCutter i.lexer.now t i.at (take (i.ends - i.given) (drop i.given now))) =
-    subst (λ (p : List ℕ). IfSome c.final_front-found.new.kept (λ t. IsCutter i.lexer.now t i.at p)) front c.final_front-found.ensures.cutter in
-    let after = past.ensures.cutter i.lexer.now i.at i.given (omega arith) (omega (arith, parted.within, ap length same)) before in
-    let place : i.at + ((i.given + size) - i.given) ≡ i.at + size = omega arith in
-    let moved = subst (λ (n : ℕ). IfSome past.new.cutter (λ t. IsCutter i.lexer.now t n (take (past.new.ends - (i.given + size)) (drop (i.given + size) now)))) place after in (
+    let there : after ≡ drop (i.given + size) text = from_on (i.given + size) now ∙ ap (drop (i.given + size)) c.deref-2.ensures.value in
+    let behind : after ≡ drop size rest = there ∙ sym (drop-drop size i.given text) ∙ ap (drop size) (sym left) in
+    let part = past.ensures.part (trees_in r c.act_by.new.stack.mode) rest behind parted given.from given.boundary in
+    let cutter = past.ensures.cutter r i.at rest behind parted given.from c.in-Some.ensures.cutter in
+    let place : i.at + size ≡ (i.at + size) + past.new.part.from = omega (arith, past.ensures.from) in (
       omega arith,
-      next_parted text now rest c.text_of-text.result.now i.given i.ends size i.is_bad parted same left c.text_of-text.ensures.front c.in-Some.ensures.boundary past.new.ends past.new.is_bad past.ensures.parted,
+      omega (arith, given.within, ap length left, length-drop i.given text, c.self.invariant.1),
       c.in_ok-act_by.ensures.there c.self.invariant.2,
-      subst (λ (p : List ℕ). IfSome past.new.cutter (λ t. IsCutter i.lexer.now t (i.at + size) (take (past.new.ends - (i.given + size)) (drop (i.given + size) p)))) same moved,
+      subst (λ t. IsPart (trees_in r c.act_by.new.stack.mode) t past.new.part) there part,
+      subst (λ (n : ℕ). IfSome past.new.cutter (λ t. IsCutter r t n (text_in (drop (i.given + size) text) past.new.part))) place
+          (subst (λ (b : List ℕ). IfSome past.new.cutter (λ t. IsCutter r t (i.at + size) (text_in b past.new.part))) there cutter),
+      tt,
     )
 
 pub returns-clause-gives : goal.returns-clause-gives
@@ -59,7 +59,7 @@ returns-clause-gives c = λ slice told.
     let last = take ((i.given + f.size) - i.given) (drop i.given text) in
     let cut : slice.now ≡ take f.size rest = told ∙ ap (λ n. take n (drop i.given text)) size ∙ ap (take f.size) (sym left) in
     let gives = gives_here i.lexer.now (take (i.given - i.last) (drop i.last text)) text rest i.given i.at f.size c.top-mode.result i.stack c.act_by.new.stack i.is_ended f.rule
-    c.number_of.result c.is_skipped.result slice left c.top-mode.ensures.mode c.number_of.ensures.same c.in-Some.ensures.within cut c.in-Some.ensures.settled
+    c.number_of.result c.is_skipped.result slice left c.top-mode.ensures.mode c.number_of.ensures.same c.in-Some.ensures.given.within cut c.in-Some.ensures.given.settled
     c.is_skipped.ensures.skipped (i.at + f.size) last refl told c.in_ok-act_by.ensures.acted in
     subst (λ (s : Chunked). GivesFinal s (Some (item_by c.number_of.result c.is_skipped.result i.at slice))
     (record { rules = i.lexer.now; last = last; rest = drop (i.given + f.size) text; at = i.at + f.size; stack = c.act_by.new.stack; is_ended = i.is_ended })) c.self.view_is gives

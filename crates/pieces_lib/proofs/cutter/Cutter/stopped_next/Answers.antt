@@ -1,5 +1,4 @@
-use Rattle.std.proofs.Common.{◌≡◌, false, inl, sym, ap, subst, ◌∙◌}
-use Rattle.std.specs.Prelude.{not}
+use Rattle.std.proofs.Common.{◌≡◌, false, inl, sym, subst, ◌∙◌}
 use Rattle.bajofeki.specs.Begun.{IsBad, IsBegun, NoCharacter}
 use Rattle.pieces_lib.specs.CutEnds.{IsFound}
 use Rattle.pieces_lib.proofs.FoundLaws.{found_next, may_wait}
