@@ -18,6 +18,7 @@ use Rattle.bajofeki.specs.contracts.block.Block as Block
 use Rattle.bajofeki.specs.contracts.stream.Stream as CutStream
 use Rattle.bajofeki.specs.contracts.cutter.Cutter as Cutter
 use Rattle.bajofeki.specs.contracts.document.Document as EditedText
+use Rattle.bajofeki.specs.contracts.held_run.HeldRun as HeldRun
 use Rattle.bajofeki.specs.contracts.memo.Memo as Memo
 use Rattle.bajofeki.specs.contracts.walker.Walker as Walker
 use Rattle.bajofeki_c.specs.contracts.document.Document as Document
@@ -65,8 +66,11 @@ walker_send κ = search (dfa.the_sync, crosses, sendable) depth 20
 cutter_send : (κ : NamedLft) → IsSend (Cutter.the_field κ).row
 cutter_send κ = search (walker_send, memo_send, crosses, sendable) depth 20
 
+held_send : (κ : NamedLft) → IsSend (HeldRun.the_field κ).row
+held_send κ = search (walker_send, crosses, sendable) depth 20
+
 chunks_send : (κ : NamedLft) → IsSend (CutStream.the_field κ).row
-chunks_send κ = search (rules_sync, cutter_send, crosses, sendable) depth 20
+chunks_send κ = search (rules_sync, cutter_send, held_send, crosses, sendable) depth 20
 
 pub stream_send : (κ : NamedLft) → IsSend (Stream.the_row κ)
 stream_send κ = search (chunks_send, crosses, sendable) depth 20
