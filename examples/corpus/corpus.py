@@ -1,4 +1,4 @@
-"""Cuts files by a file of rules on many machines, by Dask. Writes the objects that `tokens --recover --json RULES FILE ..` does, in ASCII.
+"""Cuts files by a file of rules on many machines, by Dask. Writes what `tokens --recover --json RULES FILE ..` does.
 
     dask-scheduler --host 127.0.0.1 --port 8786 & dask-worker 127.0.0.1:8786 --nworkers 3 --nthreads 1 &
     python3 corpus.py --scheduler 127.0.0.1:8786 RULES FILE .. >tokens.json
@@ -12,12 +12,18 @@ from collections import namedtuple
 from functools import lru_cache, partial
 from hashlib import blake2b
 from itertools import accumulate, groupby
-from json.encoder import encode_basestring_ascii as quoted
+from json.encoder import encode_basestring_ascii as escaped
 from pathlib import Path
 
 from bajofeki import Kind, Lexer, Places, RulesError, Stream
 
 Part = namedtuple("Part", "start end line digest")  # of a file: two offsets, the number of its first line, a hash of its bytes
+SEEN = Lexer(r'SEEN = /[^\p{Cc}\p{Cn}\p{Default_Ignorable_Code_Point}\u{2028}\u{2029}"\\]+/')  # By the Unicode of `tokens`.
+
+
+def quoted(text):
+    """The string of JSON that `tokens` writes: all that isn't seen is escaped."""
+    return escaped(text) if text.isascii() else f'"{"".join(it.text if it.rule else escaped(it.text)[1:-1] for it in SEEN.items(text))}"'
 
 
 def built(rules):

@@ -87,7 +87,7 @@ FUNCTIONS = {
 
 
 # The version of the functions, and so the number in the library's name.
-VERSION = 3
+VERSION = 4
 
 
 def _loaded():

@@ -247,7 +247,8 @@ fn part_told<'a>(
     requires cutter { IsCutter lexer.now cutter.old (at + part.old.from) (text_in bytes.now part.old) }
     requires run { IfSome held.old (IsHeld lexer.now mode (text_in bytes.now part.old)) }
     requires fits { at + length bytes.now < 2 ^ 64 }
-    ensures told { TellsTurn (trees_in lexer.now mode) lexer.now.precedences bytes.now is_ended part.old result }
+    ensures told { TellsTurn (trees_in lexer.now mode) lexer.now.precedences bytes.now
+        is_ended part.old result }
     ensures same { KeepsPart result → part.new ≡ part.old }
     ensures part { IsPart (trees_in lexer.now mode) bytes.now part.new }
     ensures cutter { IsCutter lexer.now cutter.new (at + part.new.from) (text_in bytes.now part.new) }
@@ -292,7 +293,8 @@ pub(crate) fn final_front<'a>(
     requires there { mode < lexer.now.modes }
     requires some { IsSome kept.old }
     requires part { IsPart (trees_in lexer.now mode) bytes.now part.old }
-    requires cutter { IfSome kept.old (λ c. IsCutter lexer.now c (at + part.old.from) (text_in bytes.now part.old)) }
+    requires cutter { IfSome kept.old (λ c. IsCutter lexer.now c (at + part.old.from)
+        (text_in bytes.now part.old)) }
     requires run { IfSome held.old (IsHeld lexer.now mode (text_in bytes.now part.old)) }
     requires fits { at + length bytes.now < 2 ^ 64 }
     ensures given { IfSome result (IsGiven (trees_in lexer.now mode) lexer.now.precedences bytes.now
@@ -300,7 +302,8 @@ pub(crate) fn final_front<'a>(
     ensures empty { IfNone result (is_ended ≡ true → bytes.now ≡ []) }
     ensures held { IfNone result (is_ended ≡ false → IsOpenIn (trees_in lexer.now mode) bytes.now) }
     ensures part { IsPart (trees_in lexer.now mode) bytes.now part.new }
-    ensures cutter { IfSome kept.new (λ c. IsCutter lexer.now c (at + part.new.from) (text_in bytes.now part.new)) }
+    ensures cutter { IfSome kept.new (λ c. IsCutter lexer.now c (at + part.new.from)
+        (text_in bytes.now part.new)) }
     ensures run { IfSome held.new (IsHeld lexer.now mode (text_in bytes.now part.new)) }
 {
     let Some(cutter) = kept else {

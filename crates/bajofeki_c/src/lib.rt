@@ -592,10 +592,10 @@ pub extern "C" fn bajofeki_position(text: &[u8], at: usize) -> Place
     place_of(text, at)
 }
 
-/// The version of these functions: 3.
+/// The version of these functions: 4.
 #[unsafe(no_mangle)]
 pub extern "C" fn bajofeki_version() -> u32
-    ensures version { result ≡ 3 }
+    ensures version { result ≡ 4 }
 {
-    3
+    4
 }

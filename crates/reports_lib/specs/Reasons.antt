@@ -43,7 +43,7 @@ syntax_text kinds.GroupName = codes "this group name is malformed, missing or ta
 syntax_text kinds.UnsupportedLookAround = codes "patterns have no look-around"
 syntax_text kinds.UnsupportedBackreference = codes "patterns have no references to groups"
 syntax_text kinds.NestLimitExceeded = codes "groups, brackets and repetitions nest too deeply"
-syntax_text kinds.PartUnknown = codes "no part above has this name: a part is a line NAME part = /PATTERN/ above this one, and a rule is no part"
+syntax_text kinds.PartUnknown = codes "no part above has this name: a part is a line NAME part = /PATTERN/ above this one, and a rule isn't a part"
 syntax_text kinds.PartUnderFlag = codes "a part stands only where no flag is on"
 syntax_text kinds.PartName = codes "this name of a part is malformed, or its brace isn't closed: a part is {NAME}, and a brace itself \\{"
 

@@ -38,7 +38,7 @@ pub(crate) fn syntax_text(kind: SyntaxKind) -> &'static str
         SyntaxKind::UnsupportedBackreference => "patterns have no references to groups",
         SyntaxKind::NestLimitExceeded => "groups, brackets and repetitions nest too deeply",
         SyntaxKind::PartUnknown =>
-            "no part above has this name: a part is a line NAME part = /PATTERN/ above this one, and a rule is no part",
+            "no part above has this name: a part is a line NAME part = /PATTERN/ above this one, and a rule isn't a part",
         SyntaxKind::PartUnderFlag => "a part stands only where no flag is on",
         SyntaxKind::PartName =>
             "this name of a part is malformed, or its brace isn't closed: a part is {NAME}, and a brace itself \\{",
