@@ -1,2 +1,3 @@
 -- What private functions promise one another.
 pub mod Prefixes
+pub mod WatchCode

@@ -6,6 +6,7 @@ ghost use Rattle.std.specs.IoError.{error_kind};
 ghost use Rattle.std.specs.Result.{IsErrAnd};
 
 use std::io::{self, ErrorKind, Write};
+use std::marker::Model;
 
 /// A writer that remembers whether its reader has gone away, as `head` does once it has its lines.
 ///
@@ -19,6 +20,17 @@ use std::io::{self, ErrorKind, Write};
 pub struct Output<W> {
     inner: W,
     is_closed: bool,
+}
+
+impl<W> Model for Output<W> {
+    ghost use Rattle.lexdfa_lib.specs.Calls.{Piped};
+    ghost use Rattle.lexdfa_lib.specs.Internal.WatchCode.{piped_code};
+
+    ghost Value = { Piped W };
+
+    ghost coded = { piped_code W.code };
+
+    ghost view = { λ o. record { inner = o.inner; is_closed = o.is_closed } };
 }
 
 impl<W: Write> Output<W> {

@@ -106,6 +106,17 @@ pub struct Watched<T> {
     late: Steps,
 }
 
+impl<T> Model for Watched<T> {
+    ghost use Rattle.lexdfa_lib.specs.Calls.{Watch};
+    ghost use Rattle.lexdfa_lib.specs.Internal.WatchCode.{watch_code};
+
+    ghost Value = { Watch T };
+
+    ghost coded = { watch_code T.code };
+
+    ghost view = { λ w. record { inner = w.inner; is_broken = w.is_broken; late = w.late } };
+}
+
 impl<T> Watched<T> {
     /// Wraps a reader or a writer, none of whose calls has failed.
     pub fn new(inner: T) -> Watched<T>
