@@ -9,6 +9,8 @@ r"""Rules made of Pygments lexers cut texts as these do, and those of random pat
 Literal_String push text push text
 [head_in_root]
 Literal_String pop push text push text
+>>> rules_of("pygments.lexers.capnproto:CapnProtoLexer").left  # in `parenexp` two states end without a character, or more
+6
 >>> check_lexer(f"{__name__}:Sample", TEXT)
 >>> for name, text in TEXTS.items():
 ...     check_lexer(f"pygments.lexers.{name}", text)

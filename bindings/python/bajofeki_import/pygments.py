@@ -2,8 +2,9 @@
 
 Pygments takes the first rule of a state that matches, and of its matches the one that Python's `re` finds first; a lexer of rules takes the
 longest match, and of the rules that have it the first. So where Pygments changes the state without a character, because no rule before that
-matches, the rules of the state that it comes to stand after those. A line feed that no rule matches puts Pygments back into `root`; here it
-is a fault, which leaves the modes as they are. A rule that Pygments cuts into groups is one token.
+matches, the rules of the state that it comes to stand after those. A character that no rule matches is a fault, which leaves the modes as
+they are: Pygments keeps a change that it made before it without a character, and a line feed puts it back into `root`. A rule that Pygments
+cuts into groups is one token.
 """
 import importlib
 import re
@@ -119,22 +120,26 @@ def rules_of_mode(entries, modes):
     return said
 
 
-def write_mode(rules, mode, modes, is_new):
-    """Writes the rules of a mode; what is left out, if its state is new. Gives how many rules are one token in place of several."""
+def write_mode(rules, mode, modes, told):
+    """Writes the rules of a mode, and what is left out of a state, unless it's told. Gives how many rules are one token in place of
+    several."""
     rules.section(modes.names[mode])
     entries = [*modes.entries(mode)]
     # A pattern of the state comes before the same one of another state.
     own = {entry[0].__self__ for entry, _, owner in entries if owner is mode}
     entries = [it for it in entries if it[2] is mode or it[0][0].__self__ not in own]
-    said = rules_of_mode(entries, modes)
+    said, left = rules_of_mode(entries, modes), set()
     for precedence, ((match, _, change), _, owner), it in zip(range(len(entries), 0, -1), entries, said):
         (name, _), actions, text, words_left = it if isinstance(it, tuple) else (("", False), [], "", [match.__self__.pattern])
         if text:
             rules.rule(name, text, precedence, actions=actions)
-        if is_new and owner is mode and words_left:
-            pattern = " ".join(f"/{'|'.join(words_left)}/ {change or ''}".split())
+        # What is left out here may be said in another mode of its state: where it's known which state is below, say.
+        pattern = " ".join(f"/{'|'.join(words_left)}/ {change or ''}".split())
+        if words_left and (owner[0], pattern) not in told:
+            left.add((owner[0], pattern))
             shown = "".join(it if it.isprintable() else ascii(it)[1:-1] for it in pattern[:200])
-            rules.leave_out(mode[0], shown + " .." * (len(pattern) > 200), LOOKS if text else it)
+            rules.leave_out(owner[0], shown + " .." * (len(pattern) > 200), LOOKS if text else it)
+    told |= left
     return sum(isinstance(it, tuple) and it[0][1] for it in said)
 
 
@@ -151,10 +156,9 @@ def rules_of(name):
     rules.comment("Pygments takes the first rule that matches; here the longest match wins, and of equally long ones the first rule.")
     if lexer.get_tokens_unprocessed not in (RegexLexer.get_tokens_unprocessed, ExtendedRegexLexer.get_tokens_unprocessed):
         rules.leave_out("get_tokens_unprocessed", "its own code", "it may change what the states give")
-    modes, count, written = Modes(states), 0, []
-    while len(written) < len(modes.names):
-        mode = [*modes.names][len(written)]
-        count += write_mode(rules, mode, modes, mode[0] not in written)
-        written.append(mode[0])
+    modes, count, written, told = Modes(states), 0, 0, set()
+    while written < len(modes.names):
+        count += write_mode(rules, [*modes.names][written], modes, told)
+        written += 1
     rules.comment(f"{count} rules make one token where Pygments makes several.")
     return rules
