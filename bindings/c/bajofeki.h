@@ -83,6 +83,14 @@ enum {
     BAJOFEKI_UNBOUNDED = 1  /* any number of them can; else BAJOFEKI_NO_LEXER, also if there is no such mode */
 };
 
+/* What a token of a rule does to the stack of modes: the kind of an action. A text begins in mode 0, with none below it. */
+enum {
+    BAJOFEKI_MODE = 0,     /* the mode takes the place of the one on top */
+    BAJOFEKI_PUSH = 1,     /* the mode comes on top */
+    BAJOFEKI_POP = 2,      /* the one on top is taken away; the last one stays */
+    BAJOFEKI_NO_ACTION = 3 /* nothing more */
+};
+
 /* The kind of a piece. */
 enum {
     BAJOFEKI_TOKEN = 0,
@@ -144,6 +152,11 @@ typedef struct {
     size_t count; /* 0 if it isn't BAJOFEKI_AT_MOST */
 } bajofeki_look_t;
 
+typedef struct {
+    uint32_t kind;
+    size_t mode; /* 0 of BAJOFEKI_POP and BAJOFEKI_NO_ACTION */
+} bajofeki_action_t;
+
 /* What an edit changed of the pieces of a document. Pieces are numbered from 0. With any code but BAJOFEKI_DONE nothing has changed, and all
    other numbers are 0. */
 typedef struct {
@@ -201,6 +214,12 @@ bool bajofeki_skips(const bajofeki_lexer *lexer, size_t rule);
 /* How many modes there are; 0 without a lexer. They are numbered from 0, in the order in which the file first names them; a rule above
    the first section names INITIAL. */
 size_t bajofeki_modes(const bajofeki_lexer *lexer);
+
+/* Writes the name of a mode, as bajofeki_name does that of a rule. Gives how many bytes there are, 0 if there is no such mode. */
+size_t bajofeki_mode_name(const bajofeki_lexer *lexer, size_t mode, char *out, size_t room);
+
+/* What a token of a rule does to the stack of modes: its action at a place, from 0 on, after those before. */
+bajofeki_action_t bajofeki_action(const bajofeki_lexer *lexer, size_t rule, size_t place);
 
 /* How many characters after a token of a mode can leave open whether a longer one comes. */
 bajofeki_look_t bajofeki_lookahead(const bajofeki_lexer *lexer, size_t mode);
@@ -390,6 +409,18 @@ static inline bool bajofeki_lexer_skips(const bajofeki_lexer *lexer, size_t rule
 
 static inline size_t bajofeki_lexer_modes(const bajofeki_lexer *lexer) {
     return lexer == NULL ? 0 : bajofeki_modes(lexer);
+}
+
+/* As bajofeki_mode_name. With an `out` of NULL nothing is written. */
+static inline size_t bajofeki_lexer_mode_name(const bajofeki_lexer *lexer, size_t mode, char *out, size_t room) {
+    char none[1];
+    bool is_bad = bajofeki_is_bad(out, room, 1);
+    return lexer == NULL ? 0 : bajofeki_mode_name(lexer, mode, is_bad || room == 0 ? none : out, is_bad ? 0 : room);
+}
+
+static inline bajofeki_action_t bajofeki_lexer_action(const bajofeki_lexer *lexer, size_t rule, size_t place) {
+    bajofeki_action_t none = {BAJOFEKI_NO_ACTION, 0};
+    return lexer == NULL ? none : bajofeki_action(lexer, rule, place);
 }
 
 static inline bajofeki_look_t bajofeki_lexer_lookahead(const bajofeki_lexer *lexer, size_t mode) {

@@ -62,6 +62,7 @@ static void check_no_lexer(void) {
     CHECK(bajofeki_lexer_word(NULL, NULL, 0) == 0 && bajofeki_lexer_rules(NULL) == 0);
     CHECK(bajofeki_lexer_name(NULL, 0, NULL, 0) == 0 && !bajofeki_lexer_skips(NULL, 0));
     CHECK(bajofeki_lexer_modes(NULL) == 0 && bajofeki_lexer_lookahead(NULL, 0).code == BAJOFEKI_NO_LEXER);
+    CHECK(bajofeki_lexer_mode_name(NULL, 0, NULL, 0) == 0 && bajofeki_lexer_action(NULL, 0, 0).kind == BAJOFEKI_NO_ACTION);
     CHECK(bajofeki_lexer_html(NULL, "a", 1, NULL, 0).code == BAJOFEKI_NO_LEXER);
     CHECK(bajofeki_lexer_ansi(NULL, NULL, 0, NULL, 0).code == BAJOFEKI_NO_LEXER);
     CHECK(bajofeki_lexer_c_source(NULL, "lex", 3, NULL, 0).code == BAJOFEKI_NO_LEXER);

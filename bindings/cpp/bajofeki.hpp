@@ -232,14 +232,11 @@ public:
         if (report.code == BAJOFEKI_OUT_OF_MEMORY || report.code == BAJOFEKI_NO_LEXER) {
             throw std::bad_alloc();
         }
-        for (std::size_t rule = 0; rule < bajofeki_lexer_rules(lexer_.get()); rule++) {
-            std::string name(bajofeki_lexer_name(lexer_.get(), rule, nullptr, 0), ' ');
-            bajofeki_lexer_name(lexer_.get(), rule, name.data(), name.size());
-            names_.push_back(std::move(name));
-        }
+        names_ = names(bajofeki_lexer_name, bajofeki_lexer_rules(lexer_.get()));
         if (report.code != BAJOFEKI_BUILT) {
             throw rules_error(message(report), report);
         }
+        modes_ = names(bajofeki_lexer_mode_name, bajofeki_lexer_modes(lexer_.get()));
     }
 
     /* Those of another text may be given, whose memory then serves again: `pieces = lexer.pieces(line, std::move(pieces));`. */
@@ -250,7 +247,19 @@ public:
     /* The names of the rules. */
     const std::vector<std::string> &rules() const noexcept { return names_; }
     bool skips(std::size_t rule) const noexcept { return bajofeki_lexer_skips(lexer_.get(), rule); }
-    std::size_t modes() const noexcept { return bajofeki_lexer_modes(lexer_.get()); }
+
+    /* The names of the modes, which are numbered from 0, in the order in which the file first names them. */
+    const std::vector<std::string> &modes() const noexcept { return modes_; }
+
+    /* What a token of a rule does to the stack of modes, one after another. */
+    std::vector<bajofeki_action_t> actions(std::size_t rule) const {
+        std::vector<bajofeki_action_t> all;
+        bajofeki_action_t next;
+        while ((next = bajofeki_lexer_action(lexer_.get(), rule, all.size())).kind != BAJOFEKI_NO_ACTION) {
+            all.push_back(next);
+        }
+        return all;
+    }
 
     /* How many characters after a token of a mode can leave open whether a longer one comes; nothing if any number can. */
     std::optional<std::size_t> lookahead(std::size_t mode) const {
@@ -277,7 +286,7 @@ public:
 
 private:
     detail::handle<bajofeki_lexer> lexer_;
-    std::vector<std::string> names_;
+    std::vector<std::string> names_, modes_;
     friend class document;
     friend class stream;
 
@@ -298,6 +307,16 @@ private:
         detail::check(page.code);
         detail::check(shows(lexer_.get(), text.data(), text.size(), out.data(), out.size()).code);
         return out;
+    }
+
+    /* The names of as many rules or modes as there are. */
+    std::vector<std::string> names(std::size_t (*writes)(const bajofeki_lexer *, std::size_t, char *, std::size_t), std::size_t count) const {
+        std::vector<std::string> all;
+        for (std::size_t number = 0; number < count; number++) {
+            all.emplace_back(writes(lexer_.get(), number, nullptr, 0), ' ');
+            writes(lexer_.get(), number, all.back().data(), all.back().size());
+        }
+        return all;
     }
 
     std::string message(const bajofeki_report_t &report) const {

@@ -59,10 +59,14 @@ void check_lexer() {
     CHECK(std::count_if(many.begin(), many.end(), [](const bajofeki::piece &it) { return it.kind == kind::token; }) == 2);
     bajofeki::text_pieces none = moved.pieces({});
     CHECK(none.begin() == none.end() && moved.rules().size() == 3 && moved.rules()[2] == "SPACE" && moved.skips(2) && !moved.skips(0));
-    CHECK(moved.modes() == 1 && moved.lookahead(0) == std::size_t{0} && moved.html("let") == "<span class=\"LET\">let</span>");
+    CHECK(moved.modes() == std::vector<std::string>{"INITIAL"} && moved.lookahead(0) == std::size_t{0} && moved.html("let") == "<span class=\"LET\">let</span>");
     CHECK(moved.ansi("let") != "" && throws<std::invalid_argument>([&] { moved.html("\xFF"); }));
     CHECK(moved.c_source().substr(0, 8) == "/* lex: " && moved.rust_source().substr(0, 3) == "// ");
     CHECK(throws<std::invalid_argument>([&] { moved.c_source("1ex"); }) && throws<std::logic_error>([&] { lexer.rust_source(); }));
+    bajofeki::lexer nested("OPEN push IN mode IN = '('\n[IN]\nCLOSE pop = ')'\n");
+    std::vector<bajofeki_action_t> open = nested.actions(0), closed = nested.actions(1);
+    CHECK(nested.modes()[1] == "IN" && open.size() == 2 && open[0].kind == BAJOFEKI_PUSH && open[0].mode == 1 && open[1].kind == BAJOFEKI_MODE);
+    CHECK(closed.size() == 1 && closed[0].kind == BAJOFEKI_POP && nested.actions(2).empty());
     for (const char *line : {"let", "", "?", "let"}) {
         none = moved.pieces(line, std::move(none));
         CHECK(none.begin() == none.end() ? *line == 0 : none.begin()->text == line);

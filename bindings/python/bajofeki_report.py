@@ -104,27 +104,20 @@ def numbered(lines):
 
 
 def read_rules(rules):
-    """The lines of a file; of each rule the number of its line, its match of RULE, and what it does; and in which mode a text begins."""
-    lines, found, modes, is_above = [it.rstrip("\r") for it in rules.decode("utf-8-sig").split("\n")], [], [], True
-    for number, line in enumerate(lines):
-        rule = RULE.fullmatch(line)
-        if line.lstrip().startswith("["):
-            modes, is_above = modes + re.findall(r"\w+", line), False
-        elif rule and rule[2].split() != ["part"]:
-            found.append((number, rule, rule[2].split()))
-            modes += ["INITIAL"] * is_above
-    return lines, found, [*modes, "INITIAL"][0]
+    """The lines of a file, and of each rule the number of its line and its match of RULE."""
+    lines = [it.rstrip("\r") for it in rules.decode("utf-8-sig").split("\n")]
+    found = ((number, RULE.fullmatch(line)) for number, line in enumerate(lines))
+    return lines, [(number, rule) for number, rule in found if rule and rule[2].split() != ["part"]]
 
 
-def act(stack, words, place):
-    """Does what the rule of a token does to a stack of modes, each with the place of the token that put it on top."""
-    words = iter(words)
-    for word in words:
-        if word == "push":
-            stack.append((next(words), place))
-        elif word == "mode":
-            stack[-1] = next(words), stack[-1][1]
-        elif word == "pop" and len(stack) > 1:
+def act(stack, actions, place):
+    """Does what a token does to a stack of modes, each with the place of the token that put it on top."""
+    for kind, mode in actions:
+        if kind == "push":
+            stack.append((mode, place))
+        elif kind == "mode":
+            stack[-1] = mode, stack[-1][1]
+        elif len(stack) > 1:
             stack.pop()
 
 
@@ -139,20 +132,21 @@ def put(lines, start, text, end):
 
 def text_page(rules, rules_name, data, name):
     """The page of a text, and the status."""
-    lexer, data, (_, found, mode) = Lexer(rules), data[3 * data.startswith(b"\xef\xbb\xbf") :], read_rules(rules)
-    numbers = {rule: number for number, rule in enumerate(dict.fromkeys(lexer.rules))}
+    lexer, data = Lexer(rules), data[3 * data.startswith(b"\xef\xbb\xbf") :]
+    named = [it._replace(actions=()) for it in lexer.rules]
+    numbers = {rule: number for number, rule in enumerate(dict.fromkeys(named))}
     kinds = {rule: "skipped, " * rule.is_skipped + kind_of(rule.name) for rule in numbers}
-    lines, faults, counts, stack, places = [[]], [], dict.fromkeys(numbers, 0), [(mode, None)], Places(data)
+    lines, faults, counts, stack, places = [[]], [], dict.fromkeys(numbers, 0), [(lexer.modes[0], None)], Places(data)
     for piece in lexer.items(data):
         place, text = places.at(piece.start), piece.text.decode("utf-8", "surrogateescape")
-        where = (f"mode {stack[-1][0]}, " if lexer.modes > 1 else "") + "{}:{}".format(*place)
+        where = (f"mode {stack[-1][0]}, " if len(lexer.modes) > 1 else "") + "{}:{}".format(*place)
         if piece.rule is None:
             faults.append(f"<li>{LINK.format(f'F{len(faults) + 1}', *place)} {FAULTS[piece.kind]} {quoted(text)}</li>\n")
             put(lines, f'<mark id="F{len(faults)}" title="{FAULTS[piece.kind]} {where}">', text, "</mark>")
             continue
-        counts[(rule := lexer.rules[piece.number])] += 1
+        counts[(rule := named[piece.number])] += 1
         put(lines, f'<span class="r{numbers[rule]}" title="{rule.name}, {kinds[rule]}, {where}">', text, "</span>")
-        act(stack, found[piece.number][2], place)
+        act(stack, lexer.rules[piece.number].actions, place)
     skipped = sum(counts[rule] for rule in counts if rule.is_skipped)
     parts = [f"<small>Tokens: {sum(counts.values()):,}, skipped: {skipped:,}, faults: {len(faults):,}, by {shown(rules_name)}</small>\n"]
     if len(stack) > 1:
@@ -171,7 +165,7 @@ def check_page(rules, name):
     found = [json.loads(it) for it in checked.findings]
     if checked.outcome.value > 1 and all(it["kind"] != "clash" for it in found):
         Lexer(rules)  # which says why there is none
-    lines, read, mode = read_rules(rules)
+    lines, read = read_rules(rules)
     said = findings("\n".join(lines), Columns.CHARACTERS)
     parts = [f"<small>Findings: {len(said):,}</small>\n"]
     for it in said:
@@ -179,15 +173,18 @@ def check_page(rules, name):
         parts.append(f'<div class="box{" bad" * (it["severity"] == ERROR)}">{LINK.format(f"L{number + 1}", number + 1, at + 1)} ')
         parts.append(re.sub(r"of line (\d+)", r'of <a href="#L\1">line \1</a>', shown(it["message"], "\n")))
         parts.append(f"<pre>{shown(lines[number][:at])}<mark>{shown(lines[number][at:])}</mark></pre></div>\n")
-    automata = [{"mode": mode, **it} for it in found if it["kind"] == "automaton"]
+    automata = [it for it in found if it["kind"] == "automaton"]
     if automata:
+        # The one mode of a file isn't named there.
+        automata = [{"mode": Lexer(rules).modes[0], **it} for it in automata]
         rows = ("<tr><td>{mode}<td>{least_states:,}<td>{}\n".format(read_past(**it), **it) for it in automata)
         graphs = re.findall("^digraph .*?^}", "\n".join(dot(rules, name=name).findings), re.M | re.S)
         parts += ["<h2>Modes</h2>\n<table><tr><th>Mode<th>States<th>Characters read past a token\n", *rows, "</table>\n"]
         parts += map(picture, automata, graphs)
     html = [shown(it) for it in lines]
-    for at, rule, words in read:
-        number, word = numbers.setdefault(Rule(rule[1], words[:1] == ["skip"]), len(numbers)), least_text(lines, rule[3])
+    for at, rule in read:
+        is_skipped = rule[2].split()[:1] == ["skip"]
+        number, word = numbers.setdefault(Rule(rule[1], is_skipped), len(numbers)), least_text(lines, rule[3])
         front, rest, least = shown(lines[at][: rule.start(1)]), shown(lines[at][rule.end(1) :]), "no text" if word is None else quoted(word)
         html[at] = f'<small>{least}</small>{front}<b class="r{number}">{rule[1]}</b>{rest}'
     return page(name, numbers, [*parts, "<h2>Rules, each with its least text</h2>\n", numbered(html)]), int(bool(said))

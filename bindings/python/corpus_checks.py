@@ -26,7 +26,7 @@ TOKENS, CORPUS, NAMED = TOP / "crates/tokens/out/tokens", TOP / "examples/corpus
 sys.path += [str(TOP / "bindings"), str(CORPUS.parent)]
 import cases
 import corpus
-from bajofeki import RulesError
+from bajofeki import Lexer, RulesError
 
 
 def by_tokens(*words):
@@ -48,15 +48,14 @@ def check(chance, rules, text):
         for path, data in zip(paths, (rules, text)):
             path.write_bytes(data)
         try:
-            grammar = corpus.built(rules)
+            lexer = Lexer(rules)
         except RulesError:
             return 0
-        assert len(grammar[0].rules) == len(grammar[2])
         cuts = []
 
         def submit(*job):
             cuts.append(job)
-            return corpus.cut(grammar, paths[1], "", *job)
+            return corpus.cut(lexer, paths[1], "", *job)
 
         parts = corpus.planned(paths[1], chance.choice([1, 20, 100, 500]))
         waiting = [partial(submit, parts[n : n + 2], part.start) for n, part in enumerate(parts)]
@@ -70,7 +69,7 @@ def check_changed():
         path = Path(folder, "text")
         path.write_bytes(b"a\nb\nc\n")
         parts = corpus.planned(path, 1)
-        submit = partial(corpus.cut, corpus.built(b"A = /[a-z]/\n"), path, "")
+        submit = partial(corpus.cut, Lexer(b"A = /[a-z]/\n"), path, "")
         path.write_bytes(b"a\nb\nd\n")
         blocks = corpus.joined(submit, parts, [partial(submit, parts[n : n + 2], part.start) for n, part in enumerate(parts)])
         assert next(blocks)[1] == 2

@@ -26,25 +26,11 @@ def quoted(text):
     return escaped(text) if text.isascii() else f'"{"".join(it.text if it.rule else escaped(it.text)[1:-1] for it in SEEN.items(text))}"'
 
 
-def built(rules):
-    """The lexer of a file of rules, its first mode, and the actions of its rules by their numbers."""
-    modes, actions = [], []
-    for line in rules.decode("utf-8-sig").split("\n"):
-        words = line.partition("=")[0].split()
-        if line.lstrip(" \t")[:1] == "[":
-            modes += line.strip("[] \t\r").split()
-        elif words and words[0][0] != "#" and words[1:2] != ["part"]:
-            modes = modes or ["INITIAL"]
-            actions.append(words[1 + (words[1:2] == ["skip"]) :])
-    return Lexer(rules), next((it for it in modes if it != "*"), "INITIAL"), actions
-
-
-def act(stack, words):
+def act(stack, actions):
     """Does the actions of a token on the stack of modes."""
-    words = iter(words)
-    for word in words:
-        is_gone = word == "mode" or word == "pop" and len(stack) > 1
-        stack[len(stack) - is_gone :] = () if word == "pop" else (next(words),)
+    for kind, mode in actions:
+        is_gone = kind == "mode" or kind == "pop" and len(stack) > 1
+        stack[len(stack) - is_gone :] = () if kind == "pop" else (mode,)
 
 
 def planned(path, most):
@@ -75,11 +61,11 @@ def pieces(lexer, path, parts, begin):
                 yield piece, places
 
 
-def cut(grammar, path, front, parts, begin, goals=()):
+def cut(lexer, path, front, parts, begin, goals=()):
     """Cuts a file from a seam in the first part on up to the next that is a goal or past that part, or to the file's end. Gives the lines,
     where they end, and how many bytes of them come before each seam; nothing if these parts have no such seam."""
-    lexer, first, actions = grammar
-    stack, has_modes, lines, size, seams = [first], lexer.modes > 1, [], 0, {begin: 0}
+    first, has_modes = lexer.modes[0], len(lexer.modes) > 1
+    stack, lines, size, seams = [first], [], 0, {begin: 0}
     for piece, places in pieces(lexer, path, parts, begin):
         start, end = begin + piece.start, begin + piece.end
         if piece.kind is not Kind.SKIPPED:
@@ -88,7 +74,7 @@ def cut(grammar, path, front, parts, begin, goals=()):
             place = f'"line":{line + parts[0].line - 1},"column":{column},"start":{start},"end":{end}'
             lines.append(f'{{{front}{place},"rule":{rule},"text":{quoted(piece.text)}}}\n'.encode())
             size += len(lines[-1])
-        act(stack, actions[piece.number] if piece.rule else ())
+        act(stack, lexer.rules[piece.number].actions if piece.rule else ())
         if stack == [first] or end == parts[-1].start == parts[-1].end:
             if end in goals or end >= parts[0].end:
                 return b"".join(lines), end, seams
@@ -113,16 +99,16 @@ def joined(again, parts, waiting):
 def submitter(scheduler, rules, most):
     """What has parts cut, and gives functions that wait for what became of them. Small parts go together, up to about so many bytes."""
     if scheduler is None:
-        grammar = built(rules)
-        return lambda jobs: [partial(cut, grammar, *job) for job in jobs]
+        lexer = Lexer(rules)
+        return lambda jobs: [partial(cut, lexer, *job) for job in jobs]
     from distributed import Client
     client = Client(scheduler)
-    grammar, result = client.submit(built, rules), lru_cache(1)(lambda future: future.result())
+    lexer, result = client.submit(Lexer, rules), lru_cache(1)(lambda future: future.result())
 
     def submit(jobs):
         ends = accumulate(parts[0].end - parts[0].start for _, _, parts, *_ in jobs)
         groups = [[job for _, job in group] for _, group in groupby(zip(ends, jobs), lambda it: it[0] // most)]
-        futures = client.map(lambda group, grammar: [cut(grammar, *job) for job in group], groups, grammar=grammar, pure=False)
+        futures = client.map(lambda group, lexer: [cut(lexer, *job) for job in group], groups, lexer=lexer, pure=False)
         return [partial(lambda it, n: result(it)[n], it, n) for it, group in zip(futures, groups) for n in range(len(group))]
 
     return submit

@@ -18,15 +18,17 @@ from ctypes import create_string_buffer
 from typing import NamedTuple, Optional, Tuple, Union
 
 from . import _library
-from ._library import LIBRARY, Piece as _Piece, Room as _Room, Text as _Text, name as _name, word as _word, written as _written
+from ._library import LIBRARY, Piece as _Piece, Room as _Room, Text as _Text, actions as _actions, name as _name, word as _word
+from ._library import written as _written
 
-__all__ = """Arrays Change Checked Columns Document Item Kind Lexer NotUtf8Error Outcome Piece Place Places Rule RulesError RulesErrorKind
+__all__ = """Action Arrays Change Checked Columns Document Item Kind Lexer NotUtf8Error Outcome Piece Place Places Rule RulesError RulesErrorKind
     Stream check diff dot""".split()
 
 _DONE, _BAD_RANGE, _BAD_NAME, _FULL, _NOT_UTF8, _TOO_DEEP, _TOO_LARGE, _OUT_OF_MEMORY, _ENDED, _BAD_ARGUMENT = 0, 1, 1, 2, 3, 4, 6, 7, 8, 10
 _NO_RULE = 4
 _ROOM = 4096
 _SHORT = 1 << 16
+_ACTIONS = ("mode", "push", "pop")
 _PIECES = struct.Struct("@INNN")
 _made = tuple.__new__
 
@@ -134,11 +136,19 @@ class Columns(enum.Enum):
     UTF16 = "utf-16"
 
 
+class Action(NamedTuple):
+    """What a token of a rule does to the stack of modes. A text begins in the first mode, with none below it."""
+
+    kind: str  # mode: this mode takes the place of the one on top; push: it comes on top; pop: the one on top goes, but the last one stays
+    mode: Optional[str]  # its name, None of a pop
+
+
 class Rule(NamedTuple):
     """A rule of a lexer. Several may have one name."""
 
     name: str
     is_skipped: bool
+    actions: Tuple[Action, ...] = ()
 
 
 class Item(NamedTuple):
@@ -234,7 +244,7 @@ class Lexer:
 
     >>> lexer = Lexer("A = 'a'\\nSPACE skip = ' '\\n")
     >>> lexer.rules
-    (Rule(name='A', is_skipped=False), Rule(name='SPACE', is_skipped=True))
+    (Rule(name='A', is_skipped=False, actions=()), Rule(name='SPACE', is_skipped=True, actions=()))
 
     Copies and pickles of a lexer, and of one of a subclass, are built of its rules.
 
@@ -257,16 +267,22 @@ class Lexer:
         room = _Room(LIBRARY.bajofeki_lexer_size(), lambda it: LIBRARY.bajofeki_build(it, rules, len(rules)), LIBRARY.bajofeki_free)
         report = LIBRARY.bajofeki_report(room.words)
         if report.code:
-            raise _rules_error(report, _word(room.words), lambda rule: _name(room.words, rule))
-        numbers = range(LIBRARY.bajofeki_rules(room.words))
+            raise _rules_error(report, _word(room.words), lambda rule: _name(LIBRARY.bajofeki_name, room.words, rule))
         # A cutter for the next text, which one thread at most takes out.
         self._file, self._room, self._spare = rules, room, deque(maxlen=1)
-        self.rules = tuple(Rule(_name(room.words, rule), LIBRARY.bajofeki_skips(room.words, rule)) for rule in numbers)
+        modes = range(LIBRARY.bajofeki_modes(room.words))
+        self.modes = tuple(_name(LIBRARY.bajofeki_mode_name, room.words, mode) for mode in modes)
+        self.rules = tuple(map(self._rule, range(LIBRARY.bajofeki_rules(room.words))))
         self._names = [(rule.name, number) for number, rule in enumerate(self.rules)]
+
+    def _rule(self, number):
+        room = self._room.words
+        found = (Action(_ACTIONS[kind], self.modes[mode] if kind < 2 else None) for kind, mode in _actions(room, number))
+        return Rule(_name(LIBRARY.bajofeki_name, room, number), LIBRARY.bajofeki_skips(room, number), tuple(found))
 
     def __reduce__(self):
         # A copy, or one from a pickle, is built anew, without a subclass's own `__init__`: a lexer stays in its room.
-        more = {name: it for name, it in vars(self).items() if name not in ("_file", "_names", "_room", "_spare", "rules")}
+        more = {name: it for name, it in vars(self).items() if name not in ("_file", "_names", "_room", "_spare", "modes", "rules")}
         return _rebuilt, (type(self), self._file), more or None
 
     def __repr__(self):
@@ -370,18 +386,13 @@ class Lexer:
         call = lambda out, room: LIBRARY.bajofeki_rust_source(self._room.words, out, room)
         return _source(call, "the name of a rule can't be that of a variant")
 
-    @property
-    def modes(self):
-        """How many modes there are. They are numbered from 0, in the order in which the file first names them."""
-        return LIBRARY.bajofeki_modes(self._room.words)
-
     def lookahead(self, mode):
-        """How many characters after a token of the mode can leave open whether a longer one comes, or math.inf.
+        """How many characters after a token of the mode with this number can leave open whether a longer one comes, or math.inf.
 
         >>> Lexer("A = /a(bc)?/\\n").lookahead(0)
         1
         """
-        look = LIBRARY.bajofeki_lookahead(self._room.words, mode) if 0 <= mode < self.modes else None
+        look = LIBRARY.bajofeki_lookahead(self._room.words, mode) if 0 <= mode < len(self.modes) else None
         if look is None:
             raise IndexError("there is no such mode")
         return math.inf if look.code else look.count

@@ -63,9 +63,14 @@ class Columns(enum.Enum):
     CHARACTERS = "utf-32"
     UTF16 = "utf-16"
 
+class Action(NamedTuple):
+    kind: str
+    mode: Optional[str]
+
 class Rule(NamedTuple):
     name: str
     is_skipped: bool
+    actions: Tuple[Action, ...] = ...
 
 class Item(NamedTuple):
     kind: Kind
@@ -101,6 +106,7 @@ class Places:
     def at(self, offset: int) -> Place: ...
 
 class Lexer:
+    modes: Tuple[str, ...]
     rules: Tuple[Rule, ...]
     def __init__(self, rules: Union[str, ReadableBuffer]) -> None: ...
     @overload
@@ -112,8 +118,6 @@ class Lexer:
     def ansi(self, text: Union[str, ReadableBuffer]) -> str: ...
     def c_source(self, prefix: str = ...) -> str: ...
     def rust_source(self) -> str: ...
-    @property
-    def modes(self) -> int: ...
     def lookahead(self, mode: int) -> Union[int, float]: ...
 
 class Outcome(enum.Enum):

@@ -1,5 +1,6 @@
 """The functions of the C library. Their contracts are in crates/bajofeki_c/src/lib.rt, and what they require of a caller is listed in
 bindings/c/bajofeki.h."""
+import itertools
 import os
 import weakref
 from ctypes import CDLL, POINTER, PyDLL, Structure, byref, c_bool, c_char_p, c_size_t, c_uint32, c_uint64, c_void_p
@@ -35,6 +36,10 @@ class Look(Structure):
     _fields_ = [("code", c_uint32), ("count", c_size_t)]
 
 
+class Action(Structure):
+    _fields_ = [("kind", c_uint32), ("mode", c_size_t)]
+
+
 class Edit(Structure):
     _fields_ = [("code", c_uint32), *((name, c_size_t) for name in "first removed inserted start old_end new_end".split())]
 
@@ -43,7 +48,7 @@ class Count(Structure):
     _fields_ = [("code", c_uint32), ("count", c_size_t)]
 
 
-STRUCTS = (Report, Piece, Cut, Place, Page, Checked, Look, Edit, Count)
+STRUCTS = (Report, Piece, Cut, Place, Page, Checked, Look, Action, Edit, Count)
 # Of each function of the library what it gives and what it takes.
 FUNCTIONS = {
     "bajofeki_lexer_size": (c_size_t, []),
@@ -55,6 +60,8 @@ FUNCTIONS = {
     "bajofeki_name": (c_size_t, [c_void_p, c_size_t, c_char_p, c_size_t]),
     "bajofeki_skips": (c_bool, [c_void_p, c_size_t]),
     "bajofeki_modes": (c_size_t, [c_void_p]),
+    "bajofeki_mode_name": (c_size_t, [c_void_p, c_size_t, c_char_p, c_size_t]),
+    "bajofeki_action": (Action, [c_void_p, c_size_t, c_size_t]),
     "bajofeki_lookahead": (Look, [c_void_p, c_size_t]),
     "bajofeki_html": (Page, [c_void_p, c_void_p, c_size_t, c_char_p, c_size_t]),
     "bajofeki_ansi": (Page, [c_void_p, c_void_p, c_size_t, c_char_p, c_size_t]),
@@ -176,9 +183,15 @@ def word(lexer):
     return "".join(map(chr, out))
 
 
-def name(lexer, rule):
-    """The name of a rule."""
-    length = LIBRARY.bajofeki_name(lexer, rule, b"", 0)
+def name(writes, lexer, number):
+    """The name of a rule or of a mode, which a function writes."""
+    length = writes(lexer, number, b"", 0)
     out = create_string_buffer(length)
-    LIBRARY.bajofeki_name(lexer, rule, out, length)
+    writes(lexer, number, out, length)
     return out.raw.decode()
+
+
+def actions(lexer, rule):
+    """The kinds and modes of the actions of a rule."""
+    found = (LIBRARY.bajofeki_action(lexer, rule, place) for place in itertools.count())
+    return [(it.kind, it.mode) for it in itertools.takewhile(lambda it: it.kind < 3, found)]

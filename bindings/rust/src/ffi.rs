@@ -70,6 +70,14 @@ pub struct Look {
     pub count: usize,
 }
 
+/// What a token of a rule does to the stack of modes.
+#[repr(C)]
+#[derive(Clone, Copy, Debug)]
+pub struct Action {
+    pub kind: u32,
+    pub mode: usize,
+}
+
 /// What a check of rules writes, a comparison or a drawing.
 #[repr(C)]
 #[derive(Clone, Copy, Debug)]
@@ -109,6 +117,8 @@ extern "C" {
     fn bajofeki_name(lexer: *const c_void, rule: usize, out: *mut u8, room: usize) -> usize;
     fn bajofeki_skips(lexer: *const c_void, rule: usize) -> bool;
     fn bajofeki_modes(lexer: *const c_void) -> usize;
+    fn bajofeki_mode_name(lexer: *const c_void, mode: usize, out: *mut u8, room: usize) -> usize;
+    fn bajofeki_action(lexer: *const c_void, rule: usize, place: usize) -> Action;
     fn bajofeki_lookahead(lexer: *const c_void, mode: usize) -> Look;
     fn bajofeki_html(
         lexer: *const c_void,
@@ -213,6 +223,15 @@ pub enum Markup {
     Ansi,
 }
 
+/// The name that a function writes to an array; it gives how many bytes there are.
+fn name_of(writes: impl Fn(*mut u8, usize) -> usize) -> Result<String, u32> {
+    let length = writes([].as_mut_ptr(), 0);
+    let mut name = Vec::new();
+    fit(&mut name, length)?;
+    writes(name.as_mut_ptr(), length);
+    Ok(string(name))
+}
+
 /// Makes an array this long, or gives the code for memory that is refused.
 fn fit<T: Clone + Default>(all: &mut Vec<T>, length: usize) -> Result<(), u32> {
     all.try_reserve_exact(length.saturating_sub(all.len()))
@@ -305,12 +324,7 @@ impl Held {
 
     pub fn name(&self, rule: usize) -> Result<String, u32> {
         // SAFETY: as for `word`.
-        let length = unsafe { bajofeki_name(self.at(), rule, [].as_mut_ptr(), 0) };
-        let mut name = Vec::new();
-        fit(&mut name, length)?;
-        // SAFETY: as for `word`.
-        unsafe { bajofeki_name(self.at(), rule, name.as_mut_ptr(), length) };
-        Ok(string(name))
+        name_of(|out, room| unsafe { bajofeki_name(self.at(), rule, out, room) })
     }
 
     pub fn skips(&self, rule: usize) -> bool {
@@ -321,6 +335,16 @@ impl Held {
     pub fn modes(&self) -> usize {
         // SAFETY: as for `report`.
         unsafe { bajofeki_modes(self.at()) }
+    }
+
+    pub fn mode_name(&self, mode: usize) -> Result<String, u32> {
+        // SAFETY: as for `word`.
+        name_of(|out, room| unsafe { bajofeki_mode_name(self.at(), mode, out, room) })
+    }
+
+    pub fn action(&self, rule: usize, place: usize) -> Action {
+        // SAFETY: as for `report`.
+        unsafe { bajofeki_action(self.at(), rule, place) }
     }
 
     pub fn lookahead(&self, mode: usize) -> Look {

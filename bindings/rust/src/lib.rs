@@ -53,6 +53,19 @@ pub struct Rule {
     pub name: String,
     /// Whether its tokens are skipped.
     pub is_skipped: bool,
+    /// What a token of it does to the stack of modes, one after another.
+    pub actions: Vec<Action>,
+}
+
+/// What a token of a rule does to the stack of modes. A text begins in mode 0, with none below it.
+#[derive(Clone, Copy, Debug, PartialEq, Eq)]
+pub enum Action {
+    /// This mode takes the place of the one on top.
+    Mode(usize),
+    /// This mode comes on top.
+    Push(usize),
+    /// The one on top is taken away; the last one stays.
+    Pop,
 }
 
 /// How many characters after a token can leave open whether a longer one comes.
@@ -79,6 +92,33 @@ pub enum Lookahead {
 pub struct Lexer {
     held: ffi::Held,
     rules: Vec<Rule>,
+    modes: Vec<String>,
+}
+
+/// As many of these as there are, where refused memory is an error.
+fn collected<T>(
+    count: usize,
+    get: impl Fn(usize) -> Result<T, RulesError>,
+) -> Result<Vec<T>, RulesError> {
+    let mut all = Vec::new();
+    let room = all.try_reserve_exact(count);
+    room.map_err(|_| RulesError::of(RulesErrorKind::OutOfMemory))?;
+    for number in 0..count {
+        all.push(get(number)?);
+    }
+    Ok(all)
+}
+
+fn actions(held: &ffi::Held, rule: usize) -> Result<Vec<Action>, RulesError> {
+    let count = (0..).take_while(|&place| held.action(rule, place).kind < 3).count();
+    collected(count, |place| {
+        let action = held.action(rule, place);
+        Ok(match action.kind {
+            0 => Action::Mode(action.mode),
+            1 => Action::Push(action.mode),
+            _ => Action::Pop,
+        })
+    })
 }
 
 impl Lexer {
@@ -109,16 +149,16 @@ impl Lexer {
         if report.code != 0 {
             return Err(RulesError::new(report, &held));
         }
-        let mut rules = Vec::new();
-        let room = rules.try_reserve_exact(held.rules());
-        room.map_err(|_| out_of_memory())?;
-        for rule in 0..held.rules() {
-            rules.push(Rule {
+        let rules = collected(held.rules(), |rule| {
+            Ok(Rule {
                 name: held.name(rule).map_err(|_| out_of_memory())?,
                 is_skipped: held.skips(rule),
-            });
-        }
-        Ok(Lexer { held, rules })
+                actions: actions(&held, rule)?,
+            })
+        })?;
+        let name = |mode| held.mode_name(mode).map_err(|_| out_of_memory());
+        let modes = collected(held.modes(), name)?;
+        Ok(Lexer { held, rules, modes })
     }
 
     /// Its rules, in the order of their lines.
@@ -257,9 +297,18 @@ impl Lexer {
         source(self.held.rust_source())
     }
 
-    /// How many modes there are. They are numbered from 0, in the order in which the file first names them.
-    pub fn modes(&self) -> usize {
-        self.held.modes()
+    /// The names of its modes, which are numbered from 0, in the order in which the file first names them.
+    ///
+    /// ```
+    /// use bajofeki::{Action, Lexer};
+    ///
+    /// let lexer = Lexer::new("OPEN push IN = '('\n[IN]\nCLOSE pop = ')'\n")?;
+    /// assert_eq!(lexer.modes(), ["INITIAL", "IN"]);
+    /// assert_eq!(lexer.rules()[0].actions, [Action::Push(1)]);
+    /// # Ok::<(), bajofeki::RulesError>(())
+    /// ```
+    pub fn modes(&self) -> &[String] {
+        &self.modes
     }
 
     /// How many characters after a token of this mode can leave open whether a longer one comes; `None` if there is no such mode.

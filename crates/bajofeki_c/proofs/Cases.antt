@@ -7,6 +7,7 @@ mod Draw
 mod Report
 mod Rules
 mod Look
+mod Modes
 mod Page
 mod Source
 mod Cutting

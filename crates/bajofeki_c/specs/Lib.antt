@@ -6,6 +6,7 @@ pub mod Draw
 pub mod Report
 pub mod Rules
 pub mod Look
+pub mod Modes
 pub mod Page
 pub mod Source
 pub mod Cutting

@@ -31,6 +31,7 @@ mod document;
 mod draw;
 mod held;
 mod look;
+mod modes;
 mod page;
 mod position;
 mod report;
@@ -47,6 +48,7 @@ ghost use Rattle.bajofeki_c.specs.Cutting.{WasBegun};
 ghost use Rattle.bajofeki_c.specs.Document.{ArePiecesTold, IsOffset, IsPlace, text_of};
 ghost use Rattle.bajofeki_c.specs.Draw.{IsDrawing};
 ghost use Rattle.bajofeki_c.specs.Look.{IsLookOf, mode_count};
+ghost use Rattle.bajofeki_c.specs.Modes.{action_at, mode_name_of};
 ghost use Rattle.bajofeki_c.specs.Page.{IsShown};
 ghost use Rattle.bajofeki_c.specs.Place.{place_in};
 ghost use Rattle.bajofeki_c.specs.Report.{report};
@@ -73,8 +75,9 @@ use lalrpop_lexer::Lexer;
 use lalrpop_lexer::lexer::dfa::Precedence;
 use lalrpop_lexer::lexer::re::Regex;
 use lalrpop_rule_file::RuleFileError;
-use lalrpop_rules::{Action, RulesError};
+use lalrpop_rules::{Action as RuleAction, RulesError};
 pub use look::{Look, look_of, modes_of};
+pub use modes::{Action, action_of, mode_name_into};
 pub use page::{Markup, Page, ansi_into, html_into};
 pub use position::{Place, place_of};
 pub use report::{Report, report_of};
@@ -91,7 +94,7 @@ fn rules_may_go_to_threads() {
     may_go_to_threads::<Lexer>();
     may_go_to_threads::<Regex>();
     may_go_to_threads::<Precedence>();
-    may_go_to_threads::<Action>();
+    may_go_to_threads::<RuleAction>();
 }
 
 fn numbers_may_go_to_threads() {
@@ -212,6 +215,29 @@ pub unsafe extern "C" fn bajofeki_modes(lexer: *const u8) -> usize
     ensures count { result ≡ mode_count view.held }
 {
     modes_of(&*(lexer as *const Held))
+}
+
+/// Writes the name of a mode, as many bytes as fit, and says how many there are: 0 if there is no such mode. Modes are numbered from 0,
+/// in the order in which the file first names them.
+#[unsafe(no_mangle)]
+pub unsafe extern "C" fn bajofeki_mode_name(lexer: *const u8, mode: usize, out: &mut [u8]) -> usize
+    ghost view: { View }
+    requires* seen { sem 𝓛 (seen_at lexer view) }
+    ensures* seen { sem 𝓛 (seen_at lexer view) }
+    ensures written { IsWritten (mode_name_of view.held mode) out.old out.new result }
+{
+    mode_name_into(&*(lexer as *const Held), mode, out)
+}
+
+/// What a token of the rule does to the stack of modes, by the place of the action among those of the rule.
+#[unsafe(no_mangle)]
+pub unsafe extern "C" fn bajofeki_action(lexer: *const u8, rule: usize, place: usize) -> Action
+    ghost view: { View }
+    requires* seen { sem 𝓛 (seen_at lexer view) }
+    ensures* seen { sem 𝓛 (seen_at lexer view) }
+    ensures action { result ≡ action_at view.held rule place }
+{
+    action_of(&*(lexer as *const Held), rule, place)
 }
 
 /// How many characters after a token of this mode can leave open whether a longer one comes. Modes are numbered from 0, in the
