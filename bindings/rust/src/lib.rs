@@ -110,7 +110,9 @@ fn collected<T>(
 }
 
 fn actions(held: &ffi::Held, rule: usize) -> Result<Vec<Action>, RulesError> {
-    let count = (0..).take_while(|&place| held.action(rule, place).kind < 3).count();
+    let count = (0..)
+        .take_while(|&place| held.action(rule, place).kind < 3)
+        .count();
     collected(count, |place| {
         let action = held.action(rule, place);
         Ok(match action.kind {
