@@ -15,7 +15,7 @@ import zlib
 from html import escape
 from pathlib import Path
 
-from bajofeki import Columns, Kind, Lexer, Places, Rule, RulesError, RulesErrorKind, check, dot
+from bajofeki import Columns, Kind, Lexer, Places, RulesError, RulesErrorKind, check, dot
 from bajofeki_server import ERROR, RULE, findings, least_text
 from bajofeki_words import kind_of
 
@@ -133,9 +133,9 @@ def put(lines, start, text, end):
 def text_page(rules, rules_name, data, name):
     """The page of a text, and the status."""
     lexer, data = Lexer(rules), data[3 * data.startswith(b"\xef\xbb\xbf") :]
-    named = [it._replace(actions=()) for it in lexer.rules]
+    named = [(it.name, it.is_skipped) for it in lexer.rules]
     numbers = {rule: number for number, rule in enumerate(dict.fromkeys(named))}
-    kinds = {rule: "skipped, " * rule.is_skipped + kind_of(rule.name) for rule in numbers}
+    kinds = {rule: "skipped, " * rule[1] + kind_of(rule[0]) for rule in numbers}
     lines, faults, counts, stack, places = [[]], [], dict.fromkeys(numbers, 0), [(lexer.modes[0], None)], Places(data)
     for piece in lexer.items(data):
         place, text = places.at(piece.start), piece.text.decode("utf-8", "surrogateescape")
@@ -145,16 +145,16 @@ def text_page(rules, rules_name, data, name):
             put(lines, f'<mark id="F{len(faults)}" title="{FAULTS[piece.kind]} {where}">', text, "</mark>")
             continue
         counts[(rule := named[piece.number])] += 1
-        put(lines, f'<span class="r{numbers[rule]}" title="{rule.name}, {kinds[rule]}, {where}">', text, "</span>")
+        put(lines, f'<span class="r{numbers[rule]}" title="{rule[0]}, {kinds[rule]}, {where}">', text, "</span>")
         act(stack, lexer.rules[piece.number].actions, place)
-    skipped = sum(counts[rule] for rule in counts if rule.is_skipped)
+    skipped = sum(counts[rule] for rule in counts if rule[1])
     parts = [f"<small>Tokens: {sum(counts.values()):,}, skipped: {skipped:,}, faults: {len(faults):,}, by {shown(rules_name)}</small>\n"]
     if len(stack) > 1:
         mode, place = stack[-1]
         parts.append(f'<p class="box bad">The text ends in mode {mode}, entered at {LINK.format(f"L{place.line}", *place)}.</p>\n')
     parts += [f'<ul class="box bad">{"".join(faults)}</ul>\n'] * bool(faults)
     row = '<li><b class="r{}">{}</b> <span class="quiet">{}</span> <span>{:,}</span></li>\n'
-    rows = (row.format(numbers[it], it.name, kinds[it], counts[it]) for it in sorted(numbers, key=lambda it: -counts[it]))
+    rows = (row.format(numbers[it], it[0], kinds[it], counts[it]) for it in sorted(numbers, key=lambda it: -counts[it]))
     parts += ['<details open><summary>Rules, with how many tokens each has</summary>\n<ul class="legend">', *rows, "</ul></details>\n"]
     return page(name, numbers, [*parts, "<h2>Text</h2>\n", numbered(lines)]), int(len(stack) > 1 or bool(faults))
 
@@ -184,7 +184,7 @@ def check_page(rules, name):
     html = [shown(it) for it in lines]
     for at, rule in read:
         is_skipped = rule[2].split()[:1] == ["skip"]
-        number, word = numbers.setdefault(Rule(rule[1], is_skipped), len(numbers)), least_text(lines, rule[3])
+        number, word = numbers.setdefault((rule[1], is_skipped), len(numbers)), least_text(lines, rule[3])
         front, rest, least = shown(lines[at][: rule.start(1)]), shown(lines[at][rule.end(1) :]), "no text" if word is None else quoted(word)
         html[at] = f'<small>{least}</small>{front}<b class="r{number}">{rule[1]}</b>{rest}'
     return page(name, numbers, [*parts, "<h2>Rules, each with its least text</h2>\n", numbered(html)]), int(bool(said))

@@ -240,11 +240,14 @@ class Places:
 
 
 class Lexer:
-    """A lexer of a file of rules, which is a str or bytes. Threads may share it. `rules` are its rules, in the order of their lines.
+    """A lexer of a file of rules, which is a str or bytes. Threads may share it. `rules` are its rules, in the order of their lines, and
+    `modes` the names of its modes, numbered from 0, in the order in which the file first names them.
 
-    >>> lexer = Lexer("A = 'a'\\nSPACE skip = ' '\\n")
+    >>> lexer = Lexer("A push B = 'a'\\n[B]\\nSPACE skip = ' '\\n")
     >>> lexer.rules
-    (Rule(name='A', is_skipped=False, actions=()), Rule(name='SPACE', is_skipped=True, actions=()))
+    (Rule(name='A', is_skipped=False, actions=(Action(kind='push', mode='B'),)), Rule(name='SPACE', is_skipped=True, actions=()))
+    >>> lexer.modes
+    ('INITIAL', 'B')
 
     Copies and pickles of a lexer, and of one of a subclass, are built of its rules.
 
@@ -258,6 +261,7 @@ class Lexer:
     ('mine', [1, 0, None], <Named of 2 rules>)
     """
 
+    modes: Tuple[str, ...]
     rules: Tuple[Rule, ...]
 
     def __init__(self, rules):
