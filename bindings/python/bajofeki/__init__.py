@@ -18,8 +18,8 @@ from ctypes import create_string_buffer
 from typing import NamedTuple, Optional, Tuple, Union
 
 from . import _library
-from ._library import LIBRARY, Piece as _Piece, Room as _Room, Text as _Text, actions as _actions, name as _name, word as _word
-from ._library import written as _written
+from ._library import LIBRARY, Piece as _Piece, Room as _Room, Text as _Text
+from ._library import actions as _actions, name as _name, word as _word, written as _written
 
 __all__ = """Action Arrays Change Checked Columns Document Item Kind Lexer NotUtf8Error Outcome Piece Place Places Rule RulesError RulesErrorKind
     Stream check diff dot""".split()
