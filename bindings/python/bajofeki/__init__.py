@@ -21,8 +21,8 @@ from . import _library
 from ._library import LIBRARY, Piece as _Piece, Room as _Room, Text as _Text
 from ._library import actions as _actions, name as _name, word as _word, written as _written
 
-__all__ = """Action Arrays Change Checked Columns Document Item Kind Lexer NotUtf8Error Outcome Piece Place Places Rule RulesError RulesErrorKind
-    Stream check diff dot""".split()
+__all__ = """Action Arrays Change Checked Columns Document Item Kind Lexer NotUtf8Error Outcome Piece Place Places Rule RulesError
+    RulesErrorKind Stream check diff dot""".split()
 
 _DONE, _BAD_RANGE, _BAD_NAME, _FULL, _NOT_UTF8, _TOO_DEEP, _TOO_LARGE, _OUT_OF_MEMORY, _ENDED, _BAD_ARGUMENT = 0, 1, 1, 2, 3, 4, 6, 7, 8, 10
 _NO_RULE = 4
