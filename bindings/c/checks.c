@@ -139,6 +139,26 @@ static void check_pages(const bajofeki_lexer *lexer, const char *text, size_t le
     CHECK(bajofeki_lexer_modes(lexer) > 0 && bajofeki_lexer_lookahead(lexer, 0).code <= BAJOFEKI_UNBOUNDED);
 }
 
+/* The names of the modes, with an array that is too small too, and what the rules do to the stack. */
+static void check_modes(const bajofeki_lexer *lexer) {
+    size_t modes = bajofeki_lexer_modes(lexer), length;
+    for (size_t mode = 0; mode <= modes; mode++) {
+        char all[64] = {0}, part[64] = {0};
+        length = bajofeki_lexer_mode_name(lexer, mode, all, sizeof all);
+        CHECK((length > 0) == (mode < modes) && length < sizeof all && strlen(all) == length);
+        CHECK(bajofeki_lexer_mode_name(lexer, mode, part, length / 2) == length);
+        CHECK(strlen(part) == length / 2 && memcmp(all, part, length / 2) == 0);
+    }
+    for (size_t rule = 0; rule <= bajofeki_lexer_rules(lexer); rule++) {
+        bajofeki_action_t action = bajofeki_lexer_action(lexer, rule, 0);
+        for (size_t place = 1; action.kind != BAJOFEKI_NO_ACTION; place++) {
+            CHECK(rule < bajofeki_lexer_rules(lexer) && action.mode < modes);
+            CHECK(action.kind <= BAJOFEKI_PUSH || (action.kind == BAJOFEKI_POP && action.mode == 0));
+            action = bajofeki_lexer_action(lexer, rule, place);
+        }
+    }
+}
+
 static bajofeki_page_t rust_source(const bajofeki_lexer *lexer, const char *prefix, size_t length, char *out, size_t room) {
     CHECK(length == strlen(prefix));
     return bajofeki_lexer_rust_source(lexer, out, room);
@@ -680,6 +700,7 @@ static void check_files(const char *rules_path, const char *text_path, uint32_t 
         spoil(rules, rules_length, seed);
         for (int i = 0; i < 4 && bajofeki_lexer_report(lexer).code == BAJOFEKI_BUILT; i++) {
             check_arguments(lexer);
+            check_modes(lexer);
             check_pages(lexer, text, length);
             check_sums(lexer, text, length, rooms[i]);
             spoil(text, length, seed + (uint32_t)i);
