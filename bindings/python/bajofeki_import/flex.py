@@ -1,24 +1,23 @@
 r"""The rules and start conditions of a flex file.
 
->>> text = '%x STR\nD [0-9]\n%%\n{D}+ return NUMBER;\n\\" BEGIN(STR);\n<STR>{\n[^"]+ return TEXT;\n\\" BEGIN(0);\n<<EOF>> fail();\n}\n^#.* |\n[ \\n] ;\n'
+>>> text = '%x STR\nD [0-9]\n%%\n{D}+ return NUMBER;\n\\" BEGIN(STR);\n<STR>{\n[^"]+ return TEXT;\n\\" BEGIN(0);\n}\n^#.* |\n[ \\n] ;\n'
 >>> print(rules_in(text, "a.l").text(), end="")
-# a.l:9: at the end of a text flex runs code here
 # Where flex takes a byte that isn't ASCII, these rules take a character.
 D part = /[0-9]/
 <BLANKLINE>
 [INITIAL STR]
 <BLANKLINE>
 [INITIAL]
-NUMBER = 7 /{D}+/
-RULE_5 skip mode STR = 6 "\""
+NUMBER = 6 /{D}+/
+RULE_5 skip mode STR = 5 "\""
 <BLANKLINE>
 [STR]
-TEXT = 5 /[^"]+/
-RULE_8 skip mode INITIAL = 4 "\""
+TEXT = 4 /[^"]+/
+RULE_8 skip mode INITIAL = 3 "\""
 <BLANKLINE>
 [INITIAL]
-# a.l:11: left out: ^#.*: ^ asks for the beginning of a line
-RULE_12 skip = 1 /[\n ]/
+# a.l:10: left out: ^#.*: ^ asks for the beginning of a line
+RULE_11 skip = 1 /[\n ]/
 """
 import re
 from collections import namedtuple
@@ -126,11 +125,9 @@ def rules_in(text, source):
             left, text = rule.left or meaning.left, rule.tree and said(rule.tree, own)
         except Unsayable as reason:
             left, text = str(reason), ""
-        # Every lexer ends its scan at the end of a text. A state that is entered there is that of no text.
-        if rule.what != "<<EOF>>" or meaning.goes_on or meaning.names and not meaning.is_end:
+        # Every lexer ends its scan at the end of a text.
+        if rule.tree or not meaning.is_end:
             found.append((precedence, rule, meaning, left, text))
-        elif not meaning.is_end:
-            rules.comment(f"{source}:{rule.line}: at the end of a text flex runs code here")
         parts = parts if left else own
     rules.comment("Where flex takes a byte that isn't ASCII, these rules take a character.")
     rules.lines += [f"{name} part = /{pattern}/" for name, pattern in parts.items()]

@@ -25,12 +25,12 @@ TOKEN = re.compile(r"//[^\n]*|/\*.*?\*/|(\"(?:\\.|[^\"\\])*\"|'(?:\\.|[^'\\])*'|
 CUT = re.compile(r"\b(?:REJECT\b|(?:yymore|yyless|yyunput|unput|yyinput|input)(?= \())")
 STATE = re.compile(r"\b(BEGIN|yy_push_state|yy_pop_state|yy_start)\b")
 CHANGE = re.compile(r"BEGIN \(? ?(\w+) ?\)?|yy_push_state \( (\w+)(?: ,.*)? \)|yy_pop_state \(.*\)")
-OTHER_TEXT = re.compile(r"\b(?:yy_switch_to_buffer|yypush_buffer_state|yypop_buffer_state|yyrestart|yy_scan_\w+|YY_NEW_FILE)\b|\byyin =(?! =)")
+OTHER_TEXT = re.compile(r"\b(yy_switch_to_buffer|yypush_buffer_state|yypop_buffer_state|yyrestart|yy_scan_\w+)\b")
 COUNT = re.compile(r"(?:\+\+ )?(?:\w+ (?:\.|->) )*\w*line\w*(?: \+\+| \+ = \w+)?|continue|break|leave|", re.I)
 RETURNED = re.compile(r"return (?:\( (?:.* , )?)?(?:\w+ :: )*(?:(?!make_)([A-Za-z_]\w*)|make_(\w+) \(.*\)|'(.+)')(?: \))?")
 END = re.compile(r"yyterminate \( \)|return(?: \( (?:- )?\d+ \)| (?:- )?\d+)?")
 # What an action does. One that `is_idle` gives no token, and one that `is_end` only ends the scan or hands on that it ends; `left` is why no
-# rule says it. If it `goes_on`, what is matched next isn't what stands next in the text.
+# rule says it. If it `goes_on`, another text comes first, and then the rest of this one.
 Meaning = namedtuple("Meaning", "changes names is_idle is_end left goes_on")
 
 
@@ -152,5 +152,5 @@ class Code:
             may_end = may_end or bool(re.match("return|goto|break|continue|yyterminate" + "|leave" * (not is_sure), text))
             if is_sure and may_end:
                 break
-        goes_on = any(OTHER_TEXT.search(text) or CUT.search(text) for text, _ in found)
+        goes_on = any(OTHER_TEXT.search(text) for text, _ in found)
         return Meaning(changes, names, is_idle, is_end and not (changes or left or goes_on), left, goes_on)
