@@ -16,13 +16,13 @@ use Rattle.std.specs.List.{All, Contains}
 use Rattle.std.proofs.lemmas.List.Elements.{All-nil, All-cons}
 use Rattle.lalrpop_dense.specs.declared.self_loop.SelfLoop.{SelfLoop}
 use Rattle.lalrpop_dense.specs.Internal.Fused.{IsRow, EndsBefore, IsFusedOf, StaysOn}
-use Rattle.lalrpop_dense.specs.Leading.{IsEnd, AreAhead, last_end}
+use Rattle.lalrpop_dense.specs.Leading.{IsEnd, IsStopped, AreAhead, last_end}
 use Rattle.lalrpop_dense.specs.Internal.Marks.{IsMark, AreMarks, named, ends_of}
 use Rattle.lalrpop_dense.specs.Internal.Reading.{ReadsChar, found}
 use Rattle.lalrpop_dense.specs.declared.table.Layout.{Layout}
 use Rattle.lalrpop_dense.specs.declared.fused.Fused.{Fused}
 use Rattle.lalrpop_dense.specs.declared.mark.Mark.{Mark}
-use Rattle.lalrpop_dense.proofs.Walks.{IsWalked, walked_more, walk_accepts, walk_rejects, class_below}
+use Rattle.lalrpop_dense.proofs.Walks.{IsWalked, walked_more, walk_accepts, walk_rejects, walk_stopped, class_below}
 
 -- from `begin` on n bytes were read, and this is the fused row that they lead to
 pub record IsOpen (f : Fused) (t : Layout) (d : List Row) (text : List ℕ) (begin n row : ℕ) : Type 0 where
@@ -148,6 +148,10 @@ mark_of f t cells d text base place begin n row class c at at2 h k wf o b r e th
           (subst (λ (m : ℕ). IsLongest ts ps left (Some (get_or cells (o.origin + t.width) 0, take m left))) (sym size)
           (walk_rejects t cells d left n n2 o.origin (get_or cells (o.origin + class) 0) c (Some (found t cells left (o.origin, n))) h o.walked w2 read ends.dead ts ps s
           (walk_accepts t cells d left n o.origin h o.walked some ends.live ends.accepts ts ps s)));
+      stopped =
+          subst (λ (m : ℕ). IsStopped d (chars (take m left)) (drop at text)) (sym size)
+          (subst (IsStopped d (chars (take n left))) (drop-drop n begin text ∙ ap (λ (k : ℕ). drop k text) (sym e))
+          (walk_stopped t cells d left n n2 o.origin (get_or cells (o.origin + class) 0) c h o.walked w2 read ends.dead));
     } in
     record { within = right.within; ends = subst (IsEnd d text begin (get_or (numbers_of f.cells) (row + t.width) 0)) (sym there) ends_here }
 

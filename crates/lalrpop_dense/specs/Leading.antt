@@ -1,16 +1,28 @@
 -- cases: proofs/Cases/Leading.antt
 -- Matches that lead from one place of a text to another.
-use Rattle.std.specs.Prelude.{ℕ, ◌-◌, ◌<◌, List, [], ◌∷◌, take, drop, Some}
-use Rattle.std.specs.Str.{IsCharBoundary}
+use Rattle.std.specs.Prelude.{◌≡◌, ℕ, ◌-◌, ◌<◌, List, [], ◌∷◌, ◌++◌, take, drop, Some}
+use Rattle.std.specs.Char.{encode_utf8}
+use Rattle.std.specs.Str.{IsCharBoundary, chars}
 use Rattle.lalrpop_hir.specs.Tree.{Tree}
 use Rattle.lalrpop_hir.specs.Longest.{IsLongest}
+use Rattle.lalrpop_hir.specs.Winners.{Matched}
+use Rattle.lalrpop_hir.specs.Word.{IsWord}
 use Rattle.lalrpop_dfa.specs.Dfa.{Row, Recognizes}
 
--- the longest match of the text from the place on is by this pattern, and ends there
+-- a character follows the word, and no tree matches a word that begins with both
+pub record IsStopped (d : List Row) (word left : List ℕ) : Type 0 where
+  pub next : ℕ
+  pub rest : List ℕ
+  pub scalar : next < 1114112
+  pub split : left ≡ encode_utf8 next ++ rest
+  pub stops : (ts : List Tree) (ps v : List ℕ) → Recognizes d ts ps → IsWord v → ¬ Matched ts (word ++ (next ∷ v))
+
+-- the longest match of the text from the place on is by this pattern, and ends there; the character after it settles that
 pub record IsEnd (d : List Row) (text : List ℕ) (at index end : ℕ) : Type 0 where
   pub some : at < end
   pub boundary : IsCharBoundary text end
   pub longest : (ts : List Tree) (ps : List ℕ) → Recognizes d ts ps → IsLongest ts ps (drop at text) (Some (index, take (end - at) (drop at text)))
+  pub stopped : IsStopped d (chars (take (end - at) (drop at text))) (drop end text)
 
 -- one match after another from the place on: of each the pattern, and where it ends
 abbrev pub AreAhead : List Row → List ℕ → ℕ → List (ℕ × ℕ) → Type 0

@@ -170,8 +170,8 @@ impl DenseDfa {
     /// They replace those that were ahead. Returns how many bytes were read in vain after the last end: those of the characters
     /// that begin within the limit. A step is counted for each character read, and for each byte that is skipped.
     ///
-    /// Each is the end of the longest match where the token before it ends, with the strongest pattern that matches it. None may
-    /// be found although a pattern matches: then `longest` tells.
+    /// Each is the end of the longest match where the token before it ends, with the strongest pattern that matches it. The character
+    /// after it settles that, whatever comes after that character. None may be found although a pattern matches: then `longest` tells.
     pub fn find_ends(
         &self,
         text: &str,
