@@ -1,16 +1,15 @@
 -- The run of a table along a text: what holds after each character.
-use Rattle.std.proofs.Common.{◌≡◌, ℕ, ◌+◌, ◌*◌, ◌/◌, ◌%◌, ◌≢◌, ◌<◌, ◌≤◌, inl, inr, List, [], ◌∷◌, ◌++◌, length, take, drop, get_or, refl, sym, ap, subst, ◌∙◌, arith, ◌-◌, min}
+use Rattle.std.proofs.Common.{◌≡◌, ℕ, ◌+◌, ◌*◌, ◌/◌, ◌%◌, ◌≢◌, ◌<◌, ◌≤◌, inl, inr, List, [], length, take, drop, get_or, refl, sym, ap, subst, ◌∙◌, arith, ◌-◌, min}
 use Rattle.std.specs.Prelude.{slice_get, Option, Some, None, IfSome}
 use Rattle.std.specs.Str.{chars, IsUtf8, IsCharBoundary}
-use Rattle.std.proofs.lemmas.List.{append_assoc, get_or_read}
+use Rattle.std.proofs.lemmas.List.{get_or_read}
 use Rattle.std.proofs.lemmas.Option.{slice_get_cases}
 use Rattle.std.proofs.lemmas.Str.{chars-nil, len_utf8_bounds, length-encode, IsCharBoundary-from_take}
 use Rattle.lalrpop_hir.specs.Tree.{Tree}
 use Rattle.lalrpop_hir.proofs.Cuts.{IsCut, cut_start, cut_within, cut_more, count_more, count_within, word_after}
 use Rattle.lalrpop_dfa.specs.Dfa.{Row, step, after, Recognizes, IsRightKind, IsWellFormed}
 use Rattle.lalrpop_hir.specs.Longest.{IsLongest}
-use Rattle.lalrpop_hir.specs.Winners.{Matched}
-use Rattle.lalrpop_dense.specs.Leading.{IsStopped}
+use Rattle.lalrpop_dense.specs.Leading.{IsDeadEnd, IsStopped}
 use Rattle.lalrpop_dfa.specs.declared.Kind.{Kind}
 use Rattle.lalrpop_dfa.specs.declared.Kind.TheVariants.{Accepts, Reject, Neither}
 use Rattle.lalrpop_dfa.proofs.AfterLaws.{after_push}
@@ -141,23 +140,24 @@ walk_rejects t cells d text at at2 state state2 c best h w w2 read low ts ps s u
     (longest_pass ts ps text (drop at text) (drop at2 text) at at2 c best w.cut read.split read.place
     (says t d text at2 state2 Reject ts ps r.0 w2.cut.seen_utf8 r.1.0 kind s) up)
 
--- so whatever follows that character, what matches is settled
+-- so no tree matches a word that goes on from there
+pub walk_dead : (t : Layout) (cells : List ℕ) (d : List Row) (text : List ℕ) (at state : ℕ) → IsTableOf t cells d → IsWalked t d text at state → state < t.live
+    → IsDeadEnd d (chars (take at text))
+walk_dead t cells d text at state h w low = λ ts ps v s more.
+    let p = after d (chars (take at text)) in
+    let r = row_at t cells d text at state h w in
+    none_after d ts ps (chars (take at text)) v p (text_word (take at text) w.cut.seen_utf8) more s refl (reject_at d p r.0 r.0.kind r.1.0 refl (kind_reject t cells state r.0.kind r.1.1 low))
+
+-- and the character that leads there settles what matches before it
 pub walk_stopped : (t : Layout) (cells : List ℕ) (d : List Row) (text : List ℕ) (at at2 state state2 c : ℕ) → IsTableOf t cells d → IsWalked t d text at state
     → IsWalked t d text at2 state2 → ReadsChar text at at2 c → state2 < t.live → IsStopped d (chars (take at text)) (drop at text)
-walk_stopped t cells d text at at2 state state2 c h w w2 read low =
-    let p = after d (chars (take at2 text)) in
-    let r = row_at t cells d text at2 state2 h w2 in
-    let kind : r.0.kind ≡ Reject = kind_reject t cells state2 r.0.kind r.1.1 low in
-    let word : chars (take at2 text) ≡ chars (take at text) ++ c ∷ [] = word_after text (drop at text) (drop at2 text) at at2 c w.cut read.split read.place in
-    record {
-      next = c;
-      rest = drop at2 text;
-      scalar = read.scalar;
-      split = read.split;
-      stops = λ ts ps v s more.
-          subst (λ (u : List ℕ). ¬ Matched ts u) (ap (λ (u : List ℕ). u ++ v) word ∙ append_assoc (chars (take at text)) (c ∷ []) v)
-          (none_after d ts ps (chars (take at2 text)) v p (text_word (take at2 text) w2.cut.seen_utf8) more s refl (reject_at d p r.0 r.0.kind r.1.0 refl kind));
-    }
+walk_stopped t cells d text at at2 state state2 c h w w2 read low = record {
+  next = c;
+  rest = drop at2 text;
+  scalar = read.scalar;
+  split = read.split;
+  dead = subst (IsDeadEnd d) (word_after text (drop at text) (drop at2 text) at at2 c w.cut read.split read.place) (walk_dead t cells d text at2 state2 h w2 low);
+}
 
 pub walk_ends : (t : Layout) (d : List Row) (text : List ℕ) (at state : ℕ) (best : Option (ℕ × List ℕ)) → IsWalked t d text at state → length text ≤ at
     → (ts : List Tree) (ps : List ℕ) → IsLongestUpTo ts ps text at best → IsLongest ts ps text best

@@ -9,13 +9,22 @@ use Rattle.lalrpop_hir.specs.Winners.{Matched}
 use Rattle.lalrpop_hir.specs.Word.{IsWord}
 use Rattle.lalrpop_dfa.specs.Dfa.{Row, Recognizes}
 
--- a character follows the word, and no tree matches a word that begins with both
+-- no tree matches a word that begins with this one
+abbrev pub IsDeadEnd : List Row → List ℕ → Type 0
+IsDeadEnd d word = (ts : List Tree) (ps v : List ℕ) → Recognizes d ts ps → IsWord v → ¬ Matched ts (word ++ v)
+
+-- the characters in the first n bytes of the text are such a word
+pub record IsDeadAt (d : List Row) (text : List ℕ) (n : ℕ) : Type 0 where
+  pub boundary : IsCharBoundary text n
+  pub dead : IsDeadEnd d (chars (take n text))
+
+-- a character follows the word, and with it the word is a dead end
 pub record IsStopped (d : List Row) (word left : List ℕ) : Type 0 where
   pub next : ℕ
   pub rest : List ℕ
   pub scalar : next < 1114112
   pub split : left ≡ encode_utf8 next ++ rest
-  pub stops : (ts : List Tree) (ps v : List ℕ) → Recognizes d ts ps → IsWord v → ¬ Matched ts (word ++ (next ∷ v))
+  pub dead : IsDeadEnd d (word ++ next ∷ [])
 
 -- the longest match of the text from the place on is by this pattern, and ends there; the character after it settles that
 pub record IsEnd (d : List Row) (text : List ℕ) (at index end : ℕ) : Type 0 where

@@ -1,6 +1,6 @@
 //! An automaton with a table beside it.
 
-ghost use Rattle.std.specs.Prelude.{◌≡◌, ◌≢◌, ℕ, ◌+◌, ◌≤◌, [], length, List, IfOk, IfSome, MatchOption};
+ghost use Rattle.std.specs.Prelude.{◌≡◌, ◌≢◌, ℕ, ◌+◌, ◌<◌, ◌≤◌, [], length, List, IfOk, IfSome, MatchOption};
 ghost use Rattle.std.specs.Option.{option_map};
 ghost use Rattle.std.specs.Str.{IsCharBoundary, chars};
 ghost use Rattle.lalrpop_hir.specs.Tree.{Tree};
@@ -8,7 +8,7 @@ ghost use Rattle.lalrpop_hir.specs.Prefix.{IsPrefix};
 ghost use Rattle.lalrpop_dfa.specs.Dfa.{Recognizes};
 ghost use Rattle.lalrpop_dfa.specs.Lookahead.{ReadsAtMost};
 ghost use Rattle.lalrpop_hir.specs.Longest.{IsLongest};
-ghost use Rattle.lalrpop_dense.specs.Leading.{AreAhead, last_end};
+ghost use Rattle.lalrpop_dense.specs.Leading.{AreAhead, IsDeadAt, last_end};
 ghost use Rattle.lalrpop_dense.specs.DenseTable.{AreAlikeInClasses, IsTableFor, table_numbers};
 ghost use Rattle.lalrpop_dense.specs.Internal.Fused.{IsFusedOf, IsTable};
 ghost use Rattle.lalrpop_dense.specs.Internal.Table.{HasClasses};
@@ -131,7 +131,8 @@ impl DenseDfa {
     }
 
     /// The longest match at the start of the text, if the characters that begin within the first `limit` bytes settle it. `None`
-    /// if they don't, or if there is no table. A step is counted for each character read: at most `limit` in all.
+    /// if they don't, or if there is no table. If the text goes on after what was read, the match is settled whatever comes there. A
+    /// step is counted for each character read: at most `limit` in all.
     #[inline(always)]
     pub fn longest_within<'text>(
         &self,
@@ -150,6 +151,9 @@ impl DenseDfa {
             (λ m. steps.new ≤ steps.old + length (chars m.1.now) + s.past)) }
         ensures read { IfSome result (λ s. IfSome s.longest (λ m.
             steps.old + length (chars m.1.now) ≤ steps.new)) }
+        ensures dead { IfSome result (λ s. IfSome s.longest (λ m.
+            length m.1.now + s.past < length text.now
+            → IsDeadAt self.now text.now (length m.1.now + s.past))) }
         ensures within { IfSome result (λ s. MatchOption s.longest (s.past ≤ length text.now)
             (λ m. length m.1.now + s.past ≤ length text.now)) }
     {

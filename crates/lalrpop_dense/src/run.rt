@@ -9,6 +9,7 @@ ghost use Rattle.lalrpop_hir.specs.Prefix.{IsPrefix};
 ghost use Rattle.lalrpop_dfa.specs.Dfa.{Recognizes};
 ghost use Rattle.lalrpop_dfa.specs.Lookahead.{ReadsAtMost};
 ghost use Rattle.lalrpop_hir.specs.Longest.{IsLongest};
+ghost use Rattle.lalrpop_dense.specs.Leading.{IsDeadAt};
 ghost use Rattle.lalrpop_dense.specs.Internal.Table.{HasClasses, IsTableOf, class_of};
 ghost use Rattle.lalrpop_dense.specs.Internal.Reading.{ReadsChar, IsPlace, PaysPast, found};
 
@@ -75,6 +76,8 @@ fn walk<C: Cells>(
         → result.is_settled ≡ true → IsLongest ts ps text.now
         (option_map (found layout.now (C.numbers cells.now) text.now) result.longest) }
     ensures settled { limit ≡ length text.now → result.is_settled ≡ true }
+    ensures dead { result.at < length text.now → result.is_settled ≡ true
+        → IsDeadAt dfa.now text.now result.at }
     ensures place { IfSome result.longest
         (IsPlace layout.now (C.numbers cells.now) text.now) }
     ensures never_falls { steps.old ≤ steps.new }
@@ -175,6 +178,9 @@ pub(crate) fn longest_within_by<'text, C: Cells>(
         (λ m. steps.new ≤ steps.old + length (chars m.1.now) + s.past)) }
     ensures read { IfSome result (λ s. IfSome s.longest (λ m.
         steps.old + length (chars m.1.now) ≤ steps.new)) }
+    ensures dead { IfSome result (λ s. IfSome s.longest (λ m.
+        length m.1.now + s.past < length text.now
+        → IsDeadAt dfa.now text.now (length m.1.now + s.past))) }
     ensures within { IfSome result (λ s. MatchOption s.longest (s.past ≤ length text.now)
         (λ m. length m.1.now + s.past ≤ length text.now)) }
 {

@@ -1,5 +1,6 @@
-use Rattle.std.proofs.Common.{◌≡◌, ℕ, ◌+◌, ◌-◌, ◌∙◌, take, get_or, ap, arith}
+use Rattle.std.proofs.Common.{◌≡◌, ℕ, ◌+◌, ◌-◌, ◌∙◌, length, take, get_or, subst, ap, arith}
 use Rattle.std.proofs.lemmas.Bool.{not-false}
+use Rattle.lalrpop_dense.specs.Leading.{IsDeadAt}
 use Rattle.lalrpop_dense.proofs.run.longest_within_by.Goals as goal
 
 pub returns-in-Some-clause-answer : goal.returns-in-Some-clause-answer
@@ -24,3 +25,10 @@ pub returns-in-Some-clause-within : goal.returns-in-Some-clause-within
 returns-in-Some-clause-within g c =
     let past = rw c.in-Some.is at c.walk-stop.ensures.past in
     omega (arith, past.0, c.range.ensures.len, c.walk-stop.ensures.within)
+
+pub returns-in-Some-clause-dead : goal.returns-in-Some-clause-dead
+returns-in-Some-clause-dead g c = λ inside.
+    let past = rw c.in-Some.is at c.walk-stop.ensures.past in
+    let sum : c.walk-stop.result.at ≡ length c.range.result.now + (c.walk-stop.result.at - c.in-Some.end) = omega (arith, past.0, c.range.ensures.len) in
+    subst (IsDeadAt c.args.dfa.now c.args.text.now) sum
+    (c.walk-stop.ensures.dead (omega (arith, sum, inside)) (not-false c.walk-stop.result.is_settled c.if-not-stop.false))

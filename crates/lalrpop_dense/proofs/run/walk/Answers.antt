@@ -6,7 +6,7 @@ use Rattle.std.proofs.lemmas.Str.{chars-nil}
 use Rattle.lalrpop_hir.proofs.Cuts.{cut_within}
 use Rattle.lalrpop_dfa.proofs.LongestLemmas.{longest_start}
 use Rattle.lalrpop_dense.specs.Internal.Reading.{found}
-use Rattle.lalrpop_dense.proofs.Walks.{walked_start, walked_more, in_row, walked_on, walked_boundary, walk_accepts, walk_place, walk_passes, walk_rejects, walk_ends, walk_counts, walk_count, walk_trail, walk_trails, past_more, past_of}
+use Rattle.lalrpop_dense.proofs.Walks.{walked_start, walked_more, in_row, walked_on, walked_boundary, walk_accepts, walk_place, walk_passes, walk_rejects, walk_dead, walk_ends, walk_counts, walk_count, walk_trail, walk_trails, past_more, past_of}
 use Rattle.lalrpop_dfa.proofs.Trails.{some_read, trail_cost, still_pays}
 use Rattle.lalrpop_dense.proofs.run.walk.Goals as goal
 
@@ -152,3 +152,16 @@ returns-then-state-layout-clause-within g c =
 
 pub returns-clause-within : goal.returns-clause-within
 returns-clause-within g c = omega (arith, cut_within c.args.text.now (drop c.walk.at c.args.text.now) c.walk.at c.walk.invariant.walked.cut)
+
+pub returns-then-state-layout-clause-dead : goal.returns-then-state-layout-clause-dead
+returns-then-state-layout-clause-dead g c = λ inside settled.
+    let read = c.read_class-class.ensures in
+    let w2 = walked_more c.args.layout.now (g.C.Cells.numbers c.args.cells.now) c.args.dfa.now c.args.text.now c.walk.at c.read_class-class.new.at c.walk.state c.at-state.result c.read_class-class.result read.0
+    c.requires.table c.states-states.ensures.well_formed c.utf8.text c.walk.invariant.walked read.1.0 read.1.1 c.at-state.ensures in
+    record {
+      boundary = walked_boundary c.args.layout.now c.args.dfa.now c.args.text.now c.read_class-class.new.at c.at-state.result c.utf8.text w2;
+      dead = walk_dead c.args.layout.now (g.C.Cells.numbers c.args.cells.now) c.args.dfa.now c.args.text.now c.read_class-class.new.at c.at-state.result c.requires.table w2 c.if-state-layout.true;
+    }
+
+pub returns-clause-dead : goal.returns-clause-dead
+returns-clause-dead g c = λ inside settled. absurd (omega (arith, leb-true (length c.args.text.now) c.walk.at settled, inside))
