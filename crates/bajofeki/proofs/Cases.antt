@@ -9,6 +9,7 @@ mod Walking
 mod Noted
 mod Parts
 mod Held
+mod Ahead
 mod Costs
 mod Markup
 mod Places

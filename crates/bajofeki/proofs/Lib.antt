@@ -50,6 +50,8 @@ pub mod BytesLaws
 pub mod Voids
 pub mod FrontLaws
 pub mod PartLaws
+-- tokens that are found ahead
+pub mod AheadLaws
 pub mod Held
 -- a text shown as markup: its runs, what begins and ends tags, entities and sequences, and how it is read back
 pub mod Characters

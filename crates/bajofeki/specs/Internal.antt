@@ -14,5 +14,6 @@ pub mod Walking
 pub mod Noted
 pub mod Held
 pub mod Parts
+pub mod Ahead
 pub mod Paying
 pub mod Colours

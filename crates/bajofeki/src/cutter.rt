@@ -1,6 +1,6 @@
 //! What a text is cut with, beside the rules.
 
-ghost use Rattle.std.specs.Prelude.{◌≡◌, ℕ, ◌<◌, List, slice_get, Some, IfOk, OnOk};
+ghost use Rattle.std.specs.Prelude.{◌≡◌, ℕ, ◌<◌, List, slice_get, Some, IfOk, IfSome, IsSome, OnOk};
 ghost use Rattle.lalrpop_dfa.specs.Dfa.{Row};
 ghost use Rattle.lalrpop_rules.specs.Modes.{ModeRules};
 ghost use Rattle.bajofeki.specs.Internal.Noted.{IsCutter};
@@ -45,4 +45,24 @@ impl<'a> Cutter<'a> {
     {
         self.memo = Memo::new(alloc);
     }
+}
+
+/// Keeps a new cutter, which has read nothing, if none is kept.
+///
+/// # Errors
+///
+/// `AllocError` if a request for memory was refused.
+pub(crate) fn keep_cutter<'a>(
+    alloc: Global,
+    kept: &mut Option<Cutter<'a>>,
+    lexer: &'a RuleLexer,
+) -> Result<(), AllocError>
+    ensures some { OnOk result (IsSome kept.new) }
+    ensures ready { (at : ℕ) (text : List ℕ) → IfSome kept.old (λ c. IsCutter lexer.now c at text)
+        → IfSome kept.new (λ c. IsCutter lexer.now c at text) }
+{
+    if kept.is_none() {
+        *kept = Some(Cutter::new(alloc, lexer)?);
+    }
+    Ok(())
 }

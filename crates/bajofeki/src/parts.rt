@@ -178,6 +178,7 @@ impl Part {
     pub(crate) fn after(&self, size: usize) -> Option<Part>
         ensures some { IfSome result (λ p. (size ≤ self.now.ends)
             × (p ≡ record { from = 0; ends = self.now.ends - size; is_bad = self.now.is_bad })) }
+        ensures none { IfNone result (self.now.ends < size) }
     {
         if size > self.ends {
             return None;

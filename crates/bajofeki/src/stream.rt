@@ -1,6 +1,6 @@
 //! A text that comes in chunks.
 
-ghost use Rattle.std.specs.Prelude.{◌≡◌, ◌+◌, ◌-◌, ◌++◌, ◌<◌, ◌≤◌, ◌⊎◌, ℕ, Bool, List, [], None, true, false, length, take, drop, vec_len, IfSome, IfNone, IsSome, IfOk, OnOk, OnErr};
+ghost use Rattle.std.specs.Prelude.{◌≡◌, ◌+◌, ◌-◌, ◌++◌, ◌<◌, ◌≤◌, ◌⊎◌, ℕ, Bool, List, [], None, true, false, length, take, drop, vec_len, IfSome, IfNone, IfOk, OnOk, OnErr};
 ghost use Rattle.std.specs.Str.{IsCharBoundary, IsUtf8};
 ghost use Rattle.std.specs.Borrow.{Bor};
 ghost use Rattle.lalrpop_hir.specs.Tree.{Tree};
@@ -18,10 +18,12 @@ ghost use Rattle.bajofeki.specs.Given.{item_by};
 
 use crate::cutter::Cutter;
 use crate::error::EditError;
+use crate::found_ahead::FoundAhead;
 use crate::given_piece::GivenPiece;
 use crate::held_run::{HeldRun, is_open};
 use crate::memo::Memo;
-use crate::parts::{Part, final_front};
+use crate::next_front::next_front;
+use crate::parts::Part;
 use crate::run::longest_settled;
 use crate::walker::Walker;
 use lalrpop_hir::Steps;
@@ -70,6 +72,8 @@ pub struct Stream<'rules> {
     is_ended: bool,
     // What that text is cut with, and what its runs read in vain. None before the first call.
     cutter: Option<Cutter<'rules>>,
+    // Tokens that are found ahead in that text.
+    ahead: FoundAhead,
     // The run from its front, if a piece is held back.
     held: Option<HeldRun<'rules>>,
 }
@@ -78,6 +82,7 @@ impl<'rules> Model for Stream<'rules> {
     ghost use Rattle.std.specs.Prelude.{◌<◌, ◌≤◌, ◌+◌, ◌-◌, length, take, drop, IfSome};
     ghost use Rattle.lalrpop_rules.specs.Modes.{EachMode, trees_in};
     ghost use Rattle.bajofeki.specs.Chunked.{Chunked};
+    ghost use Rattle.bajofeki.specs.Internal.Ahead.{AreFound};
     ghost use Rattle.bajofeki.specs.Internal.ChunkCode.{chunked_code};
     ghost use Rattle.bajofeki.specs.Internal.Held.{IsHeld};
     ghost use Rattle.bajofeki.specs.Internal.Noted.{IsCutter};
@@ -101,24 +106,9 @@ impl<'rules> Model for Stream<'rules> {
         × IsPart (trees_in c.lexer.now c.stack.mode) (drop c.given c.text.items) c.part
         × IfSome c.cutter (λ t. IsCutter c.lexer.now t (c.at + c.part.from)
         (text_in (drop c.given c.text.items) c.part))
+        × AreFound c.lexer.now c.stack.mode (drop c.given c.text.items) c.part c.ahead
         × IfSome c.held (IsHeld c.lexer.now c.stack.mode
         (text_in (drop c.given c.text.items) c.part)) };
-}
-
-// Keeps a new cutter, which has read nothing, if none is kept.
-fn keep_cutter<'a>(
-    alloc: Global,
-    kept: &mut Option<Cutter<'a>>,
-    lexer: &'a RuleLexer,
-) -> Result<(), AllocError>
-    ensures some { OnOk result (IsSome kept.new) }
-    ensures ready { (at : ℕ) (text : List ℕ) → IfSome kept.old (λ c. IsCutter lexer.now c at text)
-        → IfSome kept.new (λ c. IsCutter lexer.now c at text) }
-{
-    if kept.is_none() {
-        *kept = Some(Cutter::new(alloc, lexer)?);
-    }
-    Ok(())
 }
 
 // Whether nothing matches at the front of a text, whatever comes after it: no character, if it is the last.
@@ -155,7 +145,13 @@ fn act_by(
     ensures refused { OnErr result (stack.new ≡ stack.old) }
 {
     match rule {
-        Some(index) => stack.act_all(lexer.actions(index)),
+        Some(index) => {
+            let actions = lexer.actions(index);
+            if actions.is_empty() {
+                return Ok(());
+            }
+            stack.act_all(actions)
+        }
         None => Ok(()),
     }
 }
@@ -208,6 +204,9 @@ fn go_past(
         → (size ≤ part.old.ends → IsCharBoundary (text_in bytes part.old) (size - part.old.from))
         → IsPart ts left.now part.new }
     ensures from { part.new.from ≡ 0 }
+    ensures text { (bytes : List ℕ) → left.now ≡ drop size bytes → IsParted bytes part.old
+        → part.old.from ≡ 0 → size ≤ part.old.ends
+        → text_in left.now part.new ≡ drop size (text_in bytes part.old) }
     ensures cutter { (r : ModeRules) (at : ℕ) (bytes : List ℕ) → left.now ≡ drop size bytes
         → IsParted bytes part.old → part.old.from ≤ size
         → IfSome cutter.old (λ c. IsCutter r c (at + part.old.from) (text_in bytes part.old))
@@ -254,6 +253,7 @@ impl<'rules> Stream<'rules> {
             stack: ModeStack::new(alloc),
             is_ended: false,
             cutter: None,
+            ahead: FoundAhead::new(),
             held: None,
         }
     }
@@ -271,6 +271,7 @@ impl<'rules> Stream<'rules> {
         self.text.extend_from_slice(chunk)?;
         forget(*self.text.allocator(), &mut self.cutter);
         self.part.read_on(&self.text[self.given..]);
+        self.ahead.forget();
         drop_given(&mut self.text, &mut self.given);
         self.last = self.given;
         Ok(())
@@ -351,23 +352,27 @@ impl<'rules> Stream<'rules> {
             return Err(EditError::TooLarge);
         }
         let alloc = *self.text.allocator();
-        keep_cutter(alloc, &mut self.cutter, self.lexer)?;
         let mode = self.stack.top();
-        let found = final_front(
+        let found = next_front(
             alloc,
             self.lexer,
             &mut self.cutter,
             &mut self.held,
+            &mut self.ahead,
             &mut self.part,
             mode,
             self.at,
             rest,
             self.is_ended,
-        );
+        )?;
         let Some(piece) = found else {
             return Ok(None);
         };
-        act_by(self.lexer, piece.rule, &mut self.stack)?;
+        let Ok(()) = act_by(self.lexer, piece.rule, &mut self.stack) else {
+            self.ahead.forget();
+            return Err(EditError::OutOfMemory);
+        };
+        self.ahead.pass(piece.size, self.stack.top() == mode);
         self.held = None;
         let start = self.at;
         self.at = start + piece.size;

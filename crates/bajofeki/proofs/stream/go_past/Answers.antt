@@ -33,3 +33,16 @@ returns-in-Some-clause-cutter c = λ r at bytes left parted from cutter.
 pub returns-in-None-clause-cutter : goal.returns-in-None-clause-cutter
 returns-in-None-clause-cutter c = λ r at bytes left parted from cutter.
     c.forget.ensures.right r (at + c.args.part.now.from) (at + c.args.size) (text_in bytes c.args.part.now) (text_in c.args.left.now c.of.result) cutter
+
+pub returns-in-Some-clause-text : goal.returns-in-Some-clause-text
+returns-in-Some-clause-text c = λ bytes left parted first within.
+    let is = c.in-Some.ensures.some in
+    let p = c.args.part.now in
+    let size = c.args.size in
+    let next : Part = record { from = 0; ends = p.ends - size; is_bad = p.is_bad } in
+    let place : size - p.from ≡ size = omega (arith, first) in
+    ap (λ (t : List ℕ). text_in t c.in-Some.same) left ∙ ap (text_in (drop size bytes)) is.1
+    ∙ left_text bytes p size parted (omega (arith, first)) within ∙ ap (λ (n : ℕ). drop n (text_in bytes p)) place
+
+pub returns-in-None-clause-text : goal.returns-in-None-clause-text
+returns-in-None-clause-text c = λ bytes left parted first within. absurd (omega (arith, c.in-None.ensures.none, within))

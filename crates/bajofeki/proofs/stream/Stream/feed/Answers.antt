@@ -1,4 +1,4 @@
-use Rattle.std.proofs.Common.{◌≡◌, ◌-◌, ◌++◌, take, drop, length, ◌+◌, arith, sym, ap, subst, ◌∙◌}
+use Rattle.std.proofs.Common.{◌≡◌, ◌-◌, ◌++◌, take, drop, length, ◌+◌, arith, inl, sym, ap, subst, ◌∙◌}
 use Rattle.std.specs.Prelude.{IfSome}
 use Rattle.std.specs.Str.{IsUtf8}
 use Rattle.std.proofs.lemmas.List.{drop-append-le}
@@ -30,6 +30,7 @@ invariant_of-self-2 c =
       c.self.invariant.2,
       subst (λ t. IsPart (trees_in r i.stack.mode) t q) (sym left) part,
       c.forget.ensures.right r (i.at + i.part.from) (i.at + q.from) (text_in rest i.part) (text_in (drop dropped.new.given now) q) c.self.invariant.4,
+      inl c.forget-2.ensures.none,
       subst (λ t. IfSome i.held (IsHeld r i.stack.mode (text_in t q))) (sym left)
-          (held_grown r i.stack.mode rest chunk i.part q i.held c.self.invariant.3.parted c.read_on.ensures.from c.read_on.ensures.order c.self.invariant.5),
+          (held_grown r i.stack.mode rest chunk i.part q i.held c.self.invariant.3.parted c.read_on.ensures.from c.read_on.ensures.order c.self.invariant.6),
     )
