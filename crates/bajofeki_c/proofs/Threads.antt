@@ -11,6 +11,7 @@ use Rattle.lalrpop_hir.proofs.look.Look.TheSendSync as look
 use Rattle.lalrpop_dfa.proofs.Dfa.TheSendSync as dfa
 use Rattle.lalrpop_dense.specs.contracts.dense.DenseDfa as DenseDfa
 use Rattle.lalrpop_dense.proofs.dense.DenseDfa.TheSendSync as dense
+use Rattle.lalrpop_dense.specs.contracts.ends.TokenEnds as TokenEnds
 use Rattle.lalrpop_lexer.specs.contracts.lexer.Lexer as Lexer
 use Rattle.lalrpop_rules.specs.contracts.known_rule.KnownRule as KnownRule
 use Rattle.lalrpop_rules.specs.contracts.rule_lexer.RuleLexer as RuleLexer
@@ -18,6 +19,7 @@ use Rattle.bajofeki.specs.contracts.block.Block as Block
 use Rattle.bajofeki.specs.contracts.stream.Stream as CutStream
 use Rattle.bajofeki.specs.contracts.cutter.Cutter as Cutter
 use Rattle.bajofeki.specs.contracts.document.Document as EditedText
+use Rattle.bajofeki.specs.contracts.found_ahead.FoundAhead as FoundAhead
 use Rattle.bajofeki.specs.contracts.held_run.HeldRun as HeldRun
 use Rattle.bajofeki.specs.contracts.memo.Memo as Memo
 use Rattle.bajofeki.specs.contracts.walker.Walker as Walker
@@ -69,8 +71,14 @@ cutter_send κ = search (walker_send, memo_send, crosses, sendable) depth 20
 held_send : (κ : NamedLft) → IsSend (HeldRun.the_field κ).row
 held_send κ = search (walker_send, crosses, sendable) depth 20
 
+ends_send : IsSend TokenEnds.the_field.row
+ends_send = search (crosses, sendable) depth 20
+
+ahead_send : IsSend FoundAhead.the_field.row
+ahead_send = search (ends_send, crosses, sendable) depth 20
+
 chunks_send : (κ : NamedLft) → IsSend (CutStream.the_field κ).row
-chunks_send κ = search (rules_sync, cutter_send, held_send, crosses, sendable) depth 20
+chunks_send κ = search (rules_sync, cutter_send, held_send, ahead_send, crosses, sendable) depth 20
 
 pub stream_send : (κ : NamedLft) → IsSend (Stream.the_row κ)
 stream_send κ = search (chunks_send, crosses, sendable) depth 20
