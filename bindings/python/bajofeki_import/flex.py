@@ -22,8 +22,9 @@ RULE_11 skip = 1 /[\n ]/
 import re
 from collections import namedtuple
 
-from .flex_actions import Code
-from .flex_patterns import PatternReader, Reader, Unsayable, is_nullable, said
+from .flex_actions import Code, tokens_of
+from .flex_loops import read_by
+from .flex_patterns import PatternReader, Reader, Unsayable, flat, in_series, is_nullable, rests, said
 from .rules import Rules, identifier
 
 HEAD = re.compile(r"""
@@ -114,13 +115,39 @@ class FlexFile(Reader):
         return Rule(line, modes, what, tree, left, block[1] if block else self.action())
 
 
+def is_alone(rule, rules):
+    """Where it matches, does it win whatever comes after that? Then it still wins if it matches more."""
+    sets = flat(rule.tree)
+    if not sets or any(it[0] != "set" for it in sets):
+        return False
+    for other in rules:
+        trees = [other.tree] if other.tree and not set(rule.modes).isdisjoint(other.modes) else []
+        for _, codes in sets:
+            trees = [it for tree in trees for it in rests(tree, codes)]
+        if any(rests(it, range(256)) for it in trees) or other.line < rule.line and any(map(is_nullable, trees)):
+            return False
+    return True
+
+
+def with_read(rule, action, code, rules):
+    """A rule with what its action reads by itself, and the meaning of the rest of the action."""
+    tokens = tokens_of(action)
+    expanded = code.expanded(tokens, set())
+    read = read_by(expanded) if rule.tree and not (code.has_conditions and expanded != tokens) else None
+    if not read or not is_alone(rule, rules):
+        return rule, code.meaning(action)
+    meaning = code.meaning(read.rest)
+    note = meaning.note or read.is_endless and "flex 2.6.4 never ends this if the text ends first"
+    return rule._replace(tree=in_series(rule.tree, read.tree)), meaning._replace(note=note)
+
+
 def rules_in(text, source):
     """The rules of a flex file, given as text with a character for each byte."""
     file, rules, parts = FlexFile(text), Rules(source), {}
     code, action, found = Code(file.code, set(file.modes)), "", []
     for precedence, rule in enumerate(reversed(file.rules), 1):
         action, own = action if rule.action is None else rule.action, dict(parts)
-        meaning = code.meaning(action)
+        rule, meaning = with_read(rule, action, code, file.rules)
         try:
             left, text = rule.left or meaning.left, rule.tree and said(rule.tree, own)
         except Unsayable as reason:
@@ -149,8 +176,8 @@ def write(file, rules, found):
         if left:
             rules.leave_out(rule.line, rule.what, left)
             continue
-        if meaning.goes_on:
-            rules.comment(f"{rules.source}:{rule.line}: here flex goes on with another text")
+        if meaning.note:
+            rules.comment(f"{rules.source}:{rule.line}: {meaning.note}")
         if meaning.changes and is_nullable(rule.tree):
             rules.leave_out(rule.line, rule.what, "an empty match changes the state")
         # What all returns give is the name.

@@ -3,9 +3,9 @@ r"""What the actions of flex files do, as far as it can be told from their C.
 >>> text = '#define TO(x) do { if (trace) log("x"); BEGIN x; } while (0)\nvoid leave(void) { yy_pop_state(); return; }'
 >>> code = Code(text, {"STR", "INITIAL"})
 >>> code.meaning("TO(STR); return QUOTE;")
-Meaning(changes=['mode STR'], names=['QUOTE'], is_idle=False, is_end=False, left=None, goes_on=False)
+Meaning(changes=['mode STR'], names=['QUOTE'], is_idle=False, is_end=False, left=None, note=None)
 >>> code.meaning('{ leave(); ++lineno; /* "} */ }')
-Meaning(changes=['pop'], names=[], is_idle=True, is_end=False, left=None, goes_on=False)
+Meaning(changes=['pop'], names=[], is_idle=True, is_end=False, left=None, note=None)
 >>> for action in "if (deep) leave();", "if (--deep) return A; BEGIN(0); return B;", "BEGIN(before);", "yyless(1);", 'log("BEGIN");':
 ...     print(code.meaning(action).left)
 the state changes only sometimes
@@ -30,8 +30,8 @@ COUNT = re.compile(r"(?:\+\+ )?(?:\w+ (?:\.|->) )*\w*line\w*(?: \+\+| \+ = \w+)?
 RETURNED = re.compile(r"return (?:\( (?:.* , )?)?(?:\w+ :: )*(?:(?!make_)([A-Za-z_]\w*)|make_(\w+) \(.*\)|'(.+)')(?: \))?")
 END = re.compile(r"yyterminate \( \)|return(?: \( (?:- )?\d+ \)| (?:- )?\d+)?")
 # What an action does. One that `is_idle` gives no token, and one that `is_end` only ends the scan or hands on that it ends; `left` is why no
-# rule says it. If it `goes_on`, another text comes first, and then the rest of this one.
-Meaning = namedtuple("Meaning", "changes names is_idle is_end left goes_on")
+# rule says it, and `note` what else flex does.
+Meaning = namedtuple("Meaning", "changes names is_idle is_end left note")
 
 
 def tokens_of(code):
@@ -107,7 +107,8 @@ class Code:
 
     def __init__(self, code, modes):
         code = code.replace("\\\n", " ")
-        self.modes, self.called = modes, set()
+        # Where there are conditions, a name that is defined may have another meaning, or none.
+        self.modes, self.called, self.has_conditions = modes, set(), bool(re.search(r"(?m)^[ \t]*#[ \t]*if", code))
         self.functions = dict(functions_of(tokens_of(re.sub(r"(?m)^[ \t]*#.*", "", code))))
         self.bodies = {name: ([], body) for name, body in self.functions.items()}
         for name, words, body in re.findall(r"^[ \t]*#[ \t]*define[ \t]+(\w+)(\([^)]*\))?(.*)", code, re.M):
@@ -152,5 +153,6 @@ class Code:
             may_end = may_end or bool(re.match("return|goto|break|continue|yyterminate" + "|leave" * (not is_sure), text))
             if is_sure and may_end:
                 break
-        goes_on = any(OTHER_TEXT.search(text) for text, _ in found)
-        return Meaning(changes, names, is_idle, is_end and not (changes or left or goes_on), left, goes_on)
+        # Another text comes first, and then the rest of this one.
+        note = "here flex goes on with another text" if any(OTHER_TEXT.search(text) for text, _ in found) else None
+        return Meaning(changes, names, is_idle, is_end and not (changes or left or note), left, note)

@@ -31,6 +31,7 @@ CLASSES["print"] = CLASSES["graph"] + " "
 COUNTS = {"*": (0, None), "+": (1, None), "?": (0, 1)}
 HIGH = frozenset(range(128, 256))
 MORE = frozenset(range(0x80, 0xC0))
+NOTHING = "series", []  # the tree of the empty text
 
 
 class Unsayable(Exception):
@@ -184,6 +185,43 @@ def is_nullable(tree):
     if tree[0] in ("series", "either"):
         return (all if tree[0] == "series" else any)(map(is_nullable, tree[1]))
     return tree[0] == "times" and tree[2] == 0 or tree[0] in ("times", "part") and is_nullable(tree[1 if tree[0] == "times" else 2])
+
+
+def in_series(*trees):
+    trees = [it for it in trees if it != NOTHING]
+    return trees[0] if len(trees) == 1 else ("series", trees)
+
+
+def one_of(tree, other):
+    if tree[0] == other[0] == "set":
+        return "set", tree[1] | other[1]
+    return ("times", other, 0, 1) if tree == NOTHING else ("either", [tree, other])
+
+
+def rests(tree, codes):
+    r"""Trees of what follows a byte of a set in the texts of a tree.
+
+    >>> tree = PatternReader("(a+b?){2}c", 0, {}).whole()
+    >>> [f"/{pattern_of(it, {})}/" for it in rests(tree, {ord("a")})]
+    ['/a*b?(?:a+b?){1}c/']
+    >>> any(is_nullable(it) for it in rests(tree, {ord("b")})), rests(tree, set(b"bc"))
+    (False, [])
+    """
+    if tree[0] == "set":
+        return [NOTHING] * (not tree[1].isdisjoint(codes))
+    if tree[0] == "part":
+        return rests(tree[2], codes)
+    if tree[0] == "either":
+        return [it for each in tree[1] for it in rests(each, codes)]
+    if tree[0] == "times":
+        fewer = "times", tree[1], max(tree[2] - 1, 0), tree[3] and tree[3] - 1
+        return [in_series(it, fewer) for it in rests(tree[1], codes)] if tree[3] != 0 else []
+    found, trees = [], tree[1]
+    for number, first in enumerate(trees):
+        found += [in_series(it, *trees[number + 1:]) for it in rests(first, codes)]
+        if not is_nullable(first):
+            break
+    return found
 
 
 def is_partial(tree):
