@@ -100,7 +100,20 @@ impl FoundAhead {
     /// Whether a block is to be read.
     #[inline(always)]
     pub(crate) fn is_due(&self) -> bool {
-        self.wait == 0 && self.credit >= LEAST
+        self.wait == 0 && self.may_read(LEAST)
+    }
+
+    /// Whether this many bytes may be read in vain.
+    #[inline(always)]
+    pub(crate) fn may_read(&self, vain: usize) -> bool {
+        self.credit >= vain
+    }
+
+    /// Counts bytes that were read in vain.
+    pub(crate) fn spend(&mut self, vain: usize)
+        ensures same { (self.new.ends ≡ self.old.ends) × (self.new.at ≡ self.old.at) }
+    {
+        self.credit = self.credit.saturating_sub(vain);
     }
 
     /// Finds tokens from the front of the text on.

@@ -56,7 +56,16 @@ fn quick_token(lexer: &RuleLexer, mode: usize, ahead: &mut FoundAhead, text: &st
             return Some(piece);
         }
     }
-    settled_token(own, text)
+    if !ahead.may_read(LIMIT) {
+        return None;
+    }
+    match settled_token(own, text) {
+        Some(piece) => Some(piece),
+        None => {
+            ahead.spend(LIMIT);
+            None
+        }
+    }
 }
 
 // The same of bytes whose text is this part, if it is at their front and no run is held.
