@@ -2,11 +2,11 @@
 use Rattle.std.proofs.Common.{◌≡◌, ◌≢◌, Bool, ℕ, ◌+◌, ◌-◌, ◌<◌, ◌≤◌, inl, inr, List, [], ◌∷◌, ◌++◌, length, take, drop, refl, sym, ap, subst, ◌∙◌, arith, length-append, length-take}
 use Rattle.std.specs.Prelude.{Option, Some, true, false, slice_get}
 use Rattle.std.specs.Char.{encode_utf8}
-use Rattle.std.specs.Str.{chars, IsUtf8, IsCharBoundary}
+use Rattle.std.specs.Str.{chars, encode_utf8_all, IsUtf8, IsCharBoundary}
 use Rattle.std.specs.List.{All}
-use Rattle.std.proofs.lemmas.List.{drop-drop, take-append-drop, take-append-le, take_at}
+use Rattle.std.proofs.lemmas.List.{append_assoc, drop-drop, take-append-drop, take-append-le, take_at}
 use Rattle.std.proofs.lemmas.List.Elements.{All-head, All-tail}
-use Rattle.std.proofs.lemmas.Str.{IsUtf8-take, IsUtf8-drop, IsCharBoundary-from_take}
+use Rattle.std.proofs.lemmas.Str.{encode_same, IsUtf8-take, IsUtf8-drop, IsCharBoundary-from_take}
 use Rattle.lalrpop_hir.specs.Tree.{Tree}
 use Rattle.lalrpop_hir.specs.Word.{IsWord}
 use Rattle.lalrpop_hir.specs.Longest.{IsLongest}
@@ -18,14 +18,16 @@ use Rattle.lalrpop_dense.specs.Leading.{IsDeadEnd, IsDeadAt, IsEnd, IsStopped, A
 use Rattle.lalrpop_dense.specs.Rules.{IsBuiltFrom}
 use Rattle.bajofeki.specs.declared.found_ahead.FoundAhead.{FoundAhead}
 use Rattle.lalrpop_rules.specs.Modes.{ModeRules, trees_in}
+use Rattle.bajofeki.specs.declared.kept.Kept.{Kept}
 use Rattle.bajofeki.specs.declared.parts.Part.{Part}
 use Rattle.bajofeki.specs.declared.parts.Piece.{Piece}
 use Rattle.bajofeki.specs.declared.parts.Told.TheVariants.{Whole}
-use Rattle.bajofeki.specs.Internal.Ahead.{AreFound, AreFoundAfter, IsFirst, LeadOn}
-use Rattle.bajofeki.specs.Internal.Kept.{IsFront}
+use Rattle.bajofeki.specs.Internal.Ahead.{AreFound, AreFoundAfter, IsFirst, IsKeptOf, LeadOn, LeadOnAfter}
+use Rattle.bajofeki.specs.Internal.Kept.{IsFront, IsKept}
 use Rattle.bajofeki.specs.Internal.Parts.{IsGiven, IsPart, IsParted, Tells, text_in}
 use Rattle.bajofeki.specs.Internal.Reach.{AreAlike, IsSettledBy}
 use Rattle.bajofeki.proofs.FrontCosts.{boundary_left}
+use Rattle.bajofeki.proofs.Places.{front_kept}
 use Rattle.bajofeki.proofs.PartLaws.{part_size, token_given}
 use Rattle.bajofeki.proofs.Settling.{token_settled}
 
@@ -143,27 +145,89 @@ first_given r mode bytes p over d f a part built front first =
     token_given (trees_in r mode) r.precedences bytes p over false part (λ is. absurd (cc)) f.rule f.size
     (end_told d (trees_in r mode) r.precedences (text_in bytes p) f first.0 built part.parted.utf8 first.1.1 first.1.0) front
 
--- what is found after a piece of the part is found in what is left, in the same mode
-pub found_behind : (r : ModeRules) (mode mode2 size : ℕ) (bytes left : List ℕ) (p q : Part) (a b : FoundAhead) (same : Bool) → AreFoundAfter r mode bytes p size a
-    → IsParted bytes p → (same ≡ true → (mode2 ≡ mode) × ((b.ends ≡ a.ends) × (b.at ≡ a.at))) → (same ≡ false → b.ends ≡ []) → q.from ≡ 0
-    → (p.from ≡ 0 → size ≤ p.ends → text_in left q ≡ drop size (text_in bytes p)) → AreFound r mode2 left q b
-found_behind r mode mode2 size bytes left p q a b false found parted kept none front text = inl (none refl)
-found_behind r mode mode2 size bytes left p q a b true (inl empty) parted kept none front text = inl ((kept refl).1.0 ∙ empty)
-found_behind r mode mode2 size bytes left p q a b true (inr (first, inl empty)) parted kept none front text = inl ((kept refl).1.0 ∙ empty)
-found_behind r mode mode2 size bytes left p q a b true (inr (first, inr (within, lead))) parted kept none front text =
-    let k = kept refl in
-    let same_text : text_in left q ≡ drop size (text_in bytes p) = text first (omega (arith, within, first, part_size bytes p parted)) in
-    inr (
-      front,
+-- what leads on after a piece leads on in what is left, in the same mode
+module _ (r : ModeRules) (mode mode2 size : ℕ) (a b : FoundAhead) (same : Bool)
+    (kept : same ≡ true → (mode2 ≡ mode) × ((b.ends ≡ a.ends) × (b.at ≡ a.at))) (none : same ≡ false → b.ends ≡ []) where
+  none_behind : (t : Bool) → same ≡ t → a.ends ≡ [] → b.ends ≡ []
+  none_behind true is empty = (kept is).1.0 ∙ empty
+  none_behind false is empty = none is
+
+  lead_in : (text : List ℕ) (t : Bool) → same ≡ t → (size ≤ length text) × ((d : List Row) → slice_get r.automata mode ≡ Some d → LeadOn d (drop size text) a)
+      → LeadOnAfter r mode2 (drop size text) 0 b
+  lead_in text false is lead = inl (none is)
+  lead_in text true is (within, lead) =
+      let k = kept is in
       inr (
         omega arith,
-        λ d is.
-            let l = lead d (subst (λ (m : ℕ). slice_get r.automata m ≡ Some d) k.0 is) in (
+        λ d there.
+            let l = lead d (subst (λ (m : ℕ). slice_get r.automata m ≡ Some d) k.0 there) in (
               l.0,
               (
-                ap (λ (n : ℕ). drop n l.0) k.1.1 ∙ l.1.0 ∙ sym same_text,
+                ap (λ (n : ℕ). drop n l.0) k.1.1 ∙ l.1.0,
                 subst (λ (n : ℕ). AreAhead d l.0 n b.ends) (sym k.1.1) (subst (λ (es : List (ℕ × ℕ)). AreAhead d l.0 a.at es) (sym k.1.0) l.1.1),
               ),
             ),
-      ),
-    )
+      )
+
+  pub lead_behind : (text : List ℕ) → LeadOnAfter r mode text size a → LeadOnAfter r mode2 (drop size text) 0 b
+  lead_behind text (inl empty) = inl (none_behind same refl empty)
+  lead_behind text (inr lead) = lead_in text same refl lead
+
+  -- and what is found after a piece of the part is found there
+  pub found_behind : (bytes left : List ℕ) (p q : Part) → AreFoundAfter r mode bytes p size a → IsParted bytes p → q.from ≡ 0
+      → (p.from ≡ 0 → size ≤ p.ends → text_in left q ≡ drop size (text_in bytes p)) → AreFound r mode2 left q b
+  found_behind bytes left p q (inl empty) parted front text = inl (none_behind same refl empty)
+  found_behind bytes left p q (inr (first, inl empty)) parted front text = inl (none_behind same refl empty)
+  found_behind bytes left p q (inr (first, inr lead)) parted front text =
+      let is : text_in left q ≡ drop size (text_in bytes p) = text first (omega (arith, lead.0, first, part_size bytes p parted)) in
+      inr (front, subst (λ (t : List ℕ). LeadOnAfter r mode2 t 0 b) (sym is) (lead_in (text_in bytes p) same refl lead))
+
+-- ---- what is kept of a token that is found ahead
+
+-- a text that holds a part of a character holds all of it
+whole_char : (c : ℕ) (rest more tail : List ℕ) → IsUtf8 more → more ≢ [] → encode_utf8 c ++ rest ≡ more ++ tail → length (encode_utf8 c) ≤ length more
+whole_char c rest more tail (cs, (scalars, is)) some split = by cs is
+  where
+    by : (cs : List ℕ) → encode_utf8_all cs ≡ more → length (encode_utf8 c) ≤ length more
+    by [] is = absurd (some (sym is))
+    by (d ∷ ds) is =
+        let joined : encode_utf8 d ++ (encode_utf8_all ds ++ tail) ≡ encode_utf8 c ++ rest =
+        sym (append_assoc (encode_utf8 d) (encode_utf8_all ds) tail) ∙ ap (λ (t : List ℕ). t ++ tail) is ∙ sym split in
+        let same : d ≡ c = (encode_same d c (encode_utf8_all ds ++ tail) rest joined).0 in
+        omega (arith, ap length (sym is), length-append (encode_utf8 d) (encode_utf8_all ds), ap (λ (n : ℕ). length (encode_utf8 n)) same)
+
+-- no character begins between the token's end and the place after the next character
+none_between : (text rest : List ℕ) (c size n : ℕ) → IsUtf8 text → IsCharBoundary text size → drop size text ≡ encode_utf8 c ++ rest → size < n → n < size + length (encode_utf8 c)
+    → n ≤ length text → ¬ IsUtf8 (take n text)
+none_between text rest c size n u begins split above below within front =
+    let there : IsCharBoundary text n = IsCharBoundary-from_take text n u within front in
+    let more : List ℕ = take (n - size) (drop size text) in
+    let place : size + (n - size) ≡ n = omega (arith, above) in
+    let here : IsCharBoundary (drop size text) (n - size) = boundary_left text size n (omega (arith, above)) there in
+    let utf8 : IsUtf8 more = IsUtf8-take (drop size text) (n - size) (IsUtf8-drop text size u begins) here in
+    let long : length more ≡ n - size = omega (arith, length-take (n - size) (drop size text), here.0) in
+    let is : encode_utf8 c ++ rest ≡ more ++ drop (n - size) (drop size text) = sym split ∙ sym (take-append-drop (n - size) (drop size text)) in
+    let all = whole_char c rest more (drop (n - size) (drop size text)) utf8 (λ none. omega (arith, ap length none, long, above)) is in
+    omega (arith, all, long, below, above)
+
+pub first_kept : (r : ModeRules) (mode : ℕ) (d : List Row) (text : List ℕ) (f : Piece) (k : Kept) (a : FoundAhead) → IsBuiltFrom (trees_in r mode) r.precedences d → IsUtf8 text
+    → IsFirst d text f a → IsKeptOf text f k → IsKept r mode text k
+first_kept r mode d text f k a built u first kept =
+    let ts = trees_in r mode in
+    let i = first.0 in
+    let e = first.1.1 in
+    let zero_less : f.size - 0 ≡ f.size = omega arith in
+    let stopped : IsStopped d (chars (take f.size text)) (drop f.size text) = subst (λ (n : ℕ). IsStopped d (chars (take n text)) (drop f.size text)) zero_less e.stopped in
+    let longest : IsLongest ts r.precedences text (Some (i, take f.size text)) =
+    subst (λ (n : ℕ). IsLongest ts r.precedences text (Some (i, take n text))) zero_less (e.longest ts r.precedences (recognizes d ts r.precedences built.stands)) in
+    let c = kept.next in
+    let same : c ≡ stopped.next = (encode_same c stopped.next kept.rest stopped.rest (sym kept.split ∙ stopped.split)).0 in
+    let n = f.size + length (encode_utf8 stopped.next) in
+    let far : f.size + length (encode_utf8 c) ≡ n = ap (λ (x : ℕ). f.size + length (encode_utf8 x)) same in
+    let settled : IsSettledBy ts text n = dead_settles d ts r.precedences text n built.stands u (end_dead d text f.size u e.boundary stopped) in
+    let long : length (take f.size text) ≡ f.size = omega (arith, length-take f.size text, e.boundary.0) in
+    let only = IsOnlyStrongest-from_greatest ts r.precedences (chars (take f.size text)) i built.no_clash longest.2 in
+    front_kept r mode text k (Some i) f.size n
+    (λ other alike. (take f.size text, (long, token_settled ts r.precedences text other i (take f.size text) n (longest, only) settled alike)))
+    (λ m above below within front. absurd (none_between text kept.rest c f.size m u e.boundary kept.split above (omega (arith, far, below)) within front))
+    (kept.rule ∙ first.1.0, kept.size, kept.reach ∙ far)

@@ -17,6 +17,7 @@ use crate::edit::cut_anew;
 use crate::error::EditError;
 use crate::lines::{offset_in, position_in};
 use crate::pieces::{piece_holding, pieces_holding};
+use crate::whole::whole_blocks;
 use lalrpop_hir::Steps;
 use lalrpop_lexer::Position;
 use lalrpop_rules::{Item, RuleLexer};
@@ -144,11 +145,11 @@ impl<'rules> Model for Document<'rules> {
 }
 
 impl<'rules> Document<'rules> {
-    /// The text with its pieces. It is put into an empty text by `edit`, which cuts it whole.
+    /// The text with its pieces.
     ///
     /// # Errors
     ///
-    /// `TooLarge` or `OutOfMemory`, as for an edit.
+    /// `TooLarge` or `OutOfMemory`, as for an edit that puts the text into an empty one.
     pub fn new(
         alloc: Global,
         lexer: &'rules RuleLexer,
@@ -158,15 +159,14 @@ impl<'rules> Document<'rules> {
         ensures error { IfErr result
             (IsEditError (record { rules = lexer.now; text = [] }) 0 0 text.now) }
     {
-        let mut lexed = Document {
+        let blocks = whole_blocks(alloc, lexer, text)?;
+        let mut own = String::new(alloc);
+        own.push_str(text)?;
+        Ok(Document {
             lexer,
-            text: String::new(alloc),
-            blocks: Vec::new(alloc),
-        };
-        match lexed.edit(alloc, 0..0, text) {
-            Ok(_) => Ok(lexed),
-            Err(error) => Err(error),
-        }
+            text: own,
+            blocks,
+        })
     }
 
     /// The text.

@@ -31,6 +31,7 @@ mod shown;
 mod stream;
 mod text_front;
 mod walker;
+mod whole;
 
 pub use bajofeki_rules::{Action, ModeRule, Position, Positions, Rule};
 pub use change::Change;

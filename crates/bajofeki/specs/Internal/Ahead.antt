@@ -1,12 +1,15 @@
 -- cases: proofs/Cases/Ahead.antt
 -- Tokens that are found ahead.
-use Rattle.std.specs.Prelude.{◌≡◌, ◌≤◌, ◌⊎◌, ℕ, List, [], length, drop, slice_get, Some}
+use Rattle.std.specs.Prelude.{◌≡◌, ◌≤◌, ◌+◌, ◌++◌, ◌⊎◌, ℕ, List, [], length, drop, slice_get, Some}
+use Rattle.std.specs.Char.{encode_utf8}
 use Rattle.lalrpop_dfa.specs.Dfa.{Row}
 use Rattle.lalrpop_dense.specs.Leading.{IsEnd, AreAhead}
 use Rattle.lalrpop_rules.specs.Modes.{ModeRules}
 use Rattle.bajofeki.specs.declared.found_ahead.FoundAhead.{FoundAhead}
+use Rattle.bajofeki.specs.declared.kept.Kept.{Kept}
 use Rattle.bajofeki.specs.declared.parts.Part.{Part}
 use Rattle.bajofeki.specs.declared.parts.Piece.{Piece}
+use Rattle.bajofeki.specs.Internal.Kept.{reach_of, rule_of}
 use Rattle.bajofeki.specs.Internal.Parts.{text_in}
 
 -- they lead from the front of the text on
@@ -16,6 +19,15 @@ LeadOn d text a = (whole : List ℕ) × ((drop a.at whole ≡ text) × AreAhead 
 -- the piece is the first of them, and the others lead on after it
 abbrev pub IsFirst : List Row → List ℕ → Piece → FoundAhead → Type 0
 IsFirst d text f a = (i : ℕ) × ((f.rule ≡ Some i) × IsEnd d text 0 i f.size × LeadOn d (drop f.size text) a)
+
+-- this is kept of the piece, which depends on the character after it, and on no more
+pub record IsKeptOf (text : List ℕ) (f : Piece) (k : Kept) : Type 0 where
+  pub rule : rule_of k ≡ f.rule
+  pub size : k.size ≡ f.size
+  pub next : ℕ
+  pub rest : List ℕ
+  pub split : drop f.size text ≡ encode_utf8 next ++ rest
+  pub reach : reach_of k ≡ f.size + length (encode_utf8 next)
 
 -- none are ahead; or they lead on after so many bytes of a text, by the automaton of the mode
 abbrev pub LeadOnAfter : ModeRules → ℕ → List ℕ → ℕ → FoundAhead → Type 0

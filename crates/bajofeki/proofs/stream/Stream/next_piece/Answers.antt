@@ -58,10 +58,9 @@ invariant_of-self-2 c =
       subst (λ (n : ℕ). IfSome past.new.cutter (λ t. IsCutter r t n (text_in (drop (i.given + size) text) past.new.part))) place
           (subst (λ (b : List ℕ). IfSome past.new.cutter (λ t. IsCutter r t (i.at + size) (text_in b past.new.part))) there cutter),
       subst (λ (b : List ℕ). AreFound r c.act_by.new.stack.mode b past.new.part c.pass.new.self) there
-          (found_behind r c.top-mode.result c.act_by.new.stack.mode size rest after q past.new.part c.next_front.new.ahead c.pass.new.self (nat_eq c.top.result c.top-mode.result)
-          (rw c.in-Some.is at c.in_ok-found.ensures.found) parted
-          (λ is. (sym c.top.ensures.mode ∙ eqb-true c.top.result c.top-mode.result is, c.pass.ensures.kept is)) c.pass.ensures.none past.ensures.from
-          (λ first within. past.ensures.text rest behind parted first within)),
+          (found_behind r c.top-mode.result c.act_by.new.stack.mode size c.next_front.new.ahead c.pass.new.self (nat_eq c.top.result c.top-mode.result)
+          (λ is. (sym c.top.ensures.mode ∙ eqb-true c.top.result c.top-mode.result is, c.pass.ensures.kept is)) c.pass.ensures.none rest after q past.new.part
+          (rw c.in-Some.is at c.in_ok-found.ensures.found) parted past.ensures.from (λ first within. past.ensures.text rest behind parted first within)),
       tt,
     )
 
