@@ -1,6 +1,6 @@
 //! An automaton with a table beside it, run over a text.
 
-ghost use Rattle.std.specs.Prelude.{◌≡◌, ◌≢◌, ℕ, ◌+◌, ◌<◌, ◌≤◌, [], length, take, List, Some, None, true, IfOk, IfNone, IfSome, MatchOption};
+ghost use Rattle.std.specs.Prelude.{◌≡◌, ◌≢◌, ℕ, ◌+◌, ◌<◌, ◌≤◌, [], length, drop, take, List, Some, None, true, IfOk, IfNone, IfSome, MatchOption};
 ghost use Rattle.std.specs.Option.{option_map};
 ghost use Rattle.std.specs.Str.{IsCharBoundary, chars};
 ghost use Rattle.lalrpop_hir.specs.Tree.{Tree};
@@ -8,6 +8,7 @@ ghost use Rattle.lalrpop_hir.specs.Prefix.{IsPrefix};
 ghost use Rattle.lalrpop_dfa.specs.Dfa.{Recognizes};
 ghost use Rattle.lalrpop_dfa.specs.Lookahead.{ReadsAtMost};
 ghost use Rattle.lalrpop_hir.specs.Longest.{IsLongest};
+ghost use Rattle.lalrpop_dense.specs.Leading.{IsDeadAt, IsStopped};
 
 use lalrpop_dense::{DenseDfa, Matcher, TokenEnd, TokenEnds};
 use lalrpop_dfa::Dfa;
@@ -77,8 +78,9 @@ pub fn longest_in_two_runs<'text>(
     }
 }
 
-// Needs lalrpop_dense::DenseDfa::longest_within: limit, past, never_falls, read, within.
-/// Whether the first thousand bytes settle what matches, and how many were read past the match.
+// Needs lalrpop_dense::DenseDfa::longest_within: limit, past, never_falls, read, dead, within.
+/// Whether the first thousand bytes settle what matches, and how many were read past the match: if the text goes on after them, no
+/// pattern matches a word that begins with all that was read.
 pub fn read_past<'text>(
     dense: &DenseDfa,
     text: &'text str,
@@ -90,6 +92,9 @@ pub fn read_past<'text>(
         (λ m. steps.new ≤ steps.old + length (chars m.1.now) + found.1)) }
     ensures read { IfSome result (λ found. IfSome found.0 (λ m.
         steps.old + length (chars m.1.now) ≤ steps.new)) }
+    ensures dead { IfSome result (λ found. IfSome found.0 (λ m.
+        length m.1.now + found.1 < length text.now
+        → IsDeadAt dense.now text.now (length m.1.now + found.1))) }
     ensures within { IfSome result (λ found. IfSome found.0 (λ m.
         length m.1.now + found.1 ≤ length text.now)) }
 {
@@ -101,13 +106,15 @@ pub fn read_past<'text>(
 
 // Needs lalrpop_dense::DenseDfa::find_ends: ahead, limit, never_falls, cost, read; lalrpop_dense::TokenEnds::new: none;
 // lalrpop_dense::TokenEnds::next: some.
-/// The first token of a text, if it's found ahead: the longest match. Each token found costs a step at least, and 100 bytes
-/// at most are read in vain.
+/// The first token of a text, if it's found ahead: the longest match, whatever comes after the character that follows it. Each token
+/// found costs a step at least, and 100 bytes at most are read in vain.
 pub fn first_ahead(dense: &DenseDfa, text: &str, steps: &mut Steps) -> Option<TokenEnd>
     ensures longest { (ts : List Tree) (ps : List ℕ) → Recognizes dense.now ts ps
         → IfSome result (λ found.
         IsLongest ts ps text.now (Some (found.index, take found.end text.now))) }
     ensures within { IfSome result (λ found. (0 < found.end) × IsCharBoundary text.now found.end) }
+    ensures stopped { IfSome result (λ found.
+        IsStopped dense.now (chars (take found.end text.now)) (drop found.end text.now)) }
     ensures read { IfSome result (λ found. steps.old < steps.new) }
     ensures cost { IfNone result (steps.new ≤ steps.old + 100) }
     ensures never_falls { steps.old ≤ steps.new }
