@@ -2,11 +2,11 @@
 #![tactic(auto)]
 
 use anyhow::{Context, Result, bail};
-use lalrpop_dense::{DenseDfa, Matcher};
+use lalrpop_dense::DenseDfa;
 use bajofeki::Stream;
 use lalrpop_emit::LexerNumbers;
 use lalrpop_lexer::lexer::dfa::{Dfa, NfaIndex, Precedence, build_dfa, clashes};
-use lalrpop_lexer::lexer::nfa::Steps;
+use lalrpop_lexer::lexer::dfa::interpret::interpret;
 use lalrpop_lexer::lexer::re::Regex;
 use lalrpop_lexer::{Lexer, Terminals, Tokens, read_terminals, tokens};
 use lalrpop_rules::{Item, RuleLexer};
@@ -177,6 +177,24 @@ fn made_again(alloc: Global, dfa: &Dfa) -> Result<Found, AllocError> {
     Ok(Found::of(dense.dfa().states().len()))
 }
 
+trait Matcher: Drop {
+    fn longest_match<'text>(&self, text: &'text str) -> Option<(NfaIndex, &'text str)>;
+}
+
+impl Matcher for Dfa {
+    #[inline(always)]
+    fn longest_match<'text>(&self, text: &'text str) -> Option<(NfaIndex, &'text str)> {
+        interpret(self, text)
+    }
+}
+
+impl Matcher for DenseDfa {
+    #[inline(always)]
+    fn longest_match<'text>(&self, text: &'text str) -> Option<(NfaIndex, &'text str)> {
+        self.longest(text)
+    }
+}
+
 // A character is passed over where nothing matches.
 fn by_longest<M: Matcher>(matcher: &M, text: &str) -> Found {
     let mut found = Found::none();
@@ -185,7 +203,7 @@ fn by_longest<M: Matcher>(matcher: &M, text: &str) -> Found {
         let Some(first) = rest.chars().next() else {
             break;
         };
-        let length = match matcher.longest_match(rest, &mut Steps::new()) {
+        let length = match matcher.longest_match(rest) {
             Some((terminal, word)) => {
                 found.add(terminal, word.len());
                 word.len()

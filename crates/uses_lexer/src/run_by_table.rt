@@ -10,7 +10,7 @@ ghost use Rattle.lalrpop_dfa.specs.Lookahead.{ReadsAtMost};
 ghost use Rattle.lalrpop_hir.specs.Longest.{IsLongest};
 ghost use Rattle.lalrpop_dense.specs.Leading.{IsDeadAt, IsStopped};
 
-use lalrpop_dense::{DenseDfa, Matcher, TokenEnd, TokenEnds};
+use lalrpop_dense::{DenseDfa, TokenEnd, TokenEnds};
 use lalrpop_dfa::Dfa;
 use lalrpop_dfa::interpret::interpret;
 use lalrpop_hir::{NfaIndex, Steps};
@@ -132,47 +132,4 @@ pub fn none_is_left(ends: &mut TokenEnds) -> bool
 {
     ends.clear();
     ends.next().is_none() && ends.next().is_none()
-}
-
-// Needs lalrpop_dense::Matcher::longest_match: answer, prefix, never_falls, cost, looked, read.
-/// The longest match of the second text, sought after the first text's, whatever finds it.
-pub fn longest_of_second<'text, M: Matcher>(
-    matcher: &M,
-    first: &str,
-    second: &'text str,
-    steps: &mut Steps,
-) -> Option<(NfaIndex, &'text str)>
-    ensures answer { (ts : List Tree) (ps : List ℕ) → Recognizes (M.rows matcher.now) ts ps
-        → IsLongest ts ps second.now (option_map (λ m. (m.0, m.1.now)) result) }
-    ensures prefix { IfSome result (λ m. IsPrefix m.1.now second.now × (m.1.now ≢ [])) }
-    ensures never_falls { steps.old ≤ steps.new }
-    ensures cost { steps.new ≤ steps.old + length (chars first.now) + length (chars second.now) }
-    ensures looked { (n : ℕ) → ReadsAtMost (M.rows matcher.now) n → IfSome result (λ m.
-        steps.new ≤ steps.old + length (chars first.now) + length (chars m.1.now) + n + 1) }
-    ensures read { IfSome result (λ m. steps.old + length (chars m.1.now) ≤ steps.new) }
-{
-    let _ = matcher.longest_match(first, steps);
-    matcher.longest_match(second, steps)
-}
-
-// Needs lalrpop_dense::Dfa::longest_match: ghost rows.
-// Needs lalrpop_dense::DenseDfa::longest_match: ghost rows.
-/// What an automaton matches by itself, and what one with a table does.
-pub fn matches_of_both<'text>(
-    dfa: &Dfa,
-    dense: &DenseDfa,
-    text: &'text str,
-) -> (
-    Option<(NfaIndex, &'text str)>,
-    Option<(NfaIndex, &'text str)>,
-)
-    ensures alone { (ts : List Tree) (ps : List ℕ) → Recognizes dfa.now ts ps
-        → IsLongest ts ps text.now (option_map (λ m. (m.0, m.1.now)) result.0) }
-    ensures by_table { (ts : List Tree) (ps : List ℕ) → Recognizes dense.now ts ps
-        → IsLongest ts ps text.now (option_map (λ m. (m.0, m.1.now)) result.1) }
-{
-    (
-        longest_of_second(dfa, "", text, &mut Steps::new()),
-        longest_of_second(dense, "", text, &mut Steps::new()),
-    )
 }
