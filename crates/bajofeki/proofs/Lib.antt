@@ -52,6 +52,8 @@ pub mod FrontLaws
 pub mod PartLaws
 -- tokens that are found ahead
 pub mod AheadLaws
+-- a text is put where there was none
+pub mod Filling
 pub mod Held
 -- a text shown as markup: its runs, what begins and ends tags, entities and sequences, and how it is read back
 pub mod Characters

@@ -105,6 +105,49 @@ fn edit_parts(
     }
 }
 
+// Puts a text where there is none, and cuts it whole. On an error nothing has changed.
+fn first_text(
+    alloc: Global,
+    lexer: &RuleLexer,
+    text: &mut String,
+    blocks: &mut Vec<Block>,
+    range: &Range<usize>,
+    new: &str,
+) -> Result<Change, EditError>
+    requires none { blocks.old.items ≡ [] }
+    requires range { IsRange (string_bytes text.old) range.now.start range.now.end }
+    requires blocks { AreBlocksOf lexer.now (string_bytes text.old) blocks.old.items }
+    ensures text { OnOk result (string_bytes text.new
+        ≡ replaced (string_bytes text.old) range.now.start range.now.end new.now) }
+    ensures blocks { OnOk result (AreBlocksOf lexer.now (string_bytes text.new) blocks.new.items) }
+    ensures counted { OnOk result (AreCounted (string_bytes text.new) blocks.new.items) }
+    ensures change { IfOk result (IsChange
+        (record { rules = lexer.now; text = string_bytes text.old })
+        (record { rules = lexer.now; text = string_bytes text.new })) }
+    ensures earliest { IfOk result (IsEarliest
+        (record { rules = lexer.now; text = string_bytes text.old })
+        (record { rules = lexer.now; text = string_bytes text.new })
+        range.now.start range.now.end (length new.now)) }
+    ensures first { IfOk result (FirstReaches
+        (record { rules = lexer.now; text = string_bytes text.old }) range.now.start) }
+    ensures same_text { OnErr result (string_bytes text.new ≡ string_bytes text.old) }
+    ensures same_blocks { OnErr result (blocks.new.items ≡ blocks.old.items) }
+    ensures error { IfErr result (IsCutError lexer.now
+        (replaced (string_bytes text.old) range.now.start range.now.end new.now)) }
+{
+    let whole = whole_blocks(alloc, lexer, new)?;
+    text.push_str(new)?;
+    *blocks = whole.blocks;
+    Ok(Change {
+        first: 0,
+        removed: 0,
+        inserted: whole.count,
+        start: 0,
+        old_end: 0,
+        new_end: new.len(),
+    })
+}
+
 /// A text with its pieces by rules with modes, which stay those of the text whatever is edited. Beside the text it keeps 12 bytes
 /// for each piece.
 ///
@@ -145,11 +188,11 @@ impl<'rules> Model for Document<'rules> {
 }
 
 impl<'rules> Document<'rules> {
-    /// The text with its pieces.
+    /// The text with its pieces. It is put into an empty text by `edit`, which cuts it whole.
     ///
     /// # Errors
     ///
-    /// `TooLarge` or `OutOfMemory`, as for an edit that puts the text into an empty one.
+    /// `TooLarge` or `OutOfMemory`, as for an edit.
     pub fn new(
         alloc: Global,
         lexer: &'rules RuleLexer,
@@ -159,14 +202,15 @@ impl<'rules> Document<'rules> {
         ensures error { IfErr result
             (IsEditError (record { rules = lexer.now; text = [] }) 0 0 text.now) }
     {
-        let blocks = whole_blocks(alloc, lexer, text)?;
-        let mut own = String::new(alloc);
-        own.push_str(text)?;
-        Ok(Document {
+        let mut lexed = Document {
             lexer,
-            text: own,
-            blocks,
-        })
+            text: String::new(alloc),
+            blocks: Vec::new(alloc),
+        };
+        match lexed.edit(alloc, 0..0, text) {
+            Ok(_) => Ok(lexed),
+            Err(error) => Err(error),
+        }
     }
 
     /// The text.
@@ -205,6 +249,16 @@ impl<'rules> Document<'rules> {
         ensures refused { OnErr result (self.new ≡ self.old) }
         ensures error { IfErr result (IsEditError self.old range.start range.end new.now) }
     {
+        if self.blocks.is_empty() && is_range(&self.text, &range) {
+            return first_text(
+                alloc,
+                self.lexer,
+                &mut self.text,
+                &mut self.blocks,
+                &range,
+                new,
+            );
+        }
         self.edit_counted(alloc, range, new, &mut Steps::new())
     }
 

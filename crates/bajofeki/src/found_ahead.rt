@@ -1,6 +1,6 @@
 //! Tokens that are found ahead.
 
-ghost use Rattle.std.specs.Prelude.{◌≡◌, ◌≢◌, ◌<◌, ℕ, List, [], length, true, false, slice_get, Some, IfSome, IfNone};
+ghost use Rattle.std.specs.Prelude.{◌≡◌, ◌≢◌, ◌<◌, ℕ, List, [], true, false, slice_get, Some, IfSome, IfNone};
 ghost use Rattle.lalrpop_dfa.specs.Dfa.{Row};
 ghost use Rattle.bajofeki.specs.Internal.Ahead.{IsFirst, LeadOn};
 

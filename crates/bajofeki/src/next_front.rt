@@ -1,6 +1,6 @@
 //! The piece at the front of bytes, by the quickest way that settles it.
 
-ghost use Rattle.std.specs.Prelude.{◌≡◌, ◌<◌, ◌≤◌, ◌+◌, ◌^◌, ℕ, List, [], length, true, false, IfSome, IfNone, IfOk, OnErr, OnOk, IsSome};
+ghost use Rattle.std.specs.Prelude.{◌≡◌, ◌<◌, ◌+◌, ◌^◌, [], length, true, false, IfSome, IfNone, IfOk, OnErr};
 ghost use Rattle.lalrpop_rules.specs.Modes.{trees_in};
 ghost use Rattle.bajofeki.specs.Chunked.{IsOpenIn};
 ghost use Rattle.bajofeki.specs.Internal.Ahead.{AreFound, AreFoundAfter, LeadOnAfter};

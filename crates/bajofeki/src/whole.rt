@@ -1,6 +1,6 @@
 //! The pieces of a whole text.
 
-ghost use Rattle.std.specs.Prelude.{◌≡◌, ◌+◌, ◌++◌, ◌<◌, ◌≤◌, ◌^◌, ℕ, List, [], length, drop, slice_get, Some, IfSome, IfNone, IfOk, IfErr, OnOk};
+ghost use Rattle.std.specs.Prelude.{◌≡◌, ◌+◌, ◌++◌, ◌<◌, ℕ, List, [], length, drop, slice_get, Some, IfSome, IfNone, IfOk, IfErr, OnOk};
 ghost use Rattle.std.specs.Char.{encode_utf8};
 ghost use Rattle.std.specs.Str.{IsCharBoundary};
 ghost use Rattle.lalrpop_dfa.specs.Dfa.{Row};
@@ -8,7 +8,7 @@ ghost use Rattle.bajofeki_rules.specs.Stack.{Stack, start};
 ghost use Rattle.lalrpop_rules.specs.Modes.{EachMode};
 ghost use Rattle.bajofeki.specs.Internal.Ahead.{IsFirst, IsKeptOf, LeadOnAfter};
 ghost use Rattle.bajofeki.specs.Internal.BlockPlaces.{AreCounted};
-ghost use Rattle.bajofeki.specs.Internal.Blocks.{AreBlocksOf};
+ghost use Rattle.bajofeki.specs.Internal.Blocks.{AreBlocksOf, pieces_in};
 ghost use Rattle.bajofeki.specs.Internal.Cutting.{IsCutError};
 ghost use Rattle.bajofeki.specs.Internal.Kept.{IsKept, KeptUpTo, after_kept};
 ghost use Rattle.bajofeki.specs.Internal.Noted.{IsCutter};
@@ -167,18 +167,22 @@ fn kept_pieces(alloc: Global, lexer: &RuleLexer, text: &str) -> Result<Vec<Kept>
     Ok(pieces)
 }
 
+/// The blocks of a text, and how many pieces they have.
+#[derive(Drop)]
+pub(crate) struct Whole {
+    pub(crate) blocks: Vec<Block>,
+    pub(crate) count: usize,
+}
+
 /// The blocks of the text.
 ///
 /// # Errors
 ///
 /// The text is too large, or there are too many rules, or a request for memory was refused.
-pub(crate) fn whole_blocks(
-    alloc: Global,
-    lexer: &RuleLexer,
-    text: &str,
-) -> Result<Vec<Block>, EditError>
-    ensures blocks { IfOk result (λ bs. AreBlocksOf lexer.now text.now bs.items) }
-    ensures counted { IfOk result (λ bs. AreCounted text.now bs.items) }
+pub(crate) fn whole_blocks(alloc: Global, lexer: &RuleLexer, text: &str) -> Result<Whole, EditError>
+    ensures blocks { IfOk result (λ w. AreBlocksOf lexer.now text.now w.blocks.items) }
+    ensures count { IfOk result (λ w. w.count ≡ length (pieces_in w.blocks.items)) }
+    ensures counted { IfOk result (λ w. AreCounted text.now w.blocks.items) }
     ensures error { IfErr result (λ e. IsCutError lexer.now text.now e) }
 {
     let pieces = kept_pieces(alloc, lexer, text)?;
@@ -187,5 +191,6 @@ pub(crate) fn whole_blocks(
         stack: ModeStack::new(alloc),
     };
     let blocks = blocks_of(alloc, lexer, text, &pieces, &mut begin)?;
-    Ok(blocks)
+    let count = pieces.len();
+    Ok(Whole { blocks, count })
 }

@@ -1,5 +1,5 @@
 -- Cases of specs/Internal/Ahead.antt.
-use Rattle.std.proofs.Common.{◌≡◌, ℕ, List, [], ◌∷◌, refl, arith}
+use Rattle.std.proofs.Common.{◌≡◌, ℕ, List, [], refl, arith}
 use Rattle.lalrpop_dfa.specs.Dfa.{Row}
 use Rattle.bajofeki.specs.declared.found_ahead.FoundAhead.{FoundAhead}
 use Rattle.bajofeki.specs.declared.parts.Piece.{Piece}
