@@ -11,7 +11,8 @@ use lalrpop_rules::Item;
 ///
 /// ```
 /// while let Some(piece) = chunks.next_piece()? {
-///     match piece.item(chunks.slice()) {
+///     let slice = String::from_utf8_lossy(alloc, chunks.slice())?; // a token's slice is UTF-8, a fault's needn't be
+///     match piece.item(&slice) {
 ///         Item::Token(token) => println!(rt; "{:?}", token.slice)?,
 ///         Item::Skipped(_) => {}
 ///         Item::Fault { start, slice } => println!(rt; "byte {start}: {slice:?}")?,
