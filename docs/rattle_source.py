@@ -106,10 +106,10 @@ def seen(item):
     """What users see of an item of theirs: titles, each with a comment and with code, which is a promise to them."""
     said = [f"{text};" for name, text in item.ghosts.items() if name not in UNSEEN]
     if item.is_public and item.kind in TYPES:
-        is_open = item.kind == "enum" or item.kind == "struct" and "\n    pub " in item.text
+        is_open = item.kind == "enum" or item.kind == "struct" and re.search(r"\n    pub |\(pub ", item.text)
         yield item.name, item.about, item.text if is_open else "\n".join(said * (item.kind == "trait"))
     if item.trait not in ("", "Model"):
-        said += [it.text for it in item.functions if "ensures" in it.text]
+        said = re.findall(r"^    (type [^\n]*;)", item.text, re.M) + said + [it.text for it in item.functions if "ensures" in it.text]
         yield from [(f"{item.trait} for {item.name}", item.about, "\n".join([re.split(r" \{|\n", item.text)[0], *said]))] if said else []
     for it in (it for it in item.functions if not item.trait and (it.is_public or item.kind == "trait")):
         yield it.name if item.kind == "fn" else f"{item.name}::{it.name}", it.about, it.text
