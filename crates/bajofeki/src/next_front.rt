@@ -62,7 +62,7 @@ fn quick_token(lexer: &RuleLexer, mode: usize, ahead: &mut FoundAhead, text: &st
     match settled_token(own, text) {
         Some(piece) => Some(piece),
         None => {
-            ahead.spend(LIMIT);
+            ahead.spend(LIMIT.min(text.len()));
             None
         }
     }
