@@ -66,7 +66,8 @@ impl FoundAhead {
     /// Counts a piece of this size that was given. If the mode is another one after it, those that are ahead are forgotten.
     #[inline(always)]
     pub(crate) fn pass(&mut self, size: usize, is_same_mode: bool)
-        ensures kept { is_same_mode ≡ true → (self.new.ends ≡ self.old.ends) × (self.new.at ≡ self.old.at) }
+        ensures kept { is_same_mode ≡ true
+            → (self.new.ends ≡ self.old.ends) × (self.new.at ≡ self.old.at) }
         ensures none { is_same_mode ≡ false → self.new.ends ≡ [] }
     {
         self.credit = self.credit.saturating_add(size).min(MOST);
@@ -129,6 +130,6 @@ impl FoundAhead {
         let dense = lexer.lexer(mode).dense();
         self.at = 0;
         let vain = dense.find_ends(text, 0, limit, &mut self.ends, &mut Steps::new());
-        self.credit = self.credit.saturating_sub(vain);
+        self.spend(vain);
     }
 }

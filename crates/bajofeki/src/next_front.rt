@@ -24,7 +24,8 @@ const LIMIT: usize = 64;
 // The token at the front of the text, if the characters that begin in its first bytes settle it.
 #[inline(always)]
 fn settled_token(lexer: &Lexer, text: &str) -> Option<Piece>
-    ensures told { IfSome result (λ f. Tells lexer.now.trees lexer.now.precedences text.now false (Whole f)) }
+    ensures told { IfSome result (λ f. Tells lexer.now.trees lexer.now.precedences text.now false
+        (Whole f)) }
 {
     let dense = lexer.dense();
     match dense.longest_within(text, LIMIT, &mut Steps::new()) {
@@ -43,7 +44,8 @@ fn settled_token(lexer: &Lexer, text: &str) -> Option<Piece>
 fn quick_token(lexer: &RuleLexer, mode: usize, ahead: &mut FoundAhead, text: &str) -> Option<Piece>
     requires there { mode < lexer.now.modes }
     requires none { ahead.old.ends ≡ [] }
-    ensures told { IfSome result (λ f. Tells (trees_in lexer.now mode) lexer.now.precedences text.now false (Whole f)) }
+    ensures told { IfSome result (λ f. Tells (trees_in lexer.now mode) lexer.now.precedences text.now
+        false (Whole f)) }
     ensures found { IfSome result (λ f. LeadOnAfter lexer.now mode text.now f.size ahead.new) }
     ensures none { IfNone result (ahead.new.ends ≡ []) }
 {
@@ -83,7 +85,8 @@ fn quick_front(
     requires part { IsPart (trees_in lexer.now mode) bytes.now part.now }
     ensures given { IfSome result (IsGiven (trees_in lexer.now mode) lexer.now.precedences bytes.now
         is_ended part.now) }
-    ensures found { IfSome result (λ f. AreFoundAfter lexer.now mode bytes.now part.now f.size ahead.new) }
+    ensures found { IfSome result (λ f. AreFoundAfter lexer.now mode bytes.now part.now f.size
+        ahead.new) }
     ensures none { IfNone result (ahead.new.ends ≡ []) }
 {
     if part.from > 0 || held.is_some() {

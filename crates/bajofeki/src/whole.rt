@@ -57,34 +57,26 @@ fn found_token(lexer: &RuleLexer, mode: usize, ahead: &mut FoundAhead, text: &st
 }
 
 // What is kept of the token at the front of the text, which the character after it settles. `None` if a number is too great, or no
-// character is there.
-fn kept_token(text: &str, token: Piece) -> Option<Kept>
-    requires boundary { IsCharBoundary text.now token.size }
-    ensures kept { IfSome result (IsKeptOf text.now token) }
-{
-    let next = first_size(&text[token.size..])?;
-    kept_of(&Front {
-        rule: token.rule,
-        size: token.size,
-        reach: token.size + next,
-        void: 0,
-    })
-}
-
-// The same. If there is nothing to keep, the tokens after it are forgotten.
-fn kept_or_forgotten(ahead: &mut FoundAhead, text: &str, token: Piece) -> Option<Kept>
+// character is there: then the tokens after it are forgotten.
+fn kept_token(ahead: &mut FoundAhead, text: &str, token: Piece) -> Option<Kept>
     requires boundary { IsCharBoundary text.now token.size }
     ensures kept { IfSome result (IsKeptOf text.now token) }
     ensures ahead { IfSome result (λ k. ahead.new ≡ ahead.old) }
     ensures none { IfNone result (ahead.new.ends ≡ []) }
 {
-    match kept_token(text, token) {
-        Some(kept) => Some(kept),
-        None => {
-            ahead.forget();
-            None
-        }
+    let kept = match first_size(&text[token.size..]) {
+        Some(next) => kept_of(&Front {
+            rule: token.rule,
+            size: token.size,
+            reach: token.size + next,
+            void: 0,
+        }),
+        None => None,
+    };
+    if kept.is_none() {
+        ahead.forget();
     }
+    kept
 }
 
 // What is kept of the token at the front of the text, if it is found ahead.
@@ -100,7 +92,7 @@ fn found_kept(lexer: &RuleLexer, mode: usize, ahead: &mut FoundAhead, text: &str
     // What is known of the automaton.
     let _dense = lexer.lexer(mode).dense();
     match found_token(lexer, mode, ahead, text) {
-        Some(token) => kept_or_forgotten(ahead, text, token),
+        Some(token) => kept_token(ahead, text, token),
         None => None,
     }
 }
@@ -117,8 +109,9 @@ fn next_kept(
     requires boundary { IsCharBoundary text.now place.old.at }
     requires within { place.old.at < length text.now }
     requires there { EachMode (λ m. m < lexer.now.modes) place.old.stack }
-    requires ahead { LeadOnAfter lexer.now place.old.stack.mode (drop place.old.at text.now) 0 ahead.old }
-    ensures kept { IfOk result (λ k. IsKept lexer.now place.old.stack.mode (drop place.old.at text.now) k) }
+    requires ahead { LeadOnAfter lexer.now place.old.stack.mode (drop place.old.at text.now) 0
+        ahead.old }
+    ensures kept { IfOk result (IsKept lexer.now place.old.stack.mode (drop place.old.at text.now)) }
     ensures some { IfOk result (λ k. 0 < k.size) }
     ensures at { IfOk result (λ k. place.new.at ≡ place.old.at + k.size) }
     ensures stack { IfOk result (λ k. place.new.stack ≡ after_kept lexer.now k place.old.stack) }

@@ -10,5 +10,5 @@ returns-in-Some-clause-kept c =
     let d = c.lexer.result.now.automaton in
     let built : IsBuiltFrom (trees_in r c.args.mode) r.precedences d =
     rw (← c.lexer.ensures.trees, ← c.lexer.ensures.precedences, ← c.dense-dense.ensures.same) c.dense-dense.ensures.built in
-    IfSome_then c.kept_or_forgotten.result c.kept_or_forgotten.ensures.kept
+    IfSome_then c.kept_token.result c.kept_token.ensures.kept
     (λ k kept. first_kept r c.args.mode d c.args.text.now c.in-Some.token k c.found_token.new.ahead built c.utf8.text (c.in-Some.ensures.first d c.lexer.ensures.automaton) kept)
