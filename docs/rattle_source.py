@@ -9,7 +9,7 @@ from pathlib import Path
 TOP = Path(__file__).resolve().parent.parent
 # Each library, with the crates below it.
 LIBRARIES = {name: below.split() for name, below in re.findall(r"^(lalrpop_\w+|\w+_lib|bajofeki\w*)(?: \w+)?:(.*)", (TOP / "crates.txt").read_text(), re.M)}
-# `kind` is fn, impl, trait, struct, enum, mod or use; `name` is its name, an impl's type, or what a `use` says.
+# `kind` is fn, impl, trait, struct, enum, type, mod or use; `name` is its name, an impl's type, or what a `use` says.
 Item = namedtuple("Item", "kind name trait is_public text about functions ghosts file")
 # `text` is the head and the clauses, without comments.
 Function = namedtuple("Function", "name is_public text about")
@@ -20,7 +20,7 @@ UNSEEN = set("Value view invariant coded inverse laws total matches_eq matches_p
 
 NO_CODE = re.compile(r"""//[^\n]*|/\*.*?\*/|(?<!\w)r(#*)".*?"\1|"(?:\\.|[^"\\])*"|(?<![\w'])b?'(?:\\.[^'\n]*|[^\\'\n])'""", re.S)
 BEFORE = r"(?:#\[[^\n]*?\] *)*(pub(?:\([^)]*\))? )?(?:const |unsafe |extern +)*"
-ITEM = re.compile(rf"^{BEFORE}(?:(use) ([^;]*)|(fn|impl|trait|struct|enum|mod)\b([^{{;]*))", re.M)
+ITEM = re.compile(rf"^{BEFORE}(?:(use) ([^;]*)|(fn|impl|trait|struct|enum|type|mod)\b([^{{;]*))", re.M)
 FUNCTION = re.compile(rf"^ *{BEFORE}fn (\w+)", re.M)
 BRACE = re.compile(r"\{|;$", re.M)
 CLAUSE = re.compile(r"\b(?:requires|ensures|ghost \w+:)")
@@ -105,8 +105,8 @@ def theirs():
 def seen(item):
     """What users see of an item of theirs: titles, each with a comment and with code, which is a promise to them."""
     said = [f"{text};" for name, text in item.ghosts.items() if name not in UNSEEN]
-    if item.is_public and item.kind in TYPES:
-        is_open = item.kind == "enum" or item.kind == "struct" and re.search(r"\n    pub |\(pub ", item.text)
+    if item.is_public and item.kind in (*TYPES, "type"):
+        is_open = item.kind in ("enum", "type") or item.kind == "struct" and re.search(r"\n    pub |\(pub ", item.text)
         yield item.name, item.about, item.text if is_open else "\n".join(said * (item.kind == "trait"))
     if item.trait not in ("", "Model"):
         said = re.findall(r"^    (type [^\n]*;)", item.text, re.M) + said + [it.text for it in item.functions if "ensures" in it.text]

@@ -9,7 +9,7 @@ use lalrpop_lexer::lexer::dfa::{Dfa, NfaIndex, Precedence, build_dfa, clashes};
 use lalrpop_lexer::lexer::dfa::interpret::interpret;
 use lalrpop_lexer::lexer::re::Regex;
 use lalrpop_lexer::{Lexer, Terminals, Tokens, read_terminals, tokens};
-use lalrpop_rules::{Item, RuleLexer};
+use lalrpop_rules::{Piece, RuleLexer};
 use lalrpop_verdicts::{minimized, verdicts};
 use std::alloc::{AllocError, Global};
 use std::time::{CpuClock, Duration};
@@ -244,25 +244,25 @@ fn ruled_of(alloc: Global, bytes: &[u8]) -> Option<Ruled> {
 impl Work for Ruled {
     fn round(&mut self, alloc: Global, call: &str, text: &str) -> Result<Found, AllocError> {
         match call {
-            "items" => by_items(alloc, &self.lexer, text),
+            "pieces" => by_pieces(alloc, &self.lexer, text),
             "chunks" => by_chunks(alloc, &self.lexer, text),
             _ => by_numbers(alloc, &self.numbers, text.as_bytes()),
         }
     }
 }
 
-fn add_item(found: &mut Found, item: &Item<'_>) {
-    match item {
-        Item::Token(token) | Item::Skipped(token) => found.add(token.index, token.slice.len()),
-        Item::Fault { .. } => found.add_fault(),
+fn add_piece(found: &mut Found, piece: &Piece<'_>) {
+    match piece {
+        Piece::Token(token) | Piece::Skipped(token) => found.add(token.index, token.slice.len()),
+        Piece::Fault { .. } => found.add_fault(),
     }
 }
 
-fn by_items(alloc: Global, lexer: &RuleLexer, text: &str) -> Result<Found, AllocError> {
+fn by_pieces(alloc: Global, lexer: &RuleLexer, text: &str) -> Result<Found, AllocError> {
     let mut found = Found::none();
-    for item in lexer.items(alloc, text)? {
-        match item {
-            Ok(item) => add_item(&mut found, &item),
+    for piece in lexer.pieces(alloc, text)? {
+        match piece {
+            Ok(piece) => add_piece(&mut found, &piece),
             Err(error) => return Err(error),
         }
     }
@@ -367,7 +367,7 @@ fn main(rt: HostRuntime) -> Result<()> {
                 None => bail!("no automaton of these terminals"),
             }
         }
-        "items" | "chunks" | "bytes" => match ruled_of(alloc, bytes) {
+        "pieces" | "chunks" | "bytes" => match ruled_of(alloc, bytes) {
             Some(mut ruled) => tell(&rt, &mut ruled, &call, &text, rounds),
             None => bail!("no lexer of these rules"),
         },

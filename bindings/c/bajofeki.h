@@ -315,7 +315,7 @@ bajofeki_place_t bajofeki_position(const char *text, size_t length, size_t at);
 
 /* The version of these functions, the first number of a release's. A program works with any later library of the same version. */
 uint32_t bajofeki_version(void);
-#define BAJOFEKI_VERSION 4
+#define BAJOFEKI_VERSION 5
 
 #ifdef __cplusplus
 }

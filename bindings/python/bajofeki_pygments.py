@@ -43,6 +43,6 @@ class BajofekiLexer(PygmentsLexer):
         # A class has one lexer, which is built for its first text.
         if "_lexer" not in vars(type(self)):
             type(self)._lexer = Lexer(self.rules)
-        for item in self._lexer.items(text):
-            is_token = item.kind in (Kind.TOKEN, Kind.SKIPPED)
-            yield item.start, (self.types.get(item.rule) or type_of(item.rule)) if is_token else Error, item.text
+        for piece in self._lexer.pieces(text):
+            is_token = piece.kind in (Kind.TOKEN, Kind.SKIPPED)
+            yield piece.start, (self.types.get(piece.rule) or type_of(piece.rule)) if is_token else Error, piece.text

@@ -137,7 +137,7 @@ def text_page(rules, rules_name, data, name):
     numbers = {rule: number for number, rule in enumerate(dict.fromkeys(named))}
     kinds = {rule: "skipped, " * rule[1] + kind_of(rule[0]) for rule in numbers}
     lines, faults, counts, stack, places = [[]], [], dict.fromkeys(numbers, 0), [(lexer.modes[0], None)], Places(data)
-    for piece in lexer.items(data):
+    for piece in lexer.pieces(data):
         place, text = places.at(piece.start), piece.text.decode("utf-8", "surrogateescape")
         where = (f"mode {stack[-1][0]}, " if len(lexer.modes) > 1 else "") + "{}:{}".format(*place)
         if piece.rule is None:

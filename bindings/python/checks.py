@@ -3,23 +3,23 @@
 >>> for seed in range(40):
 ...     check(random.Random(seed))
 >>> long = "let x?" * 3000
->>> len(Document(LEXER, long).pieces()), len(LEXER.arrays(long).ends), sum(1 for _ in LEXER.items(long))
+>>> len(Document(LEXER, long).pieces()), len(LEXER.arrays(long).ends), sum(1 for _ in LEXER.pieces(long))
 (12000, 12000, 12000)
 
 A file in memory is cut where it lies, and stays open meanwhile.
 
 >>> file = mmap.mmap(-1, 6)
 >>> file[:] = b"let x?"
->>> items = LEXER.items(file)
+>>> pieces = LEXER.pieces(file)
 >>> file.close()
 Traceback (most recent call last):
 BufferError: cannot close exported pointers exist
->>> [(piece.rule, piece.text) for piece in items], file.close()
+>>> [(piece.rule, piece.text) for piece in pieces], file.close()
 ([('LET', b'let'), ('SPACE', b' '), ('NAME', b'x'), (None, b'?')], None)
 
 In a cycle that is garbage everything has ended once a `__del__` asks for more, and says so.
 
->>> asked_in_cycle(lambda: begun(LEXER.items(long))), asked_in_cycle(lambda: Document(LEXER, "x").pieces)
+>>> asked_in_cycle(lambda: begun(LEXER.pieces(long))), asked_in_cycle(lambda: Document(LEXER, "x").pieces)
 ('it was closed', 'it was closed')
 
 A pickle that is cut off is an error of pickle, and one whose rules were spoilt an error of the rules.
@@ -44,7 +44,7 @@ def text(chance, most):
 
 
 def pieces_of(data):
-    return [piece._replace(text=piece.text.decode()) for piece in LEXER.items(data)]
+    return [piece._replace(text=piece.text.decode()) for piece in LEXER.pieces(data)]
 
 
 class Garbage:
@@ -115,7 +115,7 @@ def check(chance):
         assert other.submit(document.pieces).result() == pieces
     for same in (bytearray(data), memoryview(data), memoryview(b"?" + data)[1:], data.decode()):
         assert list(LEXER.arrays(same).ends) == [piece.end for piece in pieces]
-    assert [(item.start_byte, item.text) for item in LEXER.items(data.decode())] == [(piece.start, piece.text) for piece in pieces]
+    assert [(piece.start_byte, piece.text) for piece in LEXER.pieces(data.decode())] == [(piece.start, piece.text) for piece in pieces]
     with Stream(LEXER) as stream:
         given, at = [], 0
         while at < len(data):

@@ -15,13 +15,13 @@ def quoted(text):
 def cut_text(lexer, path, front):
     """Cuts a text, and gives the status."""
     status = 0
-    for item in lexer.items(Path(path).read_bytes().decode()):
-        if item.kind is Kind.TOO_DEEP:
-            print(f"cut: {path}:{item.line}:{item.column}: more than 1024 modes lie below the top", file=sys.stderr)
+    for piece in lexer.pieces(Path(path).read_bytes().decode()):
+        if piece.kind is Kind.TOO_DEEP:
+            print(f"cut: {path}:{piece.line}:{piece.column}: more than 1024 modes lie below the top", file=sys.stderr)
             return 1
-        if item.kind is not Kind.SKIPPED:
-            print(f"{front}{item.line}:{item.column} {item.rule or '!'} {quoted(item.text)}")
-        status = 1 if item.kind is Kind.FAULT else status
+        if piece.kind is not Kind.SKIPPED:
+            print(f"{front}{piece.line}:{piece.column} {piece.rule or '!'} {quoted(piece.text)}")
+        status = 1 if piece.kind is Kind.FAULT else status
     return status
 
 

@@ -141,7 +141,7 @@ def compare(head, rules, texts):
     left, first = left_out("\n".join(rules), head), head.count("\n")
     assert not left, left
     lexer = Lexer(rules_in(head + "\n".join(rules), "a.l").text())
-    own = [[(int(it.rule.split("_")[1]) - first, it.start) for it in lexer.items(text.encode())] for text in texts]
+    own = [[(int(it.rule.split("_")[1]) - first, it.start) for it in lexer.pieces(text.encode())] for text in texts]
     if shutil.which("flex") and shutil.which("cc"):
         with tempfile.TemporaryDirectory() as at:
             found = flex_cut(at, head + "\n".join(rules) + MAIN, texts)

@@ -84,8 +84,8 @@ def check_pattern(chance):
         text = "k" * bool(end) + "".join(chance.choices(ALPHABET, k=chance.randint(1, 6)))
         found = compiled.match(text)
         sizes = [found.end()] if end and found else [] if end else [it for it in range(1, len(text) + 1) if compiled.fullmatch(text, 0, it)]
-        item = next(iter(lexer.items(text)))
-        assert (item.end if item.kind is Kind.TOKEN else 0) == max(sizes, default=0), (compiled, text_of(compiled), text, item)
+        piece = next(iter(lexer.pieces(text)))
+        assert (piece.end if piece.kind is Kind.TOKEN else 0) == max(sizes, default=0), (compiled, text_of(compiled), text, piece)
 
 
 def check_lexer(name, text):
@@ -95,7 +95,7 @@ def check_lexer(name, text):
     for start, kind, part in getattr(importlib.import_module(module), name_of_class)().get_tokens_unprocessed(text):
         types += ["_".join(kind)] * len(part)
         ends.add(start + len(part))
-    for item in Lexer(rules_of(name).text()).items(text):
-        found = {*types[item.start : item.end]}
+    for piece in Lexer(rules_of(name).text()).pieces(text):
+        found = {*types[piece.start : piece.end]}
         is_one = len(found) == 1
-        assert item.rule in found and (is_one or {item.start, item.end} <= ends), (item, found)
+        assert piece.rule in found and (is_one or {piece.start, piece.end} <= ends), (piece, found)

@@ -127,8 +127,8 @@ def difference(lexer, rules, text):
     """What both give from the first token that differs on, and whether that is a line feed that no rule matches; None if none does."""
     found = [("_".join(kind) or "Token", at, at + len(part)) for at, kind, part in lexer.get_tokens_unprocessed(text) if part]
     given = []
-    for item in rules.items(text):
-        given += [(item.rule, item.start, item.end)] if item.rule else [("Error", at, at + 1) for at in range(item.start, item.end)]
+    for piece in rules.pieces(text):
+        given += [(piece.rule, piece.start, piece.end)] if piece.rule else [("Error", at, at + 1) for at in range(piece.start, piece.end)]
     same = sum(1 for _ in itertools.takewhile(lambda it: it[0] == it[1], zip(found, given)))
     rest = found[same:], given[same:]
     if any(rest):

@@ -170,11 +170,11 @@ def tokens_by_lexer(text, encoding):
     """The same by a cut of the text."""
     codec, unit = UNITS[encoding]
     lines, width = text.split("\n"), lambda part: len(part.encode(codec)) // unit
-    for item in Lexer(RULES).items(text):
-        for down, part in enumerate(item.text.split("\n")):
-            start = 0 if down else item.column - 1
-            if item.kind is Kind.TOKEN and part:
-                yield item.line - 1 + down, width(lines[item.line - 1 + down][:start]), width(part), TYPES[item.rule]
+    for piece in Lexer(RULES).pieces(text):
+        for down, part in enumerate(piece.text.split("\n")):
+            start = 0 if down else piece.column - 1
+            if piece.kind is Kind.TOKEN and part:
+                yield piece.line - 1 + down, width(lines[piece.line - 1 + down][:start]), width(part), TYPES[piece.rule]
 
 
 def check_edits(client, chance, encoding):

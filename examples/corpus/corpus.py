@@ -23,7 +23,7 @@ SEEN = Lexer(r'SEEN = /[^\p{Cc}\p{Cn}\p{Default_Ignorable_Code_Point}\u{2028}\u{
 
 def quoted(text):
     """The string of JSON that `tokens` writes: all that isn't seen is escaped."""
-    return escaped(text) if text.isascii() else f'"{"".join(it.text if it.rule else escaped(it.text)[1:-1] for it in SEEN.items(text))}"'
+    return escaped(text) if text.isascii() else f'"{"".join(it.text if it.rule else escaped(it.text)[1:-1] for it in SEEN.pieces(text))}"'
 
 
 def act(stack, actions):

@@ -1,11 +1,11 @@
 """Lexers of rules that come at run time. What they answer is proved: bindings/README.md says what that means.
 
 >>> lexer = Lexer("LET = 'let'\\nNAME = /[a-z]+/\\nSPACE skip = /\\\\s+/\\n")
->>> [(item.kind.value, item.rule, item.text) for item in lexer.items("let x?")]
+>>> [(piece.kind.value, piece.rule, piece.text) for piece in lexer.pieces("let x?")]
 [('token', 'LET', 'let'), ('skipped', 'SPACE', ' '), ('token', 'NAME', 'x'), ('fault', None, '?')]
 
 A text is a str, or a buffer of bytes, as bytes, bytearray, memoryview or mmap. A buffer is read where it lies. It is held until the
-last item or `close()`, so a bytearray keeps its size; its bytes mustn't change meanwhile.
+last piece or `close()`, so a bytearray keeps its size; its bytes mustn't change meanwhile.
 """
 import enum
 import math
@@ -21,8 +21,8 @@ from . import _library
 from ._library import LIBRARY, Piece as _Piece, Room as _Room, Text as _Text
 from ._library import actions as _actions, name as _name, word as _word, written as _written
 
-__all__ = """Action Arrays Change Checked Columns Document Item Kind Lexer NotUtf8Error Outcome Piece Place Places Rule RulesError
-    RulesErrorKind Stream check diff dot""".split()
+__all__ = """Action Arrays Change Checked Columns Document Kind Lexer NotUtf8Error Outcome Piece Place Places Rule RulesError
+    RulesErrorKind Stream TextPiece check diff dot""".split()
 
 _DONE, _BAD_RANGE, _BAD_NAME, _FULL, _NOT_UTF8, _TOO_DEEP, _TOO_LARGE, _OUT_OF_MEMORY, _ENDED, _BAD_ARGUMENT = 0, 1, 1, 2, 3, 4, 6, 7, 8, 10
 _NO_RULE = 4
@@ -116,7 +116,7 @@ def _first_bad(data):
 
 
 class Kind(enum.Enum):
-    """What an item is. The rest of a text is TOO_DEEP, and the last item, where its first token would put a mode on top of more than
+    """What a piece is. The rest of a text is TOO_DEEP, and the last piece, where its first token would put a mode on top of more than
     1024 others. A FAULT is characters at none of which a rule matches."""
 
     TOKEN = "token"
@@ -151,7 +151,7 @@ class Rule(NamedTuple):
     actions: Tuple[Action, ...] = ()
 
 
-class Item(NamedTuple):
+class TextPiece(NamedTuple):
     """A part of a str. `start` and `end` are in characters; lines and columns count from 1."""
 
     kind: Kind
@@ -257,7 +257,7 @@ class Lexer:
     ...         self.name = name
     >>> import copy
     >>> named = copy.copy(Named("mine", "B = 'b'\\nA = 'a'\\n"))
-    >>> named.name, [item.number for item in named.items("ab?")], named
+    >>> named.name, [piece.number for piece in named.pieces("ab?")], named
     ('mine', [1, 0, None], <Named of 2 rules>)
     """
 
@@ -292,32 +292,32 @@ class Lexer:
     def __repr__(self):
         return f"<{type(self).__name__} of {len(self.rules)} rules>"
 
-    def items(self, text):
-        """Cuts a text to its end, by its code in time linear in it, skipped tokens and faults too: a str into Items, a buffer into
-        Pieces.
+    def pieces(self, text):
+        """Cuts a text to its end, by its code in time linear in it, skipped tokens and faults too: a str into TextPieces, a buffer
+        into Pieces.
 
-        >>> next(Lexer("A = /a+/\\n").items(bytearray(b"aa?")))
+        >>> next(Lexer("A = /a+/\\n").pieces(bytearray(b"aa?")))
         Piece(kind=<Kind.TOKEN: 'token'>, rule='A', text=b'aa', start=0, end=2, number=0)
         """
         text = _Text(text)
-        items = (self._items_of_str if text.is_str else self._items_of_buffer)(text)
+        pieces = (self._pieces_of_str if text.is_str else self._pieces_of_buffer)(text)
         # Only of what has begun does `close()` let go of the buffer.
-        next(items)
-        return items
+        next(pieces)
+        return pieces
 
-    def _items_of_str(self, text):
+    def _pieces_of_str(self, text):
         start, line, column = 0, 1, 1
         yield
         for kind, rule, at, length in self._pieces(text):
             part = text.data[at : at + length].decode("utf-8", "surrogatepass")
             end = start + len(part)
             name, number = self._names[rule] if kind < 2 else (None, None)
-            # A tuple made so takes half of the time that `Item(..)` does.
-            yield _made(Item, (_KINDS[kind], name, part, start, end, line, column, at, at + length, number))
+            # A tuple made so takes half of the time that `TextPiece(..)` does.
+            yield _made(TextPiece, (_KINDS[kind], name, part, start, end, line, column, at, at + length, number))
             start, feeds = end, part.count("\n")
             line, column = line + feeds, len(part) - part.rfind("\n") if feeds else column + len(part)
 
-    def _items_of_buffer(self, text):
+    def _pieces_of_buffer(self, text):
         yield
         for block, _ in self._blocks(text):
             yield from self._told(block, text.data, 0, bytes)
@@ -330,7 +330,7 @@ class Lexer:
             yield _made(Piece, (_KINDS[kind], name, part, at, at + length, number))
 
     def arrays(self, text):
-        """The pieces of a whole text, where speed counts: in a tenth of the time that `items` takes.
+        """The pieces of a whole text, where speed counts: in a tenth of the time that `pieces` takes.
 
         >>> Lexer("A = /a+/\\nB = 'b'\\n").arrays("aab?")
         Arrays(kinds=array('I', [0, 0, 2]), rules=array('I', [0, 1, 0]), ends=array('Q', [2, 3, 4]))

@@ -11,7 +11,6 @@ __all__ = [
     "Checked",
     "Columns",
     "Document",
-    "Item",
     "Kind",
     "Lexer",
     "NotUtf8Error",
@@ -23,6 +22,7 @@ __all__ = [
     "RulesError",
     "RulesErrorKind",
     "Stream",
+    "TextPiece",
     "check",
     "diff",
     "dot",
@@ -72,7 +72,7 @@ class Rule(NamedTuple):
     is_skipped: bool
     actions: Tuple[Action, ...] = ...
 
-class Item(NamedTuple):
+class TextPiece(NamedTuple):
     kind: Kind
     rule: Optional[str]
     text: str
@@ -110,9 +110,9 @@ class Lexer:
     rules: Tuple[Rule, ...]
     def __init__(self, rules: Union[str, ReadableBuffer]) -> None: ...
     @overload
-    def items(self, text: str) -> Generator[Item, None, None]: ...
+    def pieces(self, text: str) -> Generator[TextPiece, None, None]: ...
     @overload
-    def items(self, text: ReadableBuffer) -> Generator[Piece[bytes], None, None]: ...
+    def pieces(self, text: ReadableBuffer) -> Generator[Piece[bytes], None, None]: ...
     def arrays(self, text: Union[str, ReadableBuffer]) -> Arrays: ...
     def html(self, text: Union[str, ReadableBuffer]) -> str: ...
     def ansi(self, text: Union[str, ReadableBuffer]) -> str: ...

@@ -94,7 +94,7 @@ FUNCTIONS = {
 
 
 # The version of the functions, and so the number in the library's name.
-VERSION = 4
+VERSION = 5
 
 
 def _loaded():

@@ -27,10 +27,10 @@ fn cut_text(lexer: &Lexer, path: &str, front: &str, text: &str) -> io::Result<i3
     let mut out = BufWriter::new(io::stdout().lock());
     let mut places = Places::new(text);
     let mut status = 0;
-    for item in lexer.items(text) {
-        let place = places.at(item.start);
-        let name = match item.kind {
-            Kind::Token => item.rule,
+    for piece in lexer.pieces(text) {
+        let place = places.at(piece.start);
+        let name = match piece.kind {
+            Kind::Token => piece.rule,
             Kind::Skipped => continue,
             Kind::Fault => "!",
             Kind::TooDeep => {
@@ -46,9 +46,9 @@ fn cut_text(lexer: &Lexer, path: &str, front: &str, text: &str) -> io::Result<i3
             "{front}{}:{} {name} \"{}\"",
             place.line,
             place.column,
-            quoted(item.text)
+            quoted(piece.text)
         )?;
-        status = if item.kind == Kind::Fault { 1 } else { status };
+        status = if piece.kind == Kind::Fault { 1 } else { status };
     }
     out.flush()?;
     Ok(status)

@@ -26,7 +26,7 @@ pub struct Checked {
     pub message: String,
 }
 
-/// Checks a file of rules of this name, as `tokens --check` does. Memory is as for [`Lexer::items`](crate::Lexer::items).
+/// Checks a file of rules of this name, as `tokens --check` does. Memory is as for [`Lexer::pieces`](crate::Lexer::pieces).
 ///
 /// # Panics
 ///

@@ -3,9 +3,9 @@
 use std::fmt;
 use std::ops::Range;
 
-use crate::ffi::{HeldDocument, Piece};
-use crate::items::item;
-use crate::{Columns, Item, Lexer, OutOfMemory, Place, TextError};
+use crate::ffi::{HeldDocument, Piece as RawPiece};
+use crate::pieces::piece_of;
+use crate::{Columns, Lexer, OutOfMemory, Piece, Place, TextError};
 
 /// What an edit changed of the pieces of a document. Pieces are numbered from 0, and places are in bytes.
 #[derive(Clone, Copy, Debug, PartialEq, Eq, Hash)]
@@ -100,11 +100,11 @@ impl<'a> Document<'a> {
     /// # Errors
     ///
     /// [`OutOfMemory`], if they get no memory.
-    pub fn pieces(&self, range: Range<usize>) -> Result<Vec<Item<'_>>, OutOfMemory> {
+    pub fn pieces(&self, range: Range<usize>) -> Result<Vec<Piece<'_>>, OutOfMemory> {
         let (mut pieces, mut room) = (Vec::new(), 64);
         loop {
             pieces.try_reserve_exact(room).map_err(|_| OutOfMemory)?;
-            pieces.resize(room, Piece::default());
+            pieces.resize(room, RawPiece::default());
             let found = self.held.pieces(range.start, range.end, &mut pieces);
             if found.code != 0 {
                 return Err(OutOfMemory);
@@ -115,12 +115,16 @@ impl<'a> Document<'a> {
             }
             room = found.count;
         }
-        let mut items = Vec::new();
-        items
+        let mut given = Vec::new();
+        given
             .try_reserve_exact(pieces.len())
             .map_err(|_| OutOfMemory)?;
-        items.extend(pieces.iter().map(|it| item(self.lexer, &*self.text, *it)));
-        Ok(items)
+        given.extend(
+            pieces
+                .iter()
+                .map(|it| piece_of(self.lexer, &*self.text, *it)),
+        );
+        Ok(given)
     }
 
     /// The piece that holds the byte at an offset; `None` at the end of the text, and after it.
@@ -128,7 +132,7 @@ impl<'a> Document<'a> {
     /// # Errors
     ///
     /// As for [`Document::pieces`].
-    pub fn piece_at(&self, at: usize) -> Result<Option<Item<'_>>, OutOfMemory> {
+    pub fn piece_at(&self, at: usize) -> Result<Option<Piece<'_>>, OutOfMemory> {
         let pieces = self.pieces(at..at.saturating_add(1))?;
         Ok(pieces.first().copied())
     }

@@ -4,7 +4,7 @@
 //! use bajofeki::{Kind, Lexer};
 //!
 //! let lexer = Lexer::new("LET = 'let'\nNAME = /[a-z]+/\nSPACE skip = /\\s+/\n")?;
-//! let found: Vec<_> = lexer.items("let x?").map(|item| (item.kind, item.rule, item.text)).collect();
+//! let found: Vec<_> = lexer.pieces("let x?").map(|piece| (piece.kind, piece.rule, piece.text)).collect();
 //! assert_eq!(
 //!     found,
 //!     [
@@ -26,7 +26,7 @@ mod check;
 mod document;
 #[allow(unsafe_code)]
 mod ffi;
-mod items;
+mod pieces;
 mod places;
 mod rules_error;
 mod stream;
@@ -35,7 +35,7 @@ mod text_error;
 pub use check::{check, check_json, diff, dot, Checked, NoRule, Outcome};
 pub use check::{try_check, try_check_json, try_diff, try_dot, CheckError};
 pub use document::{Change, Document};
-pub use items::{Item, Items, Kind, OutOfMemory, Text};
+pub use pieces::{Kind, OutOfMemory, Piece, Pieces, Text};
 pub use places::{Columns, Place, Places};
 pub use rules_error::{RulesError, RulesErrorKind};
 pub use stream::Stream;
@@ -84,7 +84,7 @@ pub enum Lookahead {
 /// std::thread::scope(|scope| {
 ///     for text in ["1", "22"] {
 ///         let lexer = &lexer;
-///         scope.spawn(move || assert_eq!(lexer.items(text).count(), 1));
+///         scope.spawn(move || assert_eq!(lexer.pieces(text).count(), 1));
 ///     }
 /// });
 /// # Ok::<(), bajofeki::RulesError>(())
@@ -175,7 +175,7 @@ impl Lexer {
         &self.rules
     }
 
-    /// Cuts a text, which is a `str` or bytes: its items are what it consists of, from its beginning to its end, skipped tokens and
+    /// Cuts a text, which is a `str` or bytes: its pieces are what it consists of, from its beginning to its end, skipped tokens and
     /// faults too.
     ///
     /// By its code it takes time linear in the text, and some memory for each byte of it. If that is refused, it ends the process
@@ -183,15 +183,15 @@ impl Lexer {
     ///
     /// ```
     /// let lexer = bajofeki::Lexer::new("A = /a+/\n")?;
-    /// let parts: Vec<_> = lexer.items(b"aa\xFF").map(|item| item.text).collect();
+    /// let parts: Vec<_> = lexer.pieces(b"aa\xFF").map(|piece| piece.text).collect();
     /// assert_eq!(parts, [&b"aa"[..], b"\xFF"]);
     /// # Ok::<(), bajofeki::RulesError>(())
     /// ```
-    pub fn items<'a, T: Text + ?Sized>(&'a self, text: &'a T) -> Items<'a, T::Part> {
-        had(self.try_items(text))
+    pub fn pieces<'a, T: Text + ?Sized>(&'a self, text: &'a T) -> Pieces<'a, T::Part> {
+        had(self.try_pieces(text))
     }
 
-    /// As [`Lexer::items`], where refused memory is an error.
+    /// As [`Lexer::pieces`], where refused memory is an error.
     ///
     /// # Errors
     ///
@@ -199,19 +199,19 @@ impl Lexer {
     ///
     /// ```
     /// let lexer = bajofeki::Lexer::new("A = 'a'\nB = 'b'\n")?;
-    /// let numbers: Vec<_> = lexer.try_items("ba?")?.map(|item| item.number).collect();
+    /// let numbers: Vec<_> = lexer.try_pieces("ba?")?.map(|piece| piece.number).collect();
     /// assert_eq!(numbers, [Some(1), Some(0), None]);
     /// # Ok::<(), Box<dyn std::error::Error>>(())
     /// ```
-    pub fn try_items<'a, T: Text + ?Sized>(
+    pub fn try_pieces<'a, T: Text + ?Sized>(
         &'a self,
         text: &'a T,
-    ) -> Result<Items<'a, T::Part>, OutOfMemory> {
-        Items::new(self, text.part(0..text.as_ref().len()))
+    ) -> Result<Pieces<'a, T::Part>, OutOfMemory> {
+        Pieces::new(self, text.part(0..text.as_ref().len()))
     }
 
     /// The text as HTML: each token in a `span` whose class is the name of its rule, each fault in a `mark`, and skipped tokens in
-    /// neither. Memory is as for [`Lexer::items`].
+    /// neither. Memory is as for [`Lexer::pieces`].
     ///
     /// ```
     /// let lexer = bajofeki::Lexer::new("A = 'a'\nLESS skip = '<'\n")?;
@@ -231,7 +231,7 @@ impl Lexer {
         self.page(text, Markup::Html)
     }
 
-    /// The text in colours for a terminal, by escape sequences. It can't control the terminal. Memory is as for [`Lexer::items`].
+    /// The text in colours for a terminal, by escape sequences. It can't control the terminal. Memory is as for [`Lexer::pieces`].
     ///
     /// ```
     /// let lexer = bajofeki::Lexer::new("A = 'a'\n")?;
@@ -257,7 +257,7 @@ impl Lexer {
     }
 
     /// The lexer as one source file in C, as `tokens --emit c` writes it: C99 and C++, with names that begin with the prefix. `None` if
-    /// that isn't an identifier of ASCII letters, digits and `_`. Memory is as for [`Lexer::items`].
+    /// that isn't an identifier of ASCII letters, digits and `_`. Memory is as for [`Lexer::pieces`].
     ///
     /// ```
     /// let lexer = bajofeki::Lexer::new("A = 'a'\n")?;
@@ -279,7 +279,7 @@ impl Lexer {
     }
 
     /// The lexer as one source file in Rust, as `tokens --emit rust` writes it. `None` if the name of a rule begins with a digit, or is
-    /// `_`, `self`, `super`, `crate` or `Self`. Memory is as for [`Lexer::items`].
+    /// `_`, `self`, `super`, `crate` or `Self`. Memory is as for [`Lexer::pieces`].
     ///
     /// ```
     /// let lexer = bajofeki::Lexer::new("A = 'a'\n")?;
@@ -364,13 +364,13 @@ fn is_of_this_version() -> bool {
     env!("CARGO_PKG_VERSION_MAJOR").parse() == Ok(version())
 }
 
-// Lexers, items and errors go from thread to thread, and threads may share them. Documents and streams go, and are one thread's at a time.
+// Lexers, pieces and errors go from thread to thread, and threads may share them. Documents and streams go, and are one thread's at a time.
 const _: () = {
     const fn is_sent<T: Send>() {}
     is_sent::<Document<'_>>();
     is_sent::<Stream<'_>>();
     const fn is_shared<T: Send + Sync>() {}
     is_shared::<Lexer>();
-    is_shared::<Items<'_>>();
+    is_shared::<Pieces<'_>>();
     is_shared::<RulesError>();
 };

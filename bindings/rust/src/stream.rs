@@ -2,9 +2,9 @@
 
 use std::fmt;
 
-use crate::ffi::{HeldStream, Piece, DONE, FULL};
-use crate::items::{item, ROOM};
-use crate::{Item, Lexer, TextError};
+use crate::ffi::{HeldStream, Piece as RawPiece, DONE, FULL};
+use crate::pieces::{piece_of, ROOM};
+use crate::{Lexer, Piece, TextError};
 
 /// A text that comes in chunks of any bytes. Each of its pieces is given once no later chunk can change it. What isn't UTF-8 matches
 /// nothing, so it lies in a fault.
@@ -29,7 +29,7 @@ pub struct Stream<'a> {
     /// What has come from the offset `at` on, of which the front stands in pieces.
     text: Vec<u8>,
     at: usize,
-    pieces: Vec<Piece>,
+    pieces: Vec<RawPiece>,
     /// How many of `pieces` were given.
     given: usize,
 }
@@ -87,7 +87,7 @@ impl<'a> Stream<'a> {
     /// # Errors
     ///
     /// [`TextError::OutOfMemory`]; then a later call gives them.
-    pub fn pieces(&mut self) -> Result<Vec<Item<'_, [u8]>>, TextError> {
+    pub fn pieces(&mut self) -> Result<Vec<Piece<'_, [u8]>>, TextError> {
         self.let_given_go();
         let mut code = self.held.as_ref().map_or(DONE, |_| FULL);
         while code == FULL {
@@ -95,7 +95,7 @@ impl<'a> Stream<'a> {
             if self.pieces.try_reserve(ROOM).is_err() {
                 return Err(TextError::OutOfMemory);
             }
-            self.pieces.resize(count + ROOM, Piece::default());
+            self.pieces.resize(count + ROOM, RawPiece::default());
             let (held, room) = (self.held.as_mut(), &mut self.pieces[count..]);
             let (of, found) = held.map_or((DONE, 0), |it| it.next(room));
             self.pieces.truncate(count + found);
@@ -104,21 +104,21 @@ impl<'a> Stream<'a> {
         if code != DONE {
             return Err(TextError::new(code));
         }
-        let mut items = Vec::new();
-        if items.try_reserve_exact(self.pieces.len()).is_err() {
+        let mut given = Vec::new();
+        if given.try_reserve_exact(self.pieces.len()).is_err() {
             return Err(TextError::OutOfMemory);
         }
         self.given = self.pieces.len();
         let text = &self.text[..self.given_bytes()];
         for piece in &self.pieces {
             let start = piece.start - self.at;
-            let found = item(self.lexer, text, Piece { start, ..*piece });
-            items.push(Item {
+            let found = piece_of(self.lexer, text, RawPiece { start, ..*piece });
+            given.push(Piece {
                 start: piece.start,
                 ..found
             });
         }
-        Ok(items)
+        Ok(given)
     }
 
     /// How many bytes of `text` stand in pieces that were given.

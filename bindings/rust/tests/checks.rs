@@ -1,6 +1,6 @@
-//! On random texts documents and streams have the items of a whole cut, and places are found back.
+//! On random texts documents and streams have the pieces of a whole cut, and places are found back.
 
-use bajofeki::{Columns, Document, Item, Kind, Lexer, Place, Places, Stream, TextError};
+use bajofeki::{Columns, Document, Kind, Lexer, Piece, Place, Places, Stream, TextError};
 
 const RULES: &str = "LET = 'let'
 NAME = /[a-z]+/
@@ -66,11 +66,11 @@ fn documents() -> Result<(), Box<dyn std::error::Error>> {
             match document.edit(range.clone(), &new) {
                 Ok(change) => {
                     text.replace_range(range, &new);
-                    let items: Vec<_> = lexer.items(&text).collect();
-                    assert_eq!(items.len() + change.removed, old + change.inserted);
-                    assert_eq!(document.pieces(0..usize::MAX)?, items);
-                    for item in items {
-                        assert_eq!(document.piece_at(item.range().end - 1)?, Some(item));
+                    let pieces: Vec<_> = lexer.pieces(&text).collect();
+                    assert_eq!(pieces.len() + change.removed, old + change.inserted);
+                    assert_eq!(document.pieces(0..usize::MAX)?, pieces);
+                    for piece in pieces {
+                        assert_eq!(document.piece_at(piece.range().end - 1)?, Some(piece));
                     }
                 }
                 Err(error) => assert!(error == TextError::NoBoundary && !is_range),
@@ -83,12 +83,12 @@ fn documents() -> Result<(), Box<dyn std::error::Error>> {
     Ok(())
 }
 
-/// An item without what borrows the text.
+/// A piece without what borrows the text.
 type Part = (Kind, Option<usize>, usize, Vec<u8>);
 
-fn parts<'a, T: AsRef<[u8]> + ?Sized + 'a>(items: impl IntoIterator<Item = Item<'a, T>>) -> Vec<Part> {
-    let part = |item: Item<'_, T>| (item.kind, item.number, item.start, item.text.as_ref().to_vec());
-    items.into_iter().map(part).collect()
+fn parts<'a, T: AsRef<[u8]> + ?Sized + 'a>(pieces: impl IntoIterator<Item = Piece<'a, T>>) -> Vec<Part> {
+    let part = |piece: Piece<'_, T>| (piece.kind, piece.number, piece.start, piece.text.as_ref().to_vec());
+    pieces.into_iter().map(part).collect()
 }
 
 #[test]
@@ -105,7 +105,7 @@ fn streams() -> Result<(), Box<dyn std::error::Error>> {
         }
         stream.finish()?;
         given.extend(parts(stream.pieces()?));
-        assert_eq!(given, parts(lexer.items(&text)));
+        assert_eq!(given, parts(lexer.pieces(&text)));
         assert_eq!(stream.feed(""), Err(TextError::Ended));
     }
     let mut stream = Stream::new(&lexer);
@@ -123,12 +123,12 @@ fn streams() -> Result<(), Box<dyn std::error::Error>> {
 fn lines_in_one_memory() -> Result<(), Box<dyn std::error::Error>> {
     let (lexer, mut chance) = (Lexer::new(RULES)?, Chance(3));
     let lines: Vec<_> = (0..300).map(|n| chance.text(if n % 50 == 49 { 3000 } else { 60 })).collect();
-    let mut items = lexer.items("");
+    let mut pieces = lexer.pieces("");
     for line in &lines {
-        items.begin_again(line)?;
-        items.nth(1);
-        items.begin_again(line)?;
-        assert_eq!(parts(items.by_ref()), parts(lexer.items(line)));
+        pieces.begin_again(line)?;
+        pieces.nth(1);
+        pieces.begin_again(line)?;
+        assert_eq!(parts(pieces.by_ref()), parts(lexer.pieces(line)));
     }
     Ok(())
 }

@@ -74,7 +74,7 @@ fn lexers_and_texts() {
         found => Err(found.unwrap_err().kind),
     };
     assert_eq!(refused(RulesErrorKind::OutOfMemory, clash).other, "ABC");
-    assert_eq!(refused(OutOfMemory, || lexer.try_items("let x").map(|it| it.count())), 3);
+    assert_eq!(refused(OutOfMemory, || lexer.try_pieces("let x").map(|it| it.count())), 3);
     assert_eq!(refused(OutOfMemory, || lexer.try_html("x")), lexer.html("x"));
     assert_eq!(refused(OutOfMemory, || lexer.try_ansi("x")), lexer.ansi("x"));
     assert_eq!(refused(OutOfMemory, || lexer.try_c_source("lex")), lexer.c_source("lex"));

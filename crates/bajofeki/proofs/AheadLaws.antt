@@ -20,7 +20,7 @@ use Rattle.bajofeki.specs.declared.found_ahead.FoundAhead.{FoundAhead}
 use Rattle.lalrpop_rules.specs.Modes.{ModeRules, trees_in}
 use Rattle.bajofeki.specs.declared.kept.Kept.{Kept}
 use Rattle.bajofeki.specs.declared.parts.Part.{Part}
-use Rattle.bajofeki.specs.declared.parts.Piece.{Piece}
+use Rattle.bajofeki.specs.declared.parts.FrontPiece.{FrontPiece}
 use Rattle.bajofeki.specs.declared.parts.Told.TheVariants.{Whole}
 use Rattle.bajofeki.specs.Internal.Ahead.{AreFound, AreFoundAfter, IsFirst, IsKeptOf, LeadOn, LeadOnAfter}
 use Rattle.bajofeki.specs.Internal.Kept.{IsFront, IsKept}
@@ -51,7 +51,7 @@ dead_settles d ts ps text n h u dead = inr (
 )
 
 -- so the token is at the front of each text that begins with this one
-pub dead_told : (d : List Row) (ts : List Tree) (ps text slice : List ℕ) (f : Piece) (i n : ℕ) → IsBuiltFrom ts ps d → IsUtf8 text → IsLongest ts ps text (Some (i, slice))
+pub dead_told : (d : List Row) (ts : List Tree) (ps text slice : List ℕ) (f : FrontPiece) (i n : ℕ) → IsBuiltFrom ts ps d → IsUtf8 text → IsLongest ts ps text (Some (i, slice))
     → slice ≡ take f.size text → IsCharBoundary text f.size → f.rule ≡ Some i → IsDeadAt d text n → Tells ts ps text false (Whole f)
 dead_told d ts ps text slice f i n built u longest cut boundary rule dead = (
   boundary,
@@ -81,7 +81,7 @@ end_dead d text n u begins s =
     }
 
 -- so it is at the front of each text that begins with this one
-pub end_told : (d : List Row) (ts : List Tree) (ps text : List ℕ) (f : Piece) (i : ℕ) → IsBuiltFrom ts ps d → IsUtf8 text → IsEnd d text 0 i f.size → f.rule ≡ Some i
+pub end_told : (d : List Row) (ts : List Tree) (ps text : List ℕ) (f : FrontPiece) (i : ℕ) → IsBuiltFrom ts ps d → IsUtf8 text → IsEnd d text 0 i f.size → f.rule ≡ Some i
     → Tells ts ps text false (Whole f)
 end_told d ts ps text f i built u e rule =
     let size : f.size - 0 ≡ f.size = omega arith in
@@ -108,7 +108,7 @@ end_in_rest d whole at i e size h is =
           (subst (IsStopped d (chars (take (e - at) (drop at whole)))) (sym left) h.stopped);
     }
 
-pub first_found : (d : List Row) (text : List ℕ) (a b : FoundAhead) (f : Piece) (i e : ℕ) → LeadOn d text a → a.ends ≡ (i, e) ∷ b.ends → b.at ≡ e → f.rule ≡ Some i → f.size ≡ e - a.at
+pub first_found : (d : List Row) (text : List ℕ) (a b : FoundAhead) (f : FrontPiece) (i e : ℕ) → LeadOn d text a → a.ends ≡ (i, e) ∷ b.ends → b.at ≡ e → f.rule ≡ Some i → f.size ≡ e - a.at
     → IsFirst d text f b
 first_found d text a b f i e lead ends at rule size =
     let whole = lead.0 in
@@ -121,7 +121,7 @@ first_found d text a b f i e lead ends at rule size =
 
 -- ---- a run with a limit
 
-pub run_told : (d : List Row) (ts : List Tree) (ps text slice : List ℕ) (f : Piece) (i n : ℕ) → IsBuiltFrom ts ps d → IsUtf8 text
+pub run_told : (d : List Row) (ts : List Tree) (ps text slice : List ℕ) (f : FrontPiece) (i n : ℕ) → IsBuiltFrom ts ps d → IsUtf8 text
     → ((us : List Tree) (qs : List ℕ) → Recognizes d us qs → IsLongest us qs text (Some (i, slice))) → IsPrefix slice text → f.rule ≡ Some i → f.size ≡ length slice
     → IsDeadAt d text n → Tells ts ps text false (Whole f)
 run_told d ts ps text slice f i n built u longest (rest, (split, utf8)) rule size dead =
@@ -139,7 +139,7 @@ found_first r mode bytes p a (inl none) some = absurd (some none)
 found_first r mode bytes p a (inr (first, inl none)) some = absurd (some none)
 found_first r mode bytes p a (inr (first, inr (within, lead))) some = (first, lead)
 
-pub first_given : (r : ModeRules) (mode : ℕ) (bytes : List ℕ) (p : Part) (over : Bool) (d : List Row) (f : Piece) (a : FoundAhead) → IsPart (trees_in r mode) bytes p
+pub first_given : (r : ModeRules) (mode : ℕ) (bytes : List ℕ) (p : Part) (over : Bool) (d : List Row) (f : FrontPiece) (a : FoundAhead) → IsPart (trees_in r mode) bytes p
     → IsBuiltFrom (trees_in r mode) r.precedences d → p.from ≡ 0 → IsFirst d (text_in bytes p) f a → IsGiven (trees_in r mode) r.precedences bytes over p f
 first_given r mode bytes p over d f a part built front first =
     token_given (trees_in r mode) r.precedences bytes p over false part (λ is. absurd (cc)) f.rule f.size
@@ -210,7 +210,7 @@ none_between text rest c size n u begins split above below within front =
     let all = whole_char c rest more (drop (n - size) (drop size text)) utf8 (λ none. omega (arith, ap length none, long, above)) is in
     omega (arith, all, long, below, above)
 
-pub first_kept : (r : ModeRules) (mode : ℕ) (d : List Row) (text : List ℕ) (f : Piece) (k : Kept) (a : FoundAhead) → IsBuiltFrom (trees_in r mode) r.precedences d → IsUtf8 text
+pub first_kept : (r : ModeRules) (mode : ℕ) (d : List Row) (text : List ℕ) (f : FrontPiece) (k : Kept) (a : FoundAhead) → IsBuiltFrom (trees_in r mode) r.precedences d → IsUtf8 text
     → IsFirst d text f a → IsKeptOf text f k → IsKept r mode text k
 first_kept r mode d text f k a built u first kept =
     let ts = trees_in r mode in

@@ -3,8 +3,8 @@ use Rattle.std.proofs.Common.{◌≡◌, ℕ, zero, suc, ◌+◌, ◌≤◌, Boo
 use Rattle.std.specs.Prelude.{Option, Some, None, slice_get}
 use Rattle.std.proofs.lemmas.List.{drop-drop, drop-take, take-take, length-drop}
 use Rattle.lalrpop_rules.specs.Pieces.{IsSame, AreSame, slice_of, joined}
-use Rattle.lalrpop_rules.specs.declared.item.Item.{Item}
-use Rattle.lalrpop_rules.specs.declared.item.Item.TheVariants.{Token, Skipped, Fault}
+use Rattle.lalrpop_rules.specs.declared.piece.Piece.{Piece}
+use Rattle.lalrpop_rules.specs.declared.piece.Piece.TheVariants.{Token, Skipped, Fault}
 use Rattle.lalrpop_rules.proofs.UniquePieces.{same_slice}
 use Rattle.bajofeki_rules.specs.Stack.{Stack, start}
 use Rattle.lalrpop_rules.specs.Modes.{ModeRules}
@@ -14,47 +14,47 @@ use Rattle.bajofeki.specs.declared.change.Change.{Change}
 use Rattle.bajofeki.specs.declared.kept.Kept.{Kept}
 use Rattle.bajofeki.specs.Internal.Changing.{IsKeptChange}
 use Rattle.bajofeki.specs.Internal.Blocks.{sizes}
-use Rattle.bajofeki.specs.Internal.Items.{slice_with, token_or_skipped, item_with, item_at, items_from}
+use Rattle.bajofeki.specs.Internal.KeptPieces.{slice_with, token_or_skipped, item_with, item_at, items_from}
 use Rattle.bajofeki.proofs.BlockLaws.{kept_sizes}
-use Rattle.bajofeki.proofs.Items.{slice_at_size, same_items, same_back, same_on, same_length, items_length}
+use Rattle.bajofeki.proofs.KeptPieces.{slice_at_size, same_items, same_back, same_on, same_length, items_length}
 
 -- ---- equal lists of pieces
 
-pub same_front : (n : ℕ) (xs ys : List Item) → AreSame xs ys → AreSame (take n xs) (take n ys)
+pub same_front : (n : ℕ) (xs ys : List Piece) → AreSame xs ys → AreSame (take n xs) (take n ys)
 same_front zero xs ys are = tt
 same_front (suc n) [] [] are = tt
 same_front (suc n) [] (y ∷ ys) are = absurd are
 same_front (suc n) (x ∷ xs) [] are = absurd are
 same_front (suc n) (x ∷ xs) (y ∷ ys) are = (are.0, same_front n xs ys are.1)
 
-same_behind : (n : ℕ) (xs ys : List Item) → AreSame xs ys → AreSame (drop n xs) (drop n ys)
+same_behind : (n : ℕ) (xs ys : List Piece) → AreSame xs ys → AreSame (drop n xs) (drop n ys)
 same_behind zero xs ys are = are
 same_behind (suc n) [] [] are = tt
 same_behind (suc n) [] (y ∷ ys) are = absurd are
 same_behind (suc n) (x ∷ xs) [] are = absurd are
 same_behind (suc n) (x ∷ xs) (y ∷ ys) are = same_behind n xs ys are.1
 
-same_lists_back : (xs ys : List Item) → AreSame xs ys → AreSame ys xs
+same_lists_back : (xs ys : List Piece) → AreSame xs ys → AreSame ys xs
 same_lists_back [] [] are = tt
 same_lists_back [] (y ∷ ys) are = absurd are
 same_lists_back (x ∷ xs) [] are = absurd are
 same_lists_back (x ∷ xs) (y ∷ ys) are = (same_back x y are.0, same_lists_back xs ys are.1)
 
-same_lists_on : (xs ys zs : List Item) → AreSame xs ys → AreSame ys zs → AreSame xs zs
+same_lists_on : (xs ys zs : List Piece) → AreSame xs ys → AreSame ys zs → AreSame xs zs
 same_lists_on [] [] zs are too = too
 same_lists_on [] (y ∷ ys) zs are too = absurd are
 same_lists_on (x ∷ xs) [] zs are too = absurd are
 same_lists_on (x ∷ xs) (y ∷ ys) [] are too = absurd too
 same_lists_on (x ∷ xs) (y ∷ ys) (z ∷ zs) are too = (same_on x y z are.0 too.0, same_lists_on xs ys zs are.1 too.1)
 
-same_joined : (xs ys : List Item) → AreSame xs ys → joined xs ≡ joined ys
+same_joined : (xs ys : List Piece) → AreSame xs ys → joined xs ≡ joined ys
 same_joined [] [] are = refl
 same_joined [] (y ∷ ys) are = absurd are
 same_joined (x ∷ xs) [] are = absurd are
 same_joined (x ∷ xs) (y ∷ ys) are =
     ap (λ (p : List ℕ). p ++ joined xs) (same_slice x y are.0) ∙ ap (λ (p : List ℕ). slice_of y ++ p) (same_joined xs ys are.1)
 
-placed_same : (at : ℕ) (x y : Item) → IsSame x y → IsSame (placed at x) (placed at y)
+placed_same : (at : ℕ) (x y : Piece) → IsSame x y → IsSame (placed at x) (placed at y)
 placed_same at (Token a) (Token b) e = (e.0, refl, e.2)
 placed_same at (Token a) (Skipped b) e = absurd e
 placed_same at (Token a) (Fault begins slice) e = absurd e
@@ -65,7 +65,7 @@ placed_same at (Fault begins slice) (Token b) e = absurd e
 placed_same at (Fault begins slice) (Skipped b) e = absurd e
 placed_same at (Fault begins slice) (Fault begins2 slice2) e = (refl, e.1)
 
-placed_same_from : (at : ℕ) (xs ys : List Item) → AreSame xs ys → AreSame (placed_from at xs) (placed_from at ys)
+placed_same_from : (at : ℕ) (xs ys : List Piece) → AreSame xs ys → AreSame (placed_from at xs) (placed_from at ys)
 placed_same_from at [] [] are = tt
 placed_same_from at [] (y ∷ ys) are = absurd are
 placed_same_from at (x ∷ xs) [] are = absurd are
@@ -81,7 +81,7 @@ placed_same_from at (x ∷ xs) (y ∷ ys) are =
 pub items_front : (skips : List Bool) (text : List ℕ) (at n : ℕ) (ks : List Kept) → take n (items_from skips text at ks) ≡ items_from skips text at (take n ks)
 items_front skips text at zero ks = refl
 items_front skips text at (suc n) [] = refl
-items_front skips text at (suc n) (k ∷ ks) = ap (λ (xs : List Item). item_at skips text at k ∷ xs) (items_front skips text (at + k.size) n ks)
+items_front skips text at (suc n) (k ∷ ks) = ap (λ (xs : List Piece). item_at skips text at k ∷ xs) (items_front skips text (at + k.size) n ks)
 
 items_behind : (skips : List Bool) (text : List ℕ) (at n : ℕ) (ks : List Kept)
     → drop n (items_from skips text at ks) ≡ items_from skips text (at + sizes (take n ks)) (drop n ks)
@@ -107,7 +107,7 @@ items_alike skips before text to at (k ∷ ks) alike within =
     let bytes : take k.size (drop at before) ≡ take k.size (drop at text) =
     sym (drop-take at k.size before) ∙ ap (drop at) shorter ∙ drop-take at k.size text in
     ap (λ (p : List ℕ). item_with skips at (rule_of k) p ∷ items_from skips before (at + k.size) ks) bytes
-    ∙ ap (λ (xs : List Item). item_at skips text at k ∷ xs) (items_alike skips before text to (at + k.size) ks alike (omega (arith, within)))
+    ∙ ap (λ (xs : List Piece). item_at skips text at k ∷ xs) (items_alike skips before text to (at + k.size) ks alike (omega (arith, within)))
 
 token_placed : (skips : List Bool) (at at2 : ℕ) (o : Option ℕ) (bytes : List ℕ) → placed at2 (item_with skips at o bytes) ≡ item_with skips at2 o bytes
 token_placed skips at at2 None bytes = refl
@@ -130,9 +130,9 @@ items_moved skips before text at at2 (k ∷ ks) e fits =
     let less : sizes ks ≤ length (drop (at + k.size) before) = omega (arith, fits, length-drop at before, length-drop (at + k.size) before) in
     let here : placed at2 (item_at skips before at k) ≡ item_at skips text at2 k =
     token_placed skips at at2 (rule_of k) (take k.size (drop at before)) ∙ ap (λ (p : List ℕ). item_with skips at2 (rule_of k) (take k.size p)) e in
-    ap (λ (x : Item). x ∷ placed_from (at2 + length (slice_of (item_at skips before at k))) (items_from skips before (at + k.size) ks)) here
+    ap (λ (x : Piece). x ∷ placed_from (at2 + length (slice_of (item_at skips before at k))) (items_from skips before (at + k.size) ks)) here
     ∙ ap (λ (n : ℕ). item_at skips text at2 k ∷ placed_from (at2 + n) (items_from skips before (at + k.size) ks)) size
-    ∙ ap (λ (xs : List Item). item_at skips text at2 k ∷ xs) (items_moved skips before text (at + k.size) (at2 + k.size) ks rest less)
+    ∙ ap (λ (xs : List Piece). item_at skips text at2 k ∷ xs) (items_moved skips before text (at + k.size) (at2 + k.size) ks rest less)
 
 -- they have so many bytes
 items_bytes : (skips : List Bool) (text : List ℕ) (at : ℕ) (ks : List Kept) → sizes ks ≤ length (drop at text)
@@ -144,14 +144,14 @@ items_bytes skips text at (k ∷ ks) fits =
     omega (arith, size, items_bytes skips text (at + k.size) ks less, length-append (slice_of (item_at skips text at k)) (joined (items_from skips text (at + k.size) ks)))
 
 -- the first n pieces of a text end where the first n that are kept do
-pub front_bytes : (skips : List Bool) (text : List ℕ) (ks : List Kept) (xs : List Item) (n to : ℕ) → AreSame xs (items_from skips text 0 ks)
+pub front_bytes : (skips : List Bool) (text : List ℕ) (ks : List Kept) (xs : List Piece) (n to : ℕ) → AreSame xs (items_from skips text 0 ks)
     → sizes ks ≡ length text → to ≡ sizes (take n ks) → to ≡ length (joined (take n xs))
 front_bytes skips text ks xs n to same whole e =
     let few : sizes (take n ks) ≤ length text = omega (arith, whole, size_split n ks) in
     let bytes : length (joined (items_from skips text 0 (take n ks))) ≡ sizes (take n ks) = items_bytes skips text 0 (take n ks) few in
     let equal : joined (take n xs) ≡ joined (items_from skips text 0 (take n ks)) =
     same_joined (take n xs) (take n (items_from skips text 0 ks)) (same_front n xs (items_from skips text 0 ks) same)
-    ∙ ap (λ (ys : List Item). joined ys) (items_front skips text 0 n ks) in
+    ∙ ap (λ (ys : List Piece). joined ys) (items_front skips text 0 n ks) in
     omega (arith, e, bytes, ap length equal)
 
 -- ---- the change
@@ -187,7 +187,7 @@ module _ (r : ModeRules) (before text : List ℕ) (ks ls : List Kept) (c : Chang
       let from2 : c.new_end ≡ 0 + sizes (take n ls) = omega (arith, new_ends) in
       let fits : sizes (drop m ks) ≤ length (drop c.old_end before) =
       omega (arith, all_before, old_ends, size_split m ks, length-drop c.old_end before) in
-      ap (λ (xs : List Item). placed_from c.new_end xs) (items_behind r.skips before 0 m ks ∙ ap (λ (a : ℕ). items_from r.skips before a (drop m ks)) from)
+      ap (λ (xs : List Piece). placed_from c.new_end xs) (items_behind r.skips before 0 m ks ∙ ap (λ (a : ℕ). items_from r.skips before a (drop m ks)) from)
       ∙ items_moved r.skips before text c.old_end c.new_end (drop m ks) change.same_behind fits
       ∙ ap (λ (a : ℕ). items_from r.skips text a (drop m ks)) from2
       ∙ ap (λ (js : List Kept). items_from r.skips text (0 + sizes (take n ls)) js) (sym change.behind) ∙ sym (items_behind r.skips text 0 n ls)
@@ -204,11 +204,11 @@ module _ (r : ModeRules) (before text : List ℕ) (ks ls : List Kept) (c : Chang
         inserted = omega (arith, change.inserted, same_length ys (items_from r.skips text 0 ls) same2, items_length r.skips text 0 ls);
         front =
             same_lists_on (take c.first xs) (take c.first (items_from r.skips text 0 ls)) (take c.first ys)
-            (subst (λ (zs : List Item). AreSame (take c.first xs) zs) kept_front (same_front c.first xs (items_from r.skips before 0 ks) same))
+            (subst (λ (zs : List Piece). AreSame (take c.first xs) zs) kept_front (same_front c.first xs (items_from r.skips before 0 ks) same))
             (same_lists_back (take c.first ys) (take c.first (items_from r.skips text 0 ls)) (same_front c.first ys (items_from r.skips text 0 ls) same2));
         behind =
             same_lists_on (placed_from c.new_end (drop (c.first + c.removed) xs)) (drop (c.first + c.inserted) (items_from r.skips text 0 ls)) (drop (c.first + c.inserted) ys)
-            (subst (λ (zs : List Item). AreSame (placed_from c.new_end (drop (c.first + c.removed) xs)) zs) kept_rest
+            (subst (λ (zs : List Piece). AreSame (placed_from c.new_end (drop (c.first + c.removed) xs)) zs) kept_rest
             (placed_same_from c.new_end (drop (c.first + c.removed) xs) (drop (c.first + c.removed) (items_from r.skips before 0 ks)) (same_behind (c.first + c.removed) xs (items_from r.skips before 0 ks) same)))
             (same_lists_back (drop (c.first + c.inserted) ys) (drop (c.first + c.inserted) (items_from r.skips text 0 ls)) (same_behind (c.first + c.inserted) ys (items_from r.skips text 0 ls) same2));
         start_is = front_bytes r.skips before ks xs c.first c.start same all_before starts;

@@ -24,7 +24,7 @@ pub lacks_char : (x c : ℕ) → x < 128 → c ≢ x → Lacks x (encode_utf8 c)
 lacks_char x c small other =
     lacks_all x (encode_utf8 c) (λ k within is. other (inside_one c [] (encode_utf8 c) k (sym (append-nil (encode_utf8 c))) within (omega arith) ∙ is))
 
--- what is written for one more item
+-- what is written for one more piece
 pub one_more : {A : Type 0} (f : A → List ℕ) (xs : List A) (x : A) (old new : List ℕ) → old ≡ flat_map f xs → new ≡ old ++ f x → new ≡ flat_map f (xs ++ x ∷ [])
 one_more f xs x old new so_far line =
     line ∙ ap (λ l. l ++ f x) so_far ∙ sym (flat_map-append f xs (x ∷ []) ∙ ap (λ l. flat_map f xs ++ l) (append-nil (f x)))

@@ -14,8 +14,8 @@ use Rattle.lalrpop_hir.specs.Tree.{Tree}
 use Rattle.lalrpop_hir.specs.Longest.{IsLongest}
 use Rattle.lalrpop_rules.specs.Found.{MatchesAt, NoMatchBefore}
 use Rattle.lalrpop_rules.specs.Pieces.{IsFault, IsPiece, AreSame, slice_of, start_of}
-use Rattle.lalrpop_rules.specs.declared.item.Item.{Item}
-use Rattle.lalrpop_rules.specs.declared.item.Item.TheVariants.{Token, Skipped, Fault}
+use Rattle.lalrpop_rules.specs.declared.piece.Piece.{Piece}
+use Rattle.lalrpop_rules.specs.declared.piece.Piece.TheVariants.{Token, Skipped, Fault}
 use Rattle.lalrpop_rules.proofs.UniquePieces.{same_piece, same_slice, no_piece_left}
 use Rattle.bajofeki_rules.specs.declared.action.Action.{Action}
 use Rattle.bajofeki_rules.specs.Stack.{Stack, act_all}
@@ -37,13 +37,13 @@ use Rattle.bajofeki.proofs.Noting.{left_sound}
 use Rattle.bajofeki.proofs.BytesLaws.{none_at, text_match}
 use Rattle.bajofeki.proofs.Settling.{settled_match}
 
-pub slice_placed : (at : ℕ) (x : Item) → slice_of (placed at x) ≡ slice_of x
+pub slice_placed : (at : ℕ) (x : Piece) → slice_of (placed at x) ≡ slice_of x
 slice_placed at (Token token) = refl
 slice_placed at (Skipped token) = refl
 slice_placed at (Fault start slice) = refl
 
 -- the piece at the front of the rest is the piece of the text there
-pub from_front : (ts : List Tree) (ps : List ℕ) (skips : List Bool) (text rest : List ℕ) (at : ℕ) (x : Item) → drop at text ≡ rest → start_of x ≡ at
+pub from_front : (ts : List Tree) (ps : List ℕ) (skips : List Bool) (text rest : List ℕ) (at : ℕ) (x : Piece) → drop at text ≡ rest → start_of x ≡ at
     → IsPiece ts ps skips rest 0 (placed 0 x) → IsPiece ts ps skips text at x
 from_front ts ps skips text rest at (Token token) left begins is =
     ((begins, subst (λ (t : List ℕ). IsLongest ts ps t (Some (token.index, token.slice.now))) (sym left) is.0.1, is.0.2), is.1)
@@ -52,7 +52,7 @@ from_front ts ps skips text rest at (Skipped token) left begins is =
 from_front ts ps skips text rest at (Fault start slice) left begins is = (begins, subst (λ (t : List ℕ). IsFault ts t slice.now) (sym left) is.1)
 
 -- and the other way round
-pub to_front : (ts : List Tree) (ps : List ℕ) (skips : List Bool) (text rest : List ℕ) (at : ℕ) (x : Item) → drop at text ≡ rest
+pub to_front : (ts : List Tree) (ps : List ℕ) (skips : List Bool) (text rest : List ℕ) (at : ℕ) (x : Piece) → drop at text ≡ rest
     → IsPiece ts ps skips text at x → IsPiece ts ps skips rest 0 (placed 0 x)
 to_front ts ps skips text rest at (Token token) left is =
     ((refl, subst (λ (t : List ℕ). IsLongest ts ps t (Some (token.index, token.slice.now))) left is.0.1, is.0.2), is.1)
@@ -61,7 +61,7 @@ to_front ts ps skips text rest at (Skipped token) left is =
 to_front ts ps skips text rest at (Fault start slice) left is = (refl, subst (λ (t : List ℕ). IsFault ts t slice.now) left is.1)
 
 -- one piece of the text after another, from one place and stack up to another
-abbrev pub ArePiecesTo : ModeRules → List ℕ → ℕ → Stack → List Item → ℕ → Stack → Type 0
+abbrev pub ArePiecesTo : ModeRules → List ℕ → ℕ → Stack → List Piece → ℕ → Stack → Type 0
 ArePiecesTo r text at s [] to t = (at ≡ to) × (s ≡ t)
 ArePiecesTo r text at s (x ∷ xs) to t =
     IsPiece (trees_in r s.mode) r.precedences r.skips text at x
@@ -69,7 +69,7 @@ ArePiecesTo r text at s (x ∷ xs) to t =
 
 module _ (r : ModeRules) (text : List ℕ) where
   -- one more at their end
-  pub one_more : (at : ℕ) (s : Stack) (xs : List Item) (to : ℕ) (t : Stack) (x : Item) → ArePiecesTo r text at s xs to t
+  pub one_more : (at : ℕ) (s : Stack) (xs : List Piece) (to : ℕ) (t : Stack) (x : Piece) → ArePiecesTo r text at s xs to t
       → IsPiece (trees_in r t.mode) r.precedences r.skips text to x
       → ArePiecesTo r text at s (xs ++ x ∷ []) (to + length (slice_of x)) (after r.actions x t)
   one_more at s [] to t x (place, stack) is =
@@ -80,13 +80,13 @@ module _ (r : ModeRules) (text : List ℕ) where
   one_more at s (y ∷ xs) to t x are is = (are.0, one_more (at + length (slice_of y)) (after r.actions y s) xs to t x are.1 is)
 
   -- all of them, where the text ends
-  pub all_at_end : (at : ℕ) (s : Stack) (xs : List Item) (to : ℕ) (t : Stack) → ArePiecesTo r text at s xs to t → drop to text ≡ []
+  pub all_at_end : (at : ℕ) (s : Stack) (xs : List Piece) (to : ℕ) (t : Stack) → ArePiecesTo r text at s xs to t → drop to text ≡ []
       → ArePiecesFrom r text at s xs t
   all_at_end at s [] to t (place, stack) end = (ap (λ (n : ℕ). drop n text) place ∙ end, sym stack)
   all_at_end at s (x ∷ xs) to t are end = (are.0, all_at_end (at + length (slice_of x)) (after r.actions x s) xs to t are.1 end)
 
   -- they begin all pieces from their place on
-  pub begin_all : (at : ℕ) (s : Stack) (xs : List Item) (to : ℕ) (t : Stack) (ys : List Item) (end : Stack) → ArePiecesTo r text at s xs to t
+  pub begin_all : (at : ℕ) (s : Stack) (xs : List Piece) (to : ℕ) (t : Stack) (ys : List Piece) (end : Stack) → ArePiecesTo r text at s xs to t
       → ArePiecesFrom r text at s ys end → AreSame xs (take (length xs) ys)
   begin_all at s [] to t ys end are all = tt
   begin_all at s (x ∷ xs) to t [] end are all = absurd (no_piece_left (trees_in r s.mode) r.precedences r.skips text at x are.0 all.0)
@@ -98,9 +98,9 @@ module _ (r : ModeRules) (text : List ℕ) where
       (same, begin_all (at + length (slice_of x)) (after r.actions x s) xs to t ys end are.1 later)
 
   -- and the next of all pieces begins where they end, if the text goes on there
-  pub next_of_all : (at : ℕ) (s : Stack) (xs : List Item) (to : ℕ) (t : Stack) (ys : List Item) (end : Stack) → ArePiecesTo r text at s xs to t
+  pub next_of_all : (at : ℕ) (s : Stack) (xs : List Piece) (to : ℕ) (t : Stack) (ys : List Piece) (end : Stack) → ArePiecesTo r text at s xs to t
       → ArePiecesFrom r text at s ys end → drop to text ≢ []
-      → (y : Item) × (IsPiece (trees_in r t.mode) r.precedences r.skips text to y × (slice_get ys (length xs) ≡ Some y))
+      → (y : Piece) × (IsPiece (trees_in r t.mode) r.precedences r.skips text to y × (slice_get ys (length xs) ≡ Some y))
   next_of_all at s [] to t [] end (place, stack) all some = absurd (some (ap (λ (n : ℕ). drop n text) (sym place) ∙ all.0))
   next_of_all at s [] to t (y ∷ ys) end (place, stack) all some =
       let here = subst (λ (u : Stack). IsPiece (trees_in r u.mode) r.precedences r.skips text at y) stack all.0 in

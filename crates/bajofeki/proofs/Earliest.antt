@@ -1,8 +1,8 @@
 -- An edit cuts anew no further than needed: no place before the end of the change is one where old pieces and new ones meet.
 use Rattle.std.proofs.Common.{◌≡◌, ℕ, ◌+◌, List, [], ◌∷◌, length, take, drop, arith, refl, sym, ap, ◌∙◌}
 use Rattle.lalrpop_rules.specs.Pieces.{IsSame, AreSame}
-use Rattle.lalrpop_rules.specs.declared.item.Item.{Item}
-use Rattle.lalrpop_rules.specs.declared.item.Item.TheVariants.{Token, Skipped, Fault}
+use Rattle.lalrpop_rules.specs.declared.piece.Piece.{Piece}
+use Rattle.lalrpop_rules.specs.declared.piece.Piece.TheVariants.{Token, Skipped, Fault}
 use Rattle.bajofeki_rules.specs.declared.action.Action.{Action}
 use Rattle.bajofeki_rules.specs.Stack.{Stack, start, act_all, actions_of}
 use Rattle.lalrpop_rules.specs.Modes.{ModeRules, after, after_all}
@@ -13,14 +13,14 @@ use Rattle.bajofeki.specs.declared.kept.Kept.{Kept}
 use Rattle.bajofeki.specs.declared.meet.Edit.{Edit}
 use Rattle.bajofeki.specs.Internal.Blocks.{sizes, after_pieces}
 use Rattle.bajofeki.specs.Internal.Least.{IsLeastChange}
-use Rattle.bajofeki.specs.Internal.Items.{items_from}
+use Rattle.bajofeki.specs.Internal.KeptPieces.{items_from}
 use Rattle.bajofeki.specs.Internal.Meeting.{new_place}
 use Rattle.bajofeki.proofs.BlockLaws.{kept_sizes}
 use Rattle.bajofeki.proofs.Changes.{same_front, items_front, front_bytes}
-use Rattle.bajofeki.proofs.Items.{after_with, same_items}
+use Rattle.bajofeki.proofs.KeptPieces.{after_with, same_items}
 
 -- equal pieces do the same to the stack
-after_same : (actions : List (List Action)) (x y : Item) (s : Stack) → IsSame x y → after actions x s ≡ after actions y s
+after_same : (actions : List (List Action)) (x y : Piece) (s : Stack) → IsSame x y → after actions x s ≡ after actions y s
 after_same actions (Token a) (Token b) s e = ap (λ (i : ℕ). act_all (actions_of actions i) s) e.0
 after_same actions (Token a) (Skipped b) s e = absurd e
 after_same actions (Token a) (Fault at slice) s e = absurd e
@@ -31,7 +31,7 @@ after_same actions (Fault at slice) (Token b) s e = absurd e
 after_same actions (Fault at slice) (Skipped b) s e = absurd e
 after_same actions (Fault at slice) (Fault at2 slice2) s e = refl
 
-all_after_same : (actions : List (List Action)) (xs ys : List Item) (s : Stack) → AreSame xs ys → after_all actions xs s ≡ after_all actions ys s
+all_after_same : (actions : List (List Action)) (xs ys : List Piece) (s : Stack) → AreSame xs ys → after_all actions xs s ≡ after_all actions ys s
 all_after_same actions [] [] s are = refl
 all_after_same actions [] (y ∷ ys) s are = absurd are
 all_after_same actions (x ∷ xs) [] s are = absurd are
@@ -47,11 +47,11 @@ items_after r text at (k ∷ ks) s =
     ∙ items_after r text (at + k.size) ks (after_kept r k s)
 
 -- so the first n pieces leave the stack that the first n that are kept do
-pub front_stack : (r : ModeRules) (text : List ℕ) (ks : List Kept) (xs : List Item) (n : ℕ) → AreSame xs (items_from r.skips text 0 ks)
+pub front_stack : (r : ModeRules) (text : List ℕ) (ks : List Kept) (xs : List Piece) (n : ℕ) → AreSame xs (items_from r.skips text 0 ks)
     → after_all r.actions (take n xs) start ≡ after_pieces r (take n ks) start
 front_stack r text ks xs n same =
     all_after_same r.actions (take n xs) (take n (items_from r.skips text 0 ks)) start (same_front n xs (items_from r.skips text 0 ks) same)
-    ∙ ap (λ (ys : List Item). after_all r.actions ys start) (items_front r.skips text 0 n ks) ∙ items_after r text 0 (take n ks) start
+    ∙ ap (λ (ys : List Piece). after_all r.actions ys start) (items_front r.skips text 0 n ks) ∙ items_after r text 0 (take n ks) start
 
 -- none of the pieces that went and came meet before the last
 pub is_earliest : (r : ModeRules) (before text : List ℕ) (e : Edit) (ks ls : List Kept) (c : Change) (t u : Stack) → KeptUpTo r before 0 start ks (length before) t

@@ -7,9 +7,9 @@ use Rattle.std.proofs.lemmas.Option.{same_Some, slice_get_within, get_or_from_sl
 use Rattle.bajofeki_rules.specs.Stack.{Stack, start}
 use Rattle.lalrpop_rules.specs.Modes.{ModeRules}
 use Rattle.lalrpop_rules.specs.Pieces.{IsSame}
-use Rattle.lalrpop_rules.specs.declared.item.Item.{Item}
+use Rattle.lalrpop_rules.specs.declared.piece.Piece.{Piece}
 use Rattle.bajofeki.specs.Internal.Blocks.{AreBlocks, AreMarked, IsBlockAt, IsPieceAt, pieces_in, size_in, sizes}
-use Rattle.bajofeki.specs.Internal.Items.{AddsHolding, item_at, items_from}
+use Rattle.bajofeki.specs.Internal.KeptPieces.{AddsHolding, item_at, items_from}
 use Rattle.bajofeki.specs.Internal.Kept.{KeptUpTo}
 use Rattle.bajofeki.specs.Lexed.{ArePiecesIn}
 use Rattle.bajofeki.specs.declared.block.Block.{Block}
@@ -77,7 +77,7 @@ module _ (r : ModeRules) (text : List ℕ) (bs : List Block) (t : Stack) (are : 
     block_ends = omega (arith, all_within text (size_in (take n bs)) b.pieces.items block_bounds, block_bytes)
 
     -- those of its pieces that hold a byte of the range come after those of the blocks in front
-    pub block_adds : (from to : ℕ) (old new : List Item) → AddsHolding from to [] old (items_from r.skips text 0 (pieces_in (take n bs)))
+    pub block_adds : (from to : ℕ) (old new : List Piece) → AddsHolding from to [] old (items_from r.skips text 0 (pieces_in (take n bs)))
         → AddsHolding from to old new (items_from r.skips text (size_in (take n bs)) b.pieces.items)
         → AddsHolding from to [] new (items_from r.skips text 0 (pieces_in (take (n + 1) bs)))
     block_adds from to old new first later =
@@ -138,7 +138,7 @@ module _ (r : ModeRules) (text : List ℕ) (bs : List Block) (t : Stack) (are : 
           (subst (IsCharBoundary text) begin (each 0), subst (IsCharBoundary text) end (each 1))
 
       -- it is the one piece of the text that holds the byte
-      pub held_piece : (x : Item) → IsSame x (item_at r.skips text begins k) → ArePiecesIn (record { rules = r; text = text }) at (at + 1) (x ∷ [])
+      pub held_piece : (x : Piece) → IsSame x (item_at r.skips text begins k) → ArePiecesIn (record { rules = r; text = text }) at (at + 1) (x ∷ [])
       held_piece x same =
           let place : begins ≡ 0 + sizes front = omega (arith, place_is) in
           let there = subst (λ (a : ℕ). IsSame x (item_at r.skips text a k)) place same in

@@ -32,7 +32,7 @@ pub mod Distinct
 pub mod NoteCounts
 pub mod Paying
 -- from what is kept to the pieces of the text
-pub mod Items
+pub mod KeptPieces
 pub mod Changes
 pub mod Earliest
 pub mod Reaching

@@ -18,7 +18,7 @@ use Rattle.bajofeki.specs.Chunked.{IsOpen, IsOpenIn, MayBegin}
 use Rattle.bajofeki.specs.Internal.Kept.{IsFront}
 use Rattle.bajofeki.specs.Internal.Parts.{IsGiven, IsLeft, IsPart, IsParted, IsVoidTo, Tells, TellsTurn, size_in_fault, text_in}
 use Rattle.bajofeki.specs.declared.parts.Part.{Part}
-use Rattle.bajofeki.specs.declared.parts.Piece.{Piece}
+use Rattle.bajofeki.specs.declared.parts.FrontPiece.{FrontPiece}
 use Rattle.bajofeki.specs.declared.parts.Told.{Told}
 use Rattle.bajofeki.specs.declared.parts.Turn.TheVariants.{Void}
 use Rattle.bajofeki.specs.declared.parts.Told.TheVariants.{Whole, Nothing, Open}
@@ -253,7 +253,7 @@ at_end_boundary text n least most = (most, λ within high. absurd (omega (arith,
 -- ---- what a part tells
 
 -- a piece by its rule and size
-pub given_by : (ts : List Tree) (ps bytes : List ℕ) (over : Bool) (p : Part) (f : Piece) (o : Option ℕ) (n : ℕ) → f.rule ≡ o → f.size ≡ n
+pub given_by : (ts : List Tree) (ps bytes : List ℕ) (over : Bool) (p : Part) (f : FrontPiece) (o : Option ℕ) (n : ℕ) → f.rule ≡ o → f.size ≡ n
     → IsGiven ts ps bytes over p (record { rule = o; size = n }) → IsGiven ts ps bytes over p f
 given_by ts ps bytes over p f o n rule size is =
     subst (λ (k : ℕ). IsGiven ts ps bytes over p (record { rule = f.rule; size = k })) (sym size)
@@ -416,7 +416,7 @@ all_given ts ps bytes p over part void goes some = record {
 }
 
 pub all_or_none : (ts : List Tree) (ps bytes : List ℕ) (over : Bool) (p : Part) → IsPart ts bytes p → TellsTurn ts ps bytes over p Void → p.is_bad ≡ false
-    → (found : Option Piece) → IfSome found (λ f. (bytes ≢ []) × (f.rule ≡ None) × (f.size ≡ length bytes)) → IfSome found (IsGiven ts ps bytes over p)
+    → (found : Option FrontPiece) → IfSome found (λ f. (bytes ≢ []) × (f.rule ≡ None) × (f.size ≡ length bytes)) → IfSome found (IsGiven ts ps bytes over p)
 all_or_none ts ps bytes over p part void goes None is = tt
 all_or_none ts ps bytes over p part void goes (Some f) is = given_by ts ps bytes over p f None (length bytes) is.1 is.2 (all_given ts ps bytes p over part void goes is.0)
 

@@ -9,8 +9,8 @@ use Rattle.std.proofs.lemmas.Str.{IsUtf8-take, IsUtf8-drop, IsCharBoundary-start
 use Rattle.lalrpop_hir.specs.Tree.{Tree}
 use Rattle.lalrpop_hir.specs.Winners.{Matched}
 use Rattle.lalrpop_rules.specs.Pieces.{IsSame, AreSame}
-use Rattle.lalrpop_rules.specs.declared.item.Item.{Item}
-use Rattle.lalrpop_rules.specs.declared.item.Item.TheVariants.{Token, Skipped, Fault}
+use Rattle.lalrpop_rules.specs.declared.piece.Piece.{Piece}
+use Rattle.lalrpop_rules.specs.declared.piece.Piece.TheVariants.{Token, Skipped, Fault}
 use Rattle.bajofeki_rules.specs.Stack.{Stack, start}
 use Rattle.lalrpop_rules.specs.Modes.{ModeRules, trees_in}
 use Rattle.bajofeki.specs.Internal.Kept.{rule_of, reach_of, after_kept, IsKept, KeptUpTo, IsReadFor, ReadsOn}
@@ -20,11 +20,11 @@ use Rattle.bajofeki.specs.declared.kept.Kept.{Kept}
 use Rattle.bajofeki.specs.declared.meet.Edit.{Edit}
 use Rattle.bajofeki.specs.Internal.Blocks.{sizes, after_pieces}
 use Rattle.bajofeki.specs.Internal.Changing.{IsKeptChange}
-use Rattle.bajofeki.specs.Internal.Items.{slice_with, token_or_skipped, item_with, item_at, items_from}
+use Rattle.bajofeki.specs.Internal.KeptPieces.{slice_with, token_or_skipped, item_with, item_at, items_from}
 use Rattle.bajofeki.specs.Internal.Least.{IsLeastChange}
 use Rattle.bajofeki.proofs.BlockLaws.{kept_sizes}
 use Rattle.bajofeki.proofs.Earliest.{front_stack}
-use Rattle.bajofeki.proofs.Items.{same_items}
+use Rattle.bajofeki.proofs.KeptPieces.{same_items}
 use Rattle.bajofeki.proofs.KeptLaws.{kept_boundary, kept_some, kept_fits}
 
 -- ---- places
@@ -112,7 +112,7 @@ kept_reaches r mode text at place k utf8 ends kept far =
     (seen_up_to (trees_in r mode) text at place (rule_of k) k.size (reach_of k) utf8 ends far kept.reads (omega (arith, later, size))))
 
 -- equal pieces reach as far
-same_reaches : (ts : List Tree) (text : List ℕ) (place : ℕ) (x y : Item) → IsSame x y → Reaches ts text place y → Reaches ts text place x
+same_reaches : (ts : List Tree) (text : List ℕ) (place : ℕ) (x y : Piece) → IsSame x y → Reaches ts text place y → Reaches ts text place x
 same_reaches ts text place (Token a) (Token b) e is = rw e.1 (rw e.2 is)
 same_reaches ts text place (Token a) (Skipped b) e is = absurd e
 same_reaches ts text place (Token a) (Fault at slice) e is = absurd e
@@ -126,13 +126,13 @@ same_reaches ts text place (Fault at slice) (Fault at2 slice2) e is = rw e.0 (rw
 -- ---- the piece with a number
 
 -- is the one that is kept with that number
-same_kept : (skips : List Bool) (text : List ℕ) (at : ℕ) (ks : List Kept) (xs : List Item) (n : ℕ) (x : Item) → AreSame xs (items_from skips text at ks)
+same_kept : (skips : List Bool) (text : List ℕ) (at : ℕ) (ks : List Kept) (xs : List Piece) (n : ℕ) (x : Piece) → AreSame xs (items_from skips text at ks)
     → slice_get xs n ≡ Some x → (k : Kept) × ((slice_get ks n ≡ Some k) × IsSame x (item_at skips text (at + sizes (take n ks)) k))
 same_kept skips text at ks [] n x are e = absurd (cc)
 same_kept skips text at [] (x2 ∷ xs) n x are e = absurd are
 same_kept skips text at (k ∷ ks) (x2 ∷ xs) zero x are e =
     let none : at ≡ at + 0 = omega arith in
-    (k, (refl, subst (λ (m : ℕ). IsSame x (item_at skips text m k)) none (subst (λ (z : Item). IsSame z (item_at skips text at k)) (same_Some x2 x e) are.0)))
+    (k, (refl, subst (λ (m : ℕ). IsSame x (item_at skips text m k)) none (subst (λ (z : Piece). IsSame z (item_at skips text at k)) (same_Some x2 x e) are.0)))
 same_kept skips text at (k ∷ ks) (x2 ∷ xs) (suc n) x are e =
     let p = same_kept skips text (at + k.size) ks xs n x are.1 e in
     let sum : (at + k.size) + sizes (take n ks) ≡ at + (k.size + sizes (take n ks)) = omega arith in

@@ -8,8 +8,8 @@ use Rattle.std.proofs.lemmas.Bool.Decides.{eqb_tells}
 use Rattle.bajofeki_rules.specs.Stack.{Stack}
 use Rattle.lalrpop_rules.specs.Modes.{ModeRules, ArePiecesFrom, after, trees_in}
 use Rattle.lalrpop_rules.specs.Pieces.{slice_of, joined}
-use Rattle.lalrpop_rules.specs.declared.item.Item.{Item}
-use Rattle.lalrpop_rules.specs.declared.item.Item.TheVariants.{Token, Skipped, Fault}
+use Rattle.lalrpop_rules.specs.declared.piece.Piece.{Piece}
+use Rattle.lalrpop_rules.specs.declared.piece.Piece.TheVariants.{Token, Skipped, Fault}
 use Rattle.lalrpop_rules.proofs.PieceLaws.{is_front, utf8_behind}
 use Rattle.bajofeki.proofs.Characters.{Lacks, differs, lacks_char}
 use Rattle.bajofeki.specs.Markup.{told, escaped, span, mark, marked, outside, inside, entity_from}
@@ -98,12 +98,12 @@ mark_out text rest u = ap outside (append_assoc (escaped text) (codes "</mark>")
 
 -- ---- pieces
 
-marked_out : (names : List (List ℕ)) (x : Item) (rest : List ℕ) → IsUtf8 (slice_of x) → outside (marked names x ++ rest) ≡ slice_of x ++ outside rest
+marked_out : (names : List (List ℕ)) (x : Piece) (rest : List ℕ) → IsUtf8 (slice_of x) → outside (marked names x ++ rest) ≡ slice_of x ++ outside rest
 marked_out names (Token token) rest u = span_out (unwrap_or (slice_get names token.index) []) token.slice.now rest u
 marked_out names (Skipped token) rest u = text_out token.slice.now rest u
 marked_out names (Fault start slice) rest u = mark_out slice.now rest u
 
-pub pieces_out : (names : List (List ℕ)) (r : ModeRules) (text : List ℕ) (at : ℕ) (s : Stack) (xs : List Item) (end : Stack)
+pub pieces_out : (names : List (List ℕ)) (r : ModeRules) (text : List ℕ) (at : ℕ) (s : Stack) (xs : List Piece) (end : Stack)
     → IsUtf8 (drop at text) → ArePiecesFrom r text at s xs end → outside (flat_map (marked names) xs) ≡ joined xs
 pieces_out names r text at s [] end u are = refl
 pieces_out names r text at s (x ∷ xs) end u are =

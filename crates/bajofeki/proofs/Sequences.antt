@@ -8,8 +8,8 @@ use Rattle.std.proofs.lemmas.Bool.Decides.{nat_tests}
 use Rattle.std.proofs.lemmas.List.{append-nil}
 use Rattle.std.proofs.lemmas.Str.{chars_from_encodes, encodes-append, encodes-IsAscii}
 use Rattle.std.proofs.lemmas.Str.Ascii.{IsAscii-nil, IsAscii-cons}
-use Rattle.lalrpop_rules.specs.declared.item.Item.{Item}
-use Rattle.lalrpop_rules.specs.declared.item.Item.TheVariants.{Token, Skipped, Fault}
+use Rattle.lalrpop_rules.specs.declared.piece.Piece.{Piece}
+use Rattle.lalrpop_rules.specs.declared.piece.Piece.TheVariants.{Token, Skipped, Fault}
 use Rattle.bajofeki.specs.Places.{EachBegins}
 use Rattle.bajofeki.specs.Terminal.{sequence, reset, is_hidden, sign, letter, visible, visible_in, coloured, colour_of, by_name, painted, IsSequence}
 use Rattle.bajofeki.proofs.Characters.{Lacks}
@@ -156,13 +156,13 @@ by_name_is_safe : (names : List (List ℕ)) (name : Option (List ℕ)) (text : L
 by_name_is_safe names None text = shown_text text
 by_name_is_safe names (Some name) text = coloured_is_safe (colour_of names name) text (colour_is_decimal names name)
 
-painted_is_safe : (names : List (List ℕ)) (x : Item) → IsSafe (painted names x)
+painted_is_safe : (names : List (List ℕ)) (x : Piece) → IsSafe (painted names x)
 painted_is_safe names (Token token) = by_name_is_safe names (slice_get names token.index) token.slice.now
 painted_is_safe names (Skipped token) = shown_text token.slice.now
 painted_is_safe names (Fault start slice) = coloured_is_safe (codes "41") slice.now forty_one
 
 -- the characters of a page
-pub page_is_safe : (names : List (List ℕ)) (xs : List Item) (page : List ℕ) → IsUtf8 page → page ≡ flat_map (painted names) xs → AreShown (chars page)
+pub page_is_safe : (names : List (List ℕ)) (xs : List Piece) (page : List ℕ) → IsUtf8 page → page ≡ flat_map (painted names) xs → AreShown (chars page)
 page_is_safe names xs page u e =
     let all : IsSafe (flat_map (painted names) xs) = of_all IsSafe (painted names) nothing join (painted_is_safe names) xs in
     subst AreShown (chars_from_encodes all.0 page u (all.1.0 ∙ sym e)) all.1.1

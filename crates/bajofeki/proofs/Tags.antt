@@ -6,8 +6,8 @@ use Rattle.std.specs.Str.Iter.{LacksByte}
 use Rattle.std.specs.Char.{encode_utf8}
 use Rattle.std.proofs.lemmas.Bool.{eqb-false}
 use Rattle.std.proofs.lemmas.Bool.Decides.{eqb_tells}
-use Rattle.lalrpop_rules.specs.declared.item.Item.{Item}
-use Rattle.lalrpop_rules.specs.declared.item.Item.TheVariants.{Token, Skipped, Fault}
+use Rattle.lalrpop_rules.specs.declared.piece.Piece.{Piece}
+use Rattle.lalrpop_rules.specs.declared.piece.Piece.TheVariants.{Token, Skipped, Fault}
 use Rattle.bajofeki.specs.Markup.{entity, told, escaped, span, mark, marked, IsTag, IsEntity}
 use Rattle.bajofeki.specs.Places.{EachBegins, EachEnds}
 use Rattle.bajofeki.proofs.Characters.{Lacks, lacks_char}
@@ -159,10 +159,10 @@ span_is_markup class text =
 mark_is_markup : (text : List ℕ) → IsMarkup (mark text)
 mark_is_markup text = join (codes "<mark>") (escaped text ++ codes "</mark>") begin_of_mark (join (escaped text) (codes "</mark>") (escaped_is_markup text) end_of_mark)
 
-marked_is_markup : (names : List (List ℕ)) (x : Item) → IsMarkup (marked names x)
+marked_is_markup : (names : List (List ℕ)) (x : Piece) → IsMarkup (marked names x)
 marked_is_markup names (Token token) = span_is_markup (unwrap_or (slice_get names token.index) []) token.slice.now
 marked_is_markup names (Skipped token) = escaped_is_markup token.slice.now
 marked_is_markup names (Fault start slice) = mark_is_markup slice.now
 
-pub page_is_markup : (names : List (List ℕ)) (xs : List Item) → IsMarkup (flat_map (marked names) xs)
+pub page_is_markup : (names : List (List ℕ)) (xs : List Piece) → IsMarkup (flat_map (marked names) xs)
 page_is_markup names xs = of_all IsMarkup (marked names) empty join (marked_is_markup names) xs

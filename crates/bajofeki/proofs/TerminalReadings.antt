@@ -9,8 +9,8 @@ use Rattle.std.proofs.lemmas.Bool.Decides.{eqb_tells, nat_tests}
 use Rattle.bajofeki_rules.specs.Stack.{Stack}
 use Rattle.lalrpop_rules.specs.Modes.{ModeRules, ArePiecesFrom, after, trees_in}
 use Rattle.lalrpop_rules.specs.Pieces.{slice_of, joined}
-use Rattle.lalrpop_rules.specs.declared.item.Item.{Item}
-use Rattle.lalrpop_rules.specs.declared.item.Item.TheVariants.{Token, Skipped, Fault}
+use Rattle.lalrpop_rules.specs.declared.piece.Piece.{Piece}
+use Rattle.lalrpop_rules.specs.declared.piece.Piece.TheVariants.{Token, Skipped, Fault}
 use Rattle.lalrpop_rules.proofs.PieceLaws.{is_front, utf8_behind}
 use Rattle.bajofeki.proofs.Characters.{Lacks, differs, lacks_char}
 use Rattle.bajofeki.specs.Terminal.{sequence, reset, is_hidden, sign, letter, visible, visible_in, coloured, colour_of, by_name, painted, hidden_of, unpainted, within, two_letters}
@@ -125,12 +125,12 @@ by_name_out : (names : List (List ℕ)) (name : Option (List ℕ)) (text rest : 
 by_name_out names None text rest u = text_out text rest u
 by_name_out names (Some name) text rest u = coloured_out (colour_of names name) text rest (colour_is names name) u
 
-painted_out : (names : List (List ℕ)) (x : Item) (rest : List ℕ) → IsUtf8 (slice_of x) → unpainted (painted names x ++ rest) ≡ slice_of x ++ unpainted rest
+painted_out : (names : List (List ℕ)) (x : Piece) (rest : List ℕ) → IsUtf8 (slice_of x) → unpainted (painted names x ++ rest) ≡ slice_of x ++ unpainted rest
 painted_out names (Token token) rest u = by_name_out names (slice_get names token.index) token.slice.now rest u
 painted_out names (Skipped token) rest u = text_out token.slice.now rest u
 painted_out names (Fault start slice) rest u = coloured_out (codes "41") slice.now rest (52, (49, (refl, (omega arith, omega arith)))) u
 
-pub pieces_out : (names : List (List ℕ)) (r : ModeRules) (text : List ℕ) (at : ℕ) (s : Stack) (xs : List Item) (end : Stack)
+pub pieces_out : (names : List (List ℕ)) (r : ModeRules) (text : List ℕ) (at : ℕ) (s : Stack) (xs : List Piece) (end : Stack)
     → IsUtf8 (drop at text) → ArePiecesFrom r text at s xs end → unpainted (flat_map (painted names) xs) ≡ joined xs
 pieces_out names r text at s [] end u are = refl
 pieces_out names r text at s (x ∷ xs) end u are =

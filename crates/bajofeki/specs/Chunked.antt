@@ -6,12 +6,12 @@ use Rattle.std.specs.Str.{IsUtf8}
 use Rattle.lalrpop_hir.specs.Tree.{Tree}
 use Rattle.lalrpop_rules.specs.Found.{MatchesAt, NoMatchBefore}
 use Rattle.lalrpop_rules.specs.Pieces.{IsPiece, slice_of, start_of}
-use Rattle.lalrpop_rules.specs.declared.item.Item.{Item}
+use Rattle.lalrpop_rules.specs.declared.piece.Piece.{Piece}
 use Rattle.bajofeki_rules.specs.Stack.{Stack, start}
 use Rattle.lalrpop_rules.specs.Modes.{ModeRules, trees_in, after}
 use Rattle.bajofeki.specs.Lexed.{BeginsLonger, placed}
 use Rattle.bajofeki.specs.Begun.{IsBegun}
-use Rattle.bajofeki.specs.Given.{item_of}
+use Rattle.bajofeki.specs.Given.{piece_of}
 use Rattle.bajofeki.specs.declared.given_piece.GivenPiece.{GivenPiece}
 use Rattle.bajofeki.specs.declared.error.EditError.{EditError}
 use Rattle.bajofeki.specs.declared.error.EditError.TheVariants.{NoBoundary, TooLarge, OutOfMemory}
@@ -31,7 +31,7 @@ abbrev pub nothing_come : ModeRules → Chunked
 nothing_come r = record { rules = r; last = []; rest = []; at = 0; stack = start; is_ended = false }
 
 -- whatever comes, if anything may, this is the piece at the front of the rest
-abbrev pub IsFinal : Chunked → Item → Type 0
+abbrev pub IsFinal : Chunked → Piece → Type 0
 IsFinal c x = (more : List ℕ) → (c.is_ended ≡ true → more ≡ [])
     → IsPiece (trees_in c.rules c.stack.mode) c.rules.precedences c.rules.skips (c.rest ++ more) 0 (placed 0 x)
 
@@ -50,7 +50,7 @@ abbrev pub IsHeldBack : Chunked → Type 0
 IsHeldBack c = (c.is_ended ≡ true → c.rest ≡ []) × (c.is_ended ≡ false → IsOpenIn (trees_in c.rules c.stack.mode) c.rest)
 
 -- one call gives the next piece, which is final; or none, and nothing changes, where it must be held back
-abbrev pub GivesFinal : Chunked → Option Item → Chunked → Type 0
+abbrev pub GivesFinal : Chunked → Option Piece → Chunked → Type 0
 GivesFinal old None new = (new ≡ old) × IsHeldBack old
 GivesFinal old (Some x) new =
     IsFinal old x × (start_of x ≡ old.at)
@@ -65,7 +65,7 @@ IsChunkError c OutOfMemory = Unit {0}
 -- what one call of `next_piece` does: it gives the next piece or none, or an error, where nothing changes
 abbrev pub GivesOrRefuses : Chunked → Result (Option GivenPiece) EditError → Chunked → Type 0
 GivesOrRefuses old (Ok None) new = GivesFinal old None new
-GivesOrRefuses old (Ok (Some piece)) new = (slice : Bor (List ℕ)) → slice.now ≡ new.last → GivesFinal old (Some (item_of piece slice)) new
+GivesOrRefuses old (Ok (Some piece)) new = (slice : Bor (List ℕ)) → slice.now ≡ new.last → GivesFinal old (Some (piece_of piece slice)) new
 GivesOrRefuses old (Err error) new = (new ≡ old) × IsChunkError old error
 
 -- whatever comes, if anything may, nothing matches at the front of the rest: a fault begins there
@@ -81,9 +81,9 @@ abbrev pub MayMatch : Chunked → Type 0
 MayMatch c = MatchesAt (trees_in c.rules c.stack.mode) c.rest 0 ⊎ ((c.is_ended ≡ false) × MayBegin (trees_in c.rules c.stack.mode) c.rest)
 
 -- this text has come, in any chunks, and these pieces were given
-pub data Came (r : ModeRules) : List ℕ → List Item → Chunked → Type 0 where
+pub data Came (r : ModeRules) : List ℕ → List Piece → Chunked → Type 0 where
   nothing : Came r [] [] (nothing_come r)
-  fed : {text : List ℕ} {xs : List Item} {c : Chunked} (chunk : List ℕ) → c.is_ended ≡ false → Came r text xs c
+  fed : {text : List ℕ} {xs : List Piece} {c : Chunked} (chunk : List ℕ) → c.is_ended ≡ false → Came r text xs c
       → Came r (text ++ chunk) xs (record c { last = []; rest = c.rest ++ chunk })
-  given : {text : List ℕ} {xs : List Item} {c d : Chunked} (x : Item) → GivesFinal c (Some x) d → Came r text xs c → Came r text (xs ++ x ∷ []) d
-  ended : {text : List ℕ} {xs : List Item} {c : Chunked} → Came r text xs c → Came r text xs (record c { is_ended = true })
+  given : {text : List ℕ} {xs : List Piece} {c d : Chunked} (x : Piece) → GivesFinal c (Some x) d → Came r text xs c → Came r text (xs ++ x ∷ []) d
+  ended : {text : List ℕ} {xs : List Piece} {c : Chunked} → Came r text xs c → Came r text xs (record c { is_ended = true })

@@ -6,7 +6,7 @@ pub mod BlockPlaces
 pub mod Meeting
 pub mod Starting
 pub mod Changing
-pub mod Items
+pub mod KeptPieces
 pub mod Code
 pub mod Least
 pub mod ChunkCode

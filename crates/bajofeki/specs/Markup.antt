@@ -3,8 +3,8 @@
 use Rattle.std.specs.Prelude.{◌≡◌, ◌⊎◌, ℕ, true, false, List, [], ◌∷◌, ◌++◌, Option, Some, None, codes, chars, encode_utf8, flat_map, slice_get, unwrap_or, if◌then◌else◌, ◌==◌}
 use Rattle.std.specs.Str.{bytes_eq}
 use Rattle.std.specs.Str.Iter.{LacksByte}
-use Rattle.lalrpop_rules.specs.declared.item.Item.{Item}
-use Rattle.lalrpop_rules.specs.declared.item.Item.TheVariants.{Token, Skipped, Fault}
+use Rattle.lalrpop_rules.specs.declared.piece.Piece.{Piece}
+use Rattle.lalrpop_rules.specs.declared.piece.Piece.TheVariants.{Token, Skipped, Fault}
 
 -- ---- writing
 
@@ -32,7 +32,7 @@ abbrev pub mark : List ℕ → List ℕ
 mark text = codes "<mark>" ++ (escaped text ++ codes "</mark>")
 
 -- a piece of a text: a token with the name of its rule, or a fault
-abbrev pub marked : List (List ℕ) → Item → List ℕ
+abbrev pub marked : List (List ℕ) → Piece → List ℕ
 marked names (Token token) = span (unwrap_or (slice_get names token.index) []) token.slice.now
 marked names (Skipped token) = escaped token.slice.now
 marked names (Fault start slice) = mark slice.now

@@ -5,8 +5,8 @@ use Rattle.std.specs.Char.{is_control}
 use Rattle.std.specs.List.{position_or_len}
 use Rattle.std.specs.Str.{bytes_eq}
 use Rattle.std.specs.Str.Parse.{IsNumeral}
-use Rattle.lalrpop_rules.specs.declared.item.Item.{Item}
-use Rattle.lalrpop_rules.specs.declared.item.Item.TheVariants.{Token, Skipped, Fault}
+use Rattle.lalrpop_rules.specs.declared.piece.Piece.{Piece}
+use Rattle.lalrpop_rules.specs.declared.piece.Piece.TheVariants.{Token, Skipped, Fault}
 
 -- ---- writing
 
@@ -54,7 +54,7 @@ by_name names None text = flat_map visible (chars text)
 by_name names (Some name) text = coloured (colour_of names name) text
 
 -- a piece of a text: a token in the colour of its rule, or a fault on red, 41
-abbrev pub painted : List (List ℕ) → Item → List ℕ
+abbrev pub painted : List (List ℕ) → Piece → List ℕ
 painted names (Token token) = by_name names (slice_get names token.index) token.slice.now
 painted names (Skipped token) = flat_map visible (chars token.slice.now)
 painted names (Fault start slice) = coloured (codes "41") slice.now

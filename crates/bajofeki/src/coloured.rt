@@ -4,14 +4,14 @@ ghost use Rattle.std.specs.List.{position_or_len};
 ghost use Rattle.std.specs.Str.{bytes_eq};
 ghost use Rattle.bajofeki_rules.specs.Stack.{Stack, start};
 ghost use Rattle.lalrpop_rules.specs.Modes.{ArePiecesFrom};
-ghost use Rattle.lalrpop_rules.specs.declared.item.Item.{Item as ItemValue};
+ghost use Rattle.lalrpop_rules.specs.declared.piece.Piece.{Piece as PieceValue};
 ghost use Rattle.bajofeki.specs.Internal.Colours.{AreColours};
 ghost use Rattle.bajofeki.specs.Terminal.{sequence, is_hidden as is_hidden_of, sign, letter, visible, visible_in, coloured, colour_of, painted, unpainted, IsSequence};
 ghost use Rattle.bajofeki.specs.Places.{EachBegins};
 
 use crate::shown::{Shows, push_shown};
 use lalrpop_lexer::lexer::dfa::NfaIndex;
-use lalrpop_rules::{Item, RuleLexer};
+use lalrpop_rules::{Piece, RuleLexer};
 use std::alloc::{AllocError, Global};
 use std::marker::Model;
 
@@ -184,9 +184,9 @@ fn colour_of_rule(
 ///
 /// let mut painter = Painter::new(alloc, lexer.names())?;
 /// let mut page = String::new(alloc);
-/// for item in lexer.items(alloc, "do it")? {
-///     match item {
-///         Ok(item) => painter.push(&mut page, &item)?,
+/// for piece in lexer.pieces(alloc, "do it")? {
+///     match piece {
+///         Ok(piece) => painter.push(&mut page, &piece)?,
 ///         Err(error) => return Err(error),
 ///     }
 /// }
@@ -227,13 +227,13 @@ impl<'rules> Painter<'rules> {
     /// # Errors
     ///
     /// `AllocError` if a request for memory was refused: part of the piece may have been appended.
-    pub fn push(&mut self, page: &mut String, item: &Item) -> Result<(), AllocError>
+    pub fn push(&mut self, page: &mut String, piece: &Piece) -> Result<(), AllocError>
         ensures painted { OnOk result (string_bytes page.new
-            ≡ string_bytes page.old ++ painted self.old item.now) }
+            ≡ string_bytes page.old ++ painted self.old piece.now) }
         ensures names { self.new ≡ self.old }
     {
-        match item {
-            Item::Token(token) => match self.names.get(token.index.index()) {
+        match piece {
+            Piece::Token(token) => match self.names.get(token.index.index()) {
                 Some(name) => {
                     let name = name.as_str();
                     let colour = colour_of_rule(&mut self.colours, self.names, token.index, name);
@@ -241,8 +241,8 @@ impl<'rules> Painter<'rules> {
                 }
                 None => push_plain(page, token.slice),
             },
-            Item::Skipped(token) => push_plain(page, token.slice),
-            Item::Fault { start: _, slice } => push_coloured(page, FAULT, slice),
+            Piece::Skipped(token) => push_plain(page, token.slice),
+            Piece::Fault { start: _, slice } => push_coloured(page, FAULT, slice),
         }
     }
 }
@@ -259,7 +259,7 @@ impl<'rules> Painter<'rules> {
 ///
 /// `AllocError` if a request for memory was refused.
 pub fn ansi(alloc: Global, lexer: &RuleLexer, text: &str) -> Result<String, AllocError>
-    ensures pieces { IfOk result (λ page. (xs : List ItemValue) × ((end : Stack)
+    ensures pieces { IfOk result (λ page. (xs : List PieceValue) × ((end : Stack)
         × (ArePiecesFrom lexer.now text.now 0 start xs end
         × (string_bytes page ≡ flat_map (painted lexer.now.names) xs)))) }
     ensures text { IfOk result (λ page. unpainted (string_bytes page) ≡ text.now) }
@@ -268,9 +268,9 @@ pub fn ansi(alloc: Global, lexer: &RuleLexer, text: &str) -> Result<String, Allo
 {
     let mut painter = Painter::new(alloc, lexer.names())?;
     let mut page = String::new(alloc);
-    for item in lexer.items(alloc, text)? {
-        match item {
-            Ok(item) => painter.push(&mut page, &item)?,
+    for piece in lexer.pieces(alloc, text)? {
+        match piece {
+            Ok(piece) => painter.push(&mut page, &piece)?,
             Err(error) => return Err(error),
         }
     }

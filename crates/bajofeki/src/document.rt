@@ -4,7 +4,7 @@ ghost use Rattle.std.specs.Prelude.{◌≡◌, ◌≢◌, ◌<◌, ◌≤◌, �
 ghost use Rattle.std.specs.List.{replace_range};
 ghost use Rattle.std.specs.Str.{IsCharBoundary};
 ghost use Rattle.bajofeki_rules.specs.Position.{position_of};
-ghost use Rattle.lalrpop_rules.specs.declared.item.Item.{Item as ItemValue};
+ghost use Rattle.lalrpop_rules.specs.declared.piece.Piece.{Piece as PieceValue};
 ghost use Rattle.bajofeki.specs.Lexed.{ArePiecesIn, ArePiecesOf, FirstReaches, IsRange, IsChange, IsEarliest, IsEditError, replaced};
 ghost use Rattle.bajofeki.specs.Costs.{IsPaidFor};
 ghost use Rattle.bajofeki.specs.Internal.BlockPlaces.{AreCounted};
@@ -20,7 +20,7 @@ use crate::pieces::{piece_holding, pieces_holding};
 use crate::whole::whole_blocks;
 use lalrpop_hir::Steps;
 use lalrpop_lexer::Position;
-use lalrpop_rules::{Item, RuleLexer};
+use lalrpop_rules::{Piece, RuleLexer};
 use std::alloc::{AllocError, Global};
 use std::fmt;
 use std::marker::Model;
@@ -161,7 +161,8 @@ fn first_text(
 ///
 /// let mut text = Document::new(alloc, &lexer, "let x = 1")?;
 /// let change = text.edit(alloc, 4..5, "yz")?; // "let yz = 1"; bytes `change.start..change.new_end` are to be painted anew
-/// let now = text.piece_at(4); // the token "yz"
+/// let now = text.piece_at(4); // `Some` of the token "yz"
+/// let anew = text.pieces(alloc, change.start..change.new_end)?; // those that were cut anew: the space and "yz"
 /// ```
 #[derive(Drop)]
 pub struct Document<'rules> {
@@ -312,10 +313,10 @@ impl<'rules> Document<'rules> {
     /// # Errors
     ///
     /// `AllocError` if a request for memory was refused.
-    pub fn pieces(&self, alloc: Global, range: Range<usize>) -> Result<Vec<Item<'_>>, AllocError>
+    pub fn pieces(&self, alloc: Global, range: Range<usize>) -> Result<Vec<Piece<'_>>, AllocError>
         ensures pieces { IfOk result
             (λ pieces. ArePiecesIn self.now range.start range.end pieces.items) }
-        ensures exist { (xs : List ItemValue) × ArePiecesOf self.now xs }
+        ensures exist { (xs : List PieceValue) × ArePiecesOf self.now xs }
     {
         pieces_holding(alloc, self.lexer, &self.text, &self.blocks, &range)
     }
@@ -324,7 +325,7 @@ impl<'rules> Document<'rules> {
     /// the blocks of some hundred pieces that the text is kept in, and a walk along one of them.
     ///
     /// ```
-    /// let place = text.position(change.start); // line 1, column 4
+    /// let place = text.position(change.start); // `Some` of line 1, column 4
     /// ```
     pub fn position(&self, at: usize) -> Option<Position>
         ensures boundary { IsSome result ↔ IsCharBoundary self.now.text at }
@@ -345,7 +346,7 @@ impl<'rules> Document<'rules> {
     }
 
     /// The piece that holds the byte at the place, or `None` at the end of the text and past it.
-    pub fn piece_at(&self, at: usize) -> Option<Item<'_>>
+    pub fn piece_at(&self, at: usize) -> Option<Piece<'_>>
         ensures piece { IfSome result (λ x. ArePiecesIn self.now at (at + 1) (x ∷ [])) }
         ensures none { IfNone result (length self.now.text ≤ at) }
     {

@@ -4,7 +4,7 @@ ghost use Rattle.std.specs.Prelude.{◌≡◌, ◌≢◌, ◌<◌, ℕ, List, []
 ghost use Rattle.lalrpop_dfa.specs.Dfa.{Row};
 ghost use Rattle.bajofeki.specs.Internal.Ahead.{IsFirst, LeadOn};
 
-use crate::parts::Piece;
+use crate::parts::FrontPiece;
 use lalrpop_dense::TokenEnds;
 use lalrpop_hir::Steps;
 use lalrpop_rules::RuleLexer;
@@ -79,7 +79,7 @@ impl FoundAhead {
 
     /// The token at the front of the text, if it is found ahead. Then the next one begins after it.
     #[inline(always)]
-    pub(crate) fn next(&mut self) -> Option<Piece>
+    pub(crate) fn next(&mut self) -> Option<FrontPiece>
         ensures first { IfSome result (λ f. (d : List Row) (text : List ℕ) → LeadOn d text self.old
             → IsFirst d text f self.new) }
         ensures some { IfSome result (λ f. self.old.ends ≢ []) }
@@ -89,7 +89,7 @@ impl FoundAhead {
             Some(found) => {
                 let size = found.end.saturating_sub(self.at);
                 self.at = found.end;
-                Some(Piece {
+                Some(FrontPiece {
                     rule: Some(found.index),
                     size,
                 })
@@ -131,5 +131,25 @@ impl FoundAhead {
         self.at = 0;
         let vain = dense.find_ends(text, 0, limit, &mut self.ends, &mut Steps::new());
         self.spend(vain);
+    }
+
+    /// Finds tokens from the front of the text on, if a block is to be read and none are ahead, and gives the first.
+    pub(crate) fn first_of(
+        &mut self,
+        lexer: &RuleLexer,
+        mode: usize,
+        text: &str,
+    ) -> Option<FrontPiece>
+        requires there { mode < lexer.now.modes }
+        requires none { self.old.ends ≡ [] }
+        ensures first { IfSome result (λ f. (d : List Row)
+            → slice_get lexer.now.automata mode ≡ Some d → IsFirst d text.now f self.new) }
+        ensures none { IfNone result (self.new.ends ≡ []) }
+    {
+        if !self.is_due() {
+            return None;
+        }
+        self.find(lexer, mode, text);
+        self.next()
     }
 }

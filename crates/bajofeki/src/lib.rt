@@ -1,4 +1,4 @@
-//! Lexers from rules, by one crate. `RuleLexer` is built from rules, or from a file of them, and cuts texts into `Item`s; a
+//! Lexers from rules, by one crate. `RuleLexer` is built from rules, or from a file of them, and cuts texts into `Piece`s; a
 //! `Document` is a text that is edited, and a `Stream` one that comes in chunks; `html` and `ansi` show a text in colours.
 //!
 //! After an edit only those pieces are cut anew that depend on what was replaced, and those up to the first place after it where
@@ -40,7 +40,7 @@ pub use document::Document;
 pub use error::EditError;
 pub use given_piece::GivenPiece;
 pub use lalrpop_lexer::Token;
-pub use lalrpop_rules::{FileError, Item, RuleItems, RuleLexer, RulesError};
+pub use lalrpop_rules::{FileError, Piece, Pieces, RuleLexer, RulesError};
 pub use page::{html, push_html};
 pub use settled_token::SettledToken;
 pub use stream::Stream;

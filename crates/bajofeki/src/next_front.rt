@@ -12,7 +12,7 @@ ghost use Rattle.bajofeki.specs.declared.parts.Told.TheVariants.{Whole};
 use crate::cutter::{Cutter, keep_cutter};
 use crate::found_ahead::FoundAhead;
 use crate::held_run::HeldRun;
-use crate::parts::{Part, Piece, final_front};
+use crate::parts::{FrontPiece, Part, final_front};
 use lalrpop_hir::Steps;
 use lalrpop_lexer::Lexer;
 use lalrpop_rules::RuleLexer;
@@ -23,14 +23,14 @@ const LIMIT: usize = 64;
 
 // The token at the front of the text, if the characters that begin in its first bytes settle it.
 #[inline(always)]
-fn settled_token(lexer: &Lexer, text: &str) -> Option<Piece>
+fn settled_token(lexer: &Lexer, text: &str) -> Option<FrontPiece>
     ensures told { IfSome result (λ f. Tells lexer.now.trees lexer.now.precedences text.now false
         (Whole f)) }
 {
     let dense = lexer.dense();
     match dense.longest_within(text, LIMIT, &mut Steps::new()) {
         Some(found) => match found.longest {
-            Some((index, slice)) if slice.len() + found.past < text.len() => Some(Piece {
+            Some((index, slice)) if slice.len() + found.past < text.len() => Some(FrontPiece {
                 rule: Some(index),
                 size: slice.len(),
             }),
@@ -41,7 +41,12 @@ fn settled_token(lexer: &Lexer, text: &str) -> Option<Piece>
 }
 
 // The token at the front of the text, if it is settled with no notes.
-fn quick_token(lexer: &RuleLexer, mode: usize, ahead: &mut FoundAhead, text: &str) -> Option<Piece>
+fn quick_token(
+    lexer: &RuleLexer,
+    mode: usize,
+    ahead: &mut FoundAhead,
+    text: &str,
+) -> Option<FrontPiece>
     requires there { mode < lexer.now.modes }
     requires none { ahead.old.ends ≡ [] }
     ensures told { IfSome result (λ f. Tells (trees_in lexer.now mode) lexer.now.precedences text.now
@@ -52,11 +57,8 @@ fn quick_token(lexer: &RuleLexer, mode: usize, ahead: &mut FoundAhead, text: &st
     let own = lexer.lexer(mode);
     // What is known of the automaton.
     let _dense = own.dense();
-    if ahead.is_due() {
-        ahead.find(lexer, mode, text);
-        if let Some(piece) = ahead.next() {
-            return Some(piece);
-        }
+    if let Some(piece) = ahead.first_of(lexer, mode, text) {
+        return Some(piece);
     }
     if !ahead.may_read(LIMIT) {
         return None;
@@ -79,7 +81,7 @@ fn quick_front(
     part: &Part,
     bytes: &[u8],
     is_ended: bool,
-) -> Option<Piece>
+) -> Option<FrontPiece>
     requires there { mode < lexer.now.modes }
     requires none { ahead.old.ends ≡ [] }
     requires part { IsPart (trees_in lexer.now mode) bytes.now part.now }
@@ -108,7 +110,7 @@ fn sought_front<'a>(
     at: usize,
     bytes: &[u8],
     is_ended: bool,
-) -> Result<Option<Piece>, AllocError>
+) -> Result<Option<FrontPiece>, AllocError>
     requires there { mode < lexer.now.modes }
     requires none { ahead.old.ends ≡ [] }
     requires part { IsPart (trees_in lexer.now mode) bytes.now part.old }
@@ -156,7 +158,7 @@ pub(crate) fn next_front<'a>(
     at: usize,
     bytes: &[u8],
     is_ended: bool,
-) -> Result<Option<Piece>, AllocError>
+) -> Result<Option<FrontPiece>, AllocError>
     requires there { mode < lexer.now.modes }
     requires found { AreFound lexer.now mode bytes.now part.old ahead.old }
     requires part { IsPart (trees_in lexer.now mode) bytes.now part.old }

@@ -2,13 +2,13 @@
 ghost use Rattle.std.specs.Prelude.{◌≡◌, ◌++◌, [], List, flat_map, map, option_map, slice_get, string_bytes, unwrap_or, IfOk, OnOk};
 ghost use Rattle.bajofeki_rules.specs.Stack.{Stack, start};
 ghost use Rattle.lalrpop_rules.specs.Modes.{ArePiecesFrom};
-ghost use Rattle.lalrpop_rules.specs.declared.item.Item.{Item as ItemValue};
+ghost use Rattle.lalrpop_rules.specs.declared.piece.Piece.{Piece as PieceValue};
 ghost use Rattle.bajofeki.specs.Markup.{entity, told, escaped, span, mark, marked, outside, IsTag, IsEntity};
 ghost use Rattle.bajofeki.specs.Places.{EachBegins, EachEnds};
 
 use crate::shown::{Shows, push_shown};
 use lalrpop_lexer::lexer::dfa::NfaIndex;
-use lalrpop_rules::{Item, RuleLexer};
+use lalrpop_rules::{Piece, RuleLexer};
 use std::alloc::{AllocError, Global};
 
 // The entity of a character that has a meaning in HTML, or that a reader of HTML doesn't keep: the carriage return.
@@ -87,9 +87,9 @@ fn name_at(names: &[String], index: NfaIndex) -> &str
 /// use bajofeki::push_html;
 ///
 /// let mut page = String::new(alloc);
-/// for item in lexer.items(alloc, "do it")? {
-///     match item {
-///         Ok(item) => push_html(&mut page, lexer.names(), &item)?,
+/// for piece in lexer.pieces(alloc, "do it")? {
+///     match piece {
+///         Ok(piece) => push_html(&mut page, lexer.names(), &piece)?,
 ///         Err(error) => return Err(error),
 ///     }
 /// }
@@ -98,14 +98,14 @@ fn name_at(names: &[String], index: NfaIndex) -> &str
 /// # Errors
 ///
 /// `AllocError` if a request for memory was refused: part of the piece may have been appended.
-pub fn push_html(page: &mut String, names: &[String], item: &Item) -> Result<(), AllocError>
+pub fn push_html(page: &mut String, names: &[String], piece: &Piece) -> Result<(), AllocError>
     ensures marked { OnOk result (string_bytes page.new
-        ≡ string_bytes page.old ++ marked (map string_bytes names.now) item.now) }
+        ≡ string_bytes page.old ++ marked (map string_bytes names.now) piece.now) }
 {
-    match item {
-        Item::Token(token) => push_span(page, name_at(names, token.index), token.slice),
-        Item::Skipped(token) => push_escaped(page, token.slice),
-        Item::Fault { start: _, slice } => push_mark(page, slice),
+    match piece {
+        Piece::Token(token) => push_span(page, name_at(names, token.index), token.slice),
+        Piece::Skipped(token) => push_escaped(page, token.slice),
+        Piece::Fault { start: _, slice } => push_mark(page, slice),
     }
 }
 
@@ -120,7 +120,7 @@ pub fn push_html(page: &mut String, names: &[String], item: &Item) -> Result<(),
 ///
 /// `AllocError` if a request for memory was refused.
 pub fn html(alloc: Global, lexer: &RuleLexer, text: &str) -> Result<String, AllocError>
-    ensures pieces { IfOk result (λ page. (xs : List ItemValue) × ((end : Stack)
+    ensures pieces { IfOk result (λ page. (xs : List PieceValue) × ((end : Stack)
         × (ArePiecesFrom lexer.now text.now 0 start xs end
         × (string_bytes page ≡ flat_map (marked lexer.now.names) xs)))) }
     ensures text { IfOk result (λ page. outside (string_bytes page) ≡ text.now) }
@@ -129,9 +129,9 @@ pub fn html(alloc: Global, lexer: &RuleLexer, text: &str) -> Result<String, Allo
     ensures entities { IfOk result (λ page. EachBegins 38 IsEntity (string_bytes page)) }
 {
     let mut page = String::new(alloc);
-    for item in lexer.items(alloc, text)? {
-        match item {
-            Ok(item) => push_html(&mut page, lexer.names(), &item)?,
+    for piece in lexer.pieces(alloc, text)? {
+        match piece {
+            Ok(piece) => push_html(&mut page, lexer.names(), &piece)?,
             Err(error) => return Err(error),
         }
     }

@@ -24,7 +24,7 @@ use std::alloc::Global;
 
 /// A piece: its rule, none in a fault; and how many bytes it has.
 #[derive(Clone, Copy)]
-pub(crate) struct Piece {
+pub(crate) struct FrontPiece {
     pub(crate) rule: Option<NfaIndex>,
     pub(crate) size: usize,
 }
@@ -33,7 +33,7 @@ pub(crate) struct Piece {
 // whether something matches at its front, and at how many bytes nothing does, whatever comes.
 #[derive(Clone, Copy)]
 enum Told {
-    Whole(Piece),
+    Whole(FrontPiece),
     Nothing,
     Open(bool, usize),
 }
@@ -66,7 +66,7 @@ fn told_by(
         };
     }
     let front = front_piece(lexer, walker, memo, mode, at, text, &mut Steps::new());
-    let piece = Piece {
+    let piece = FrontPiece {
         rule: front.rule,
         size: front.size,
     };
@@ -194,13 +194,13 @@ impl Part {
 // What a part of the bytes tells of the piece at their front: it is given; or held back; or nothing matches in the part.
 #[derive(Clone, Copy)]
 enum Turn {
-    Given(Piece),
+    Given(FrontPiece),
     Held,
     Void,
 }
 
 // The piece, or the fault that ends before it or with it, if bytes of one lie before it.
-fn after_void(from: usize, piece: &Piece) -> Piece
+fn after_void(from: usize, piece: &FrontPiece) -> FrontPiece
     requires fits { from + piece.now.size < 2 ^ 64 }
     ensures token { from ≡ 0 → (result.rule ≡ piece.now.rule) × (result.size ≡ piece.now.size) }
     ensures fault { 0 < from → (result.rule ≡ None)
@@ -210,11 +210,11 @@ fn after_void(from: usize, piece: &Piece) -> Piece
         return *piece;
     }
     match piece.rule {
-        Some(_) => Piece {
+        Some(_) => FrontPiece {
             rule: None,
             size: from,
         },
-        None => Piece {
+        None => FrontPiece {
             rule: None,
             size: from + piece.size,
         },
@@ -266,7 +266,7 @@ fn part_told<'a>(
         Told::Nothing => Turn::Void,
         Told::Open(is_match, void) => {
             if is_match && from > 0 {
-                return Turn::Given(Piece {
+                return Turn::Given(FrontPiece {
                     rule: None,
                     size: from,
                 });
@@ -290,7 +290,7 @@ pub(crate) fn final_front<'a>(
     at: usize,
     bytes: &[u8],
     is_ended: bool,
-) -> Option<Piece>
+) -> Option<FrontPiece>
     requires there { mode < lexer.now.modes }
     requires some { IsSome kept.old }
     requires part { IsPart (trees_in lexer.now mode) bytes.now part.old }
@@ -326,14 +326,14 @@ pub(crate) fn final_front<'a>(
 }
 
 // All bytes as a fault; none if there are none.
-fn all_of(bytes: &[u8]) -> Option<Piece>
+fn all_of(bytes: &[u8]) -> Option<FrontPiece>
     ensures some { IfSome result (λ f. (bytes.now ≢ []) × (f.rule ≡ None) × (f.size ≡ length bytes.now)) }
     ensures none { IfNone result (bytes.now ≡ []) }
 {
     if bytes.is_empty() {
         return None;
     }
-    Some(Piece {
+    Some(FrontPiece {
         rule: None,
         size: bytes.len(),
     })

@@ -5,30 +5,30 @@ ghost use Rattle.std.specs.Str.{IsCharBoundary};
 ghost use Rattle.lalrpop_rules.specs.Pieces.{IsSame};
 ghost use Rattle.bajofeki.specs.Lexed.{ArePiecesIn};
 ghost use Rattle.bajofeki.specs.Internal.Blocks.{AreBlocksOf, IsBlockAt, IsPieceAt, size_in, sizes};
-ghost use Rattle.bajofeki.specs.Internal.Items.{AddsHolding, item_at, items_from};
+ghost use Rattle.bajofeki.specs.Internal.KeptPieces.{AddsHolding, item_at, items_from};
 
 use crate::block::Block;
 use crate::kept::{FAULT, Kept};
 use lalrpop_lexer::Token;
 use lalrpop_lexer::lexer::dfa::NfaIndex;
-use lalrpop_rules::{Item, RuleLexer};
+use lalrpop_rules::{Piece, RuleLexer};
 use std::alloc::{AllocError, Global};
 use std::ops::Range;
 
 // The piece of the text at this place of which this is kept.
-pub(crate) fn item_of<'text>(
+pub(crate) fn piece_of<'text>(
     lexer: &RuleLexer,
     text: &'text str,
     at: usize,
     piece: &Kept,
-) -> Item<'text>
+) -> Piece<'text>
     requires begins { IsCharBoundary text.now at }
     requires ends { IsCharBoundary text.now (at + piece.now.size) }
-    ensures item { IsSame result (item_at lexer.now.skips text.now at piece.now) }
+    ensures piece { IsSame result (item_at lexer.now.skips text.now at piece.now) }
 {
     let slice = &text[at..at + piece.size as usize];
     if piece.rule == FAULT {
-        return Item::Fault { start: at, slice };
+        return Piece::Fault { start: at, slice };
     }
     let index = NfaIndex::new(piece.rule as usize);
     let is_skipped = lexer.is_skipped(index);
@@ -38,9 +38,9 @@ pub(crate) fn item_of<'text>(
         start: at,
     };
     if is_skipped {
-        return Item::Skipped(token);
+        return Piece::Skipped(token);
     }
-    Item::Token(token)
+    Piece::Token(token)
 }
 
 // The block that holds the byte, and where it begins.
@@ -81,7 +81,7 @@ pub(crate) fn piece_holding<'text>(
     text: &'text str,
     blocks: &[Block],
     at: usize,
-) -> Option<Item<'text>>
+) -> Option<Piece<'text>>
     requires blocks { AreBlocksOf lexer.now text.now blocks.now }
     ensures piece { IfSome result (λ x.
         ArePiecesIn (record { rules = lexer.now; text = text.now }) at (at + 1) (x ∷ [])) }
@@ -89,7 +89,7 @@ pub(crate) fn piece_holding<'text>(
 {
     let (block, start) = find_block(blocks, at)?;
     let (piece, start) = find_piece(&block.pieces, start, at)?;
-    Some(item_of(lexer, text, start, &piece))
+    Some(piece_of(lexer, text, start, &piece))
 }
 
 // Adds the piece of the text at this place of which this is kept, if it holds a byte of the range.
@@ -99,7 +99,7 @@ fn push_holding<'text>(
     at: usize,
     piece: &Kept,
     range: &Range<usize>,
-    items: &mut Vec<Item<'text>>,
+    items: &mut Vec<Piece<'text>>,
 ) -> Result<(), AllocError>
     requires begins { IsCharBoundary text.now at }
     requires ends { IsCharBoundary text.now (at + piece.now.size) }
@@ -109,7 +109,7 @@ fn push_holding<'text>(
     if range.start.max(at) >= range.end.min(at + piece.size as usize) {
         return Ok(());
     }
-    if items.push(item_of(lexer, text, at, piece)).is_err() {
+    if items.push(piece_of(lexer, text, at, piece)).is_err() {
         return Err(AllocError);
     }
     Ok(())
@@ -122,7 +122,7 @@ fn push_all_holding<'text>(
     at: usize,
     block: &Block,
     range: &Range<usize>,
-    items: &mut Vec<Item<'text>>,
+    items: &mut Vec<Piece<'text>>,
 ) -> Result<(), AllocError>
     requires size { block.now.size ≡ sizes block.now.pieces.items }
     requires boundaries { (n : ℕ)
@@ -149,7 +149,7 @@ pub(crate) fn pieces_holding<'text>(
     text: &'text str,
     blocks: &[Block],
     range: &Range<usize>,
-) -> Result<Vec<Item<'text>>, AllocError>
+) -> Result<Vec<Piece<'text>>, AllocError>
     requires blocks { AreBlocksOf lexer.now text.now blocks.now }
     ensures pieces { IfOk result (λ v. ArePiecesIn
         (record { rules = lexer.now; text = text.now }) range.now.start range.now.end v.items) }

@@ -52,8 +52,11 @@ use std::marker::Model;
 /// while let Some(piece) = chunks.next_piece()? {
 ///     let slice = chunks.slice(); // `let` and the space; but `x` may go on
 /// }
-/// chunks.feed(b"y = 1")?; // now `xy`, and so on
-/// chunks.finish(); // and `1`
+/// chunks.feed(b"y = 1")?;
+/// chunks.finish();
+/// while let Some(piece) = chunks.next_piece()? {
+///     let slice = chunks.slice(); // `xy`, and so on up to `1`
+/// }
 /// ```
 #[derive(Drop)]
 pub struct Stream<'rules> {

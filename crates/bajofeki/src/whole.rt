@@ -19,7 +19,7 @@ use crate::error::EditError;
 use crate::found_ahead::FoundAhead;
 use crate::front::{Front, kept_of};
 use crate::kept::Kept;
-use crate::parts::Piece;
+use crate::parts::FrontPiece;
 use crate::place::{Place, cut_piece, pass};
 use lalrpop_hir::Steps;
 use lalrpop_rules::{ModeStack, RuleLexer};
@@ -39,26 +39,27 @@ fn first_size(text: &str) -> Option<usize>
 
 // The token at the front of the text, if it is found ahead.
 #[inline(always)]
-fn found_token(lexer: &RuleLexer, mode: usize, ahead: &mut FoundAhead, text: &str) -> Option<Piece>
+fn found_token(
+    lexer: &RuleLexer,
+    mode: usize,
+    ahead: &mut FoundAhead,
+    text: &str,
+) -> Option<FrontPiece>
     requires there { mode < lexer.now.modes }
     requires ahead { LeadOnAfter lexer.now mode text.now 0 ahead.old }
     ensures first { IfSome result (λ f. (d : List Row) → slice_get lexer.now.automata mode ≡ Some d
         → IsFirst d text.now f ahead.new) }
     ensures none { IfNone result (ahead.new.ends ≡ []) }
 {
-    if let Some(piece) = ahead.next() {
-        return Some(piece);
+    match ahead.next() {
+        Some(piece) => Some(piece),
+        None => ahead.first_of(lexer, mode, text),
     }
-    if !ahead.is_due() {
-        return None;
-    }
-    ahead.find(lexer, mode, text);
-    ahead.next()
 }
 
 // What is kept of the token at the front of the text, which the character after it settles. `None` if a number is too great, or no
 // character is there: then the tokens after it are forgotten.
-fn kept_token(ahead: &mut FoundAhead, text: &str, token: Piece) -> Option<Kept>
+fn kept_token(ahead: &mut FoundAhead, text: &str, token: FrontPiece) -> Option<Kept>
     requires boundary { IsCharBoundary text.now token.size }
     ensures kept { IfSome result (IsKeptOf text.now token) }
     ensures ahead { IfSome result (λ k. ahead.new ≡ ahead.old) }

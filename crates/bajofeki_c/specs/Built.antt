@@ -25,10 +25,9 @@ pub record AreGiven (file : RuleFile) (rs : List ModeRule) : Type 0 where
   pub modes : map (λ r. r.modes.now) rs ≡ map (λ r. r.modes.items) file.rules.items
   pub actions : map (λ r. r.actions.now) rs ≡ map (λ r. r.actions.items) file.rules.items
 
--- the lexer of these rules, whose modes have these names
-pub record IsBuiltOf (r : ModeRules) (names : List (List ℕ)) (l : BuiltLexer) : Type 0 where
+-- the lexer of these rules
+pub record IsBuiltOf (r : ModeRules) (l : BuiltLexer) : Type 0 where
   pub rules : l.rules ≡ r
-  pub modes : map string_bytes l.modes.items ≡ names
   pub numbers : AreNumbersOf r l.numbers
 
 -- these are the names of the rules, in their order, and the places at which their texts begin
@@ -36,16 +35,17 @@ pub record AreNamed (rs : List FileRule) (named : List NamedRule) : Type 0 where
   pub names : map (λ n. string_bytes n.name) named ≡ map (λ r. r.rule.name.now) rs
   pub places : map (λ n. n.place) named ≡ map (λ r. r.place) rs
 
--- these are the rules of the file, and in no mode is a word ambiguous
+-- these are the rules and the modes of the file, and in no mode is a word ambiguous
 pub record AreRulesOf (file : RuleFile) (r : ModeRules) : Type 0 where
   pub given : List ModeRule
   pub are_given : AreGiven file given
   pub rules : AreModeRules given (length file.modes.items) r
+  pub modes : r.mode_names ≡ map (λ name. name.now) file.modes.items
   pub no_clash : NoModeClash r
 
 -- the lexer of the file, or why it has none
 abbrev pub IsBuiltFor : RuleFile → Result BuiltLexer BuildError → Type 0
-IsBuiltFor file (Ok l) = (r : ModeRules) × (AreRulesOf file r × IsBuiltOf r (map (λ name. name.now) file.modes.items) l)
+IsBuiltFor file (Ok l) = (r : ModeRules) × (AreRulesOf file r × IsBuiltOf r l)
 IsBuiltFor file (Err (File e)) = e ≡ file_error.OutOfMemory
 IsBuiltFor file (Err (Rules e rules)) =
     ((given : List ModeRule) × (AreGiven file given × IsRulesError given (length file.modes.items) e)) × AreNamed file.rules.items rules.items

@@ -3,8 +3,8 @@
 use Rattle.std.specs.Prelude.{◌≡◌, ◌≢◌, ◌⊎◌, ℕ, List, [], length, map, Result, Ok, Err}
 use Rattle.std.specs.Str.{IsCharBoundary, IsUtf8}
 use Rattle.bajofeki_rules.specs.Position.{position_of}
-use Rattle.lalrpop_rules.specs.declared.item.Item.{Item}
-use Rattle.lalrpop_rules.specs.declared.item.Item.TheVariants.{Token, Skipped, Fault}
+use Rattle.lalrpop_rules.specs.declared.piece.Piece.{Piece as TextPiece}
+use Rattle.lalrpop_rules.specs.declared.piece.Piece.TheVariants.{Token, Skipped, Fault}
 use Rattle.bajofeki.specs.Lexed.{ArePiecesIn, FirstReaches, IsChange, IsEarliest, IsEditError, IsRange, Lexed, replaced}
 use Rattle.bajofeki.specs.declared.change.Change.{Change}
 use Rattle.bajofeki.specs.declared.error.EditError.{EditError}
@@ -24,7 +24,7 @@ use Rattle.bajofeki_c.specs.declared.position.Place.{Place}
 -- ---- numbers
 
 -- a piece: 0 of a token, 1 of one whose rule is skipped, 2 of a fault
-abbrev pub told : Item → Piece
+abbrev pub told : TextPiece → Piece
 told (Token token) = record { kind = 0; rule = token.index; start = token.start; length = length token.slice.now }
 told (Skipped token) = record { kind = 1; rule = token.index; start = token.start; length = length token.slice.now }
 told (Fault at slice) = record { kind = 2; rule = 0; start = at; length = length slice.now }
@@ -92,10 +92,10 @@ count_told code count = record { code = code; count = count }
 
 -- these are the pieces that hold a byte of the range
 pub record ArePiecesAt (l : Lexed) (from to : ℕ) (before : List Piece) (c : Count) (after : List Piece) : Type 0 where
-  pub items : List Item
-  pub pieces : ArePiecesIn l from to items
+  pub pieces : List TextPiece
+  pub are : ArePiecesIn l from to pieces
   pub code : c.code ≡ 0
-  pub written : IsWritten (map told items) before after c.count
+  pub written : IsWritten (map told pieces) before after c.count
 
 -- or nothing is written, since memory was refused or there is no text
 abbrev pub ArePiecesBy : Result Lexed DocumentError → ℕ → ℕ → List Piece → Count → List Piece → Type 0

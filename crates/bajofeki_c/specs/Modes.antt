@@ -1,6 +1,6 @@
 -- cases: proofs/Cases/Modes.antt
 -- The modes of a lexer by their names, and what a token of a rule does to the stack of them.
-use Rattle.std.specs.Prelude.{ℕ, List, [], map, slice_get, string_bytes, Option, Some, None, Result, Ok, Err}
+use Rattle.std.specs.Prelude.{ℕ, List, [], slice_get, Option, Some, None, Result, Ok, Err}
 use Rattle.bajofeki_rules.specs.Stack.{actions_of}
 use Rattle.bajofeki_rules.specs.declared.action.Action.{Action as RuleAction}
 use Rattle.bajofeki_rules.specs.declared.action.Action.TheVariants.{Mode, Push, Pop}
@@ -13,7 +13,7 @@ use Rattle.bajofeki_c.specs.declared.modes.Action.{Action}
 -- ---- the names
 
 abbrev pub mode_names_in : Result BuiltLexer BuildError → List (List ℕ)
-mode_names_in (Ok l) = map string_bytes l.modes.items
+mode_names_in (Ok l) = l.rules.mode_names
 mode_names_in (Err e) = []
 
 -- the name of the mode with this number

@@ -6,7 +6,7 @@ use Rattle.bajofeki.specs.Markup.{marked}
 use Rattle.bajofeki.specs.Terminal.{painted}
 use Rattle.lalrpop_rules.specs.Modes.{ModeRules, ArePiecesFrom}
 use Rattle.bajofeki_rules.specs.Stack.{Stack, start}
-use Rattle.lalrpop_rules.specs.declared.item.Item.{Item}
+use Rattle.lalrpop_rules.specs.declared.piece.Piece.{Piece}
 use Rattle.bajofeki_c.specs.Rules.{IsWritten}
 use Rattle.bajofeki_c.specs.declared.held.BuildError.{BuildError}
 use Rattle.bajofeki_c.specs.declared.held.BuiltLexer.{BuiltLexer}
@@ -18,16 +18,16 @@ use Rattle.bajofeki_c.specs.declared.page.Page.{Page}
 -- ---- the page
 
 -- a piece as HTML, or in colours for a terminal
-abbrev pub piece_in : Markup → List (List ℕ) → Item → List ℕ
+abbrev pub piece_in : Markup → List (List ℕ) → Piece → List ℕ
 piece_in Html = marked
 piece_in Ansi = painted
 
 -- all pieces of the text, one after another
 pub record IsPageOf (r : ModeRules) (markup : Markup) (text bytes : List ℕ) : Type 0 where
-  pub items : List Item
+  pub all : List Piece
   pub end : Stack
-  pub pieces : ArePiecesFrom r text 0 start items end
-  pub page : bytes ≡ flat_map (piece_in markup r.names) items
+  pub pieces : ArePiecesFrom r text 0 start all end
+  pub page : bytes ≡ flat_map (piece_in markup r.names) all
 
 -- ---- the array
 

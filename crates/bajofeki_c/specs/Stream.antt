@@ -1,7 +1,7 @@
 -- cases: proofs/Cases/Stream.antt
 -- A text that comes in chunks.
 use Rattle.std.specs.Prelude.{◌≡◌, ◌⊎◌, ℕ, Bool, false, true, List, [], ◌∷◌, ◌++◌, length, take, drop, map, Option, Some, None, Result, Ok, Err}
-use Rattle.lalrpop_rules.specs.declared.item.Item.{Item}
+use Rattle.lalrpop_rules.specs.declared.piece.Piece.{Piece as TextPiece}
 use Rattle.bajofeki.specs.Chunked.{Chunked, GivesFinal, IsChunkError, IsHeldBack, nothing_come}
 use Rattle.bajofeki.specs.declared.error.EditError.{EditError}
 use Rattle.bajofeki_c.specs.Document.{code_of_edit, count_told, told}
@@ -43,7 +43,7 @@ IsFed old bytes is_last code new = IsFedBetween old.going bytes is_last code new
 -- ---- what is given
 
 -- these pieces, one after another, each of which no later byte can change
-abbrev pub GivesAll : Chunked → List Item → Chunked → Type 0
+abbrev pub GivesAll : Chunked → List TextPiece → Chunked → Type 0
 GivesAll c [] d = d ≡ c
 GivesAll c (x ∷ xs) d = (e : Chunked) × (GivesFinal c (Some x) e × GivesAll e xs d)
 
@@ -54,10 +54,10 @@ IsEnd c after d = ((c.code ≡ 0) × IsHeldBack d) ⊎ ((c.code ≡ 2) × (c.cou
 
 -- n pieces are written, at the front of the array; what is after them is as it was
 pub record AreGiven (old : Chunked) (before : List Piece) (n : ℕ) (after : List Piece) (new : Chunked) : Type 0 where
-  pub items : List Item
-  pub given : GivesAll old items new
-  pub count : n ≡ length items
-  pub front : take n after ≡ map told items
+  pub pieces : List TextPiece
+  pub given : GivesAll old pieces new
+  pub count : n ≡ length pieces
+  pub front : take n after ≡ map told pieces
   pub behind : drop n after ≡ drop n before
 
 pub record GivesPieces (old : Chunked) (before : List Piece) (c : Count) (after : List Piece) (new : Chunked) : Type 0 where

@@ -9,7 +9,7 @@ use crate::position::Place;
 use crate::rules::write_to;
 use bajofeki::{Change, Document as EditedText, EditError};
 use lalrpop_lexer::Position;
-use lalrpop_rules::Item;
+use lalrpop_rules::Piece as TextPiece;
 use std::alloc::Global;
 use std::str;
 
@@ -158,23 +158,23 @@ pub fn edit_document(
 }
 
 // A piece in numbers.
-fn told(item: &Item<'_>) -> Piece
-    ensures told { result ≡ told_piece item.now }
+fn told(piece: &TextPiece<'_>) -> Piece
+    ensures told { result ≡ told_piece piece.now }
 {
-    match item {
-        Item::Token(token) => Piece {
+    match piece {
+        TextPiece::Token(token) => Piece {
             kind: 0,
             rule: token.index.index(),
             start: token.start,
             length: token.slice.len(),
         },
-        Item::Skipped(token) => Piece {
+        TextPiece::Skipped(token) => Piece {
             kind: 1,
             rule: token.index.index(),
             start: token.start,
             length: token.slice.len(),
         },
-        Item::Fault { start, slice } => Piece {
+        TextPiece::Fault { start, slice } => Piece {
             kind: 2,
             rule: 0,
             start: *start,
@@ -184,13 +184,13 @@ fn told(item: &Item<'_>) -> Piece
 }
 
 // Writes as many pieces as fit.
-fn write_pieces(items: &[Item<'_>], out: &mut [Piece])
-    ensures written { IsWritten (map told_piece items.now) out.old out.new (length items.now) }
+fn write_pieces(pieces: &[TextPiece<'_>], out: &mut [Piece])
+    ensures written { IsWritten (map told_piece pieces.now) out.old out.new (length pieces.now) }
 {
-    let room = out.len().min(items.len());
+    let room = out.len().min(pieces.len());
     let mut count = 0;
     'writing: while count < room {
-        out[count] = told(&items[count]);
+        out[count] = told(&pieces[count]);
         count += 1;
     }
 }
@@ -214,13 +214,13 @@ pub fn pieces_into(
             };
         }
     };
-    let Ok(items) = text.pieces(alloc, from..to) else {
+    let Ok(pieces) = text.pieces(alloc, from..to) else {
         return Count { code: 7, count: 0 };
     };
-    write_pieces(&items, out);
+    write_pieces(&pieces, out);
     Count {
         code: 0,
-        count: items.len(),
+        count: pieces.len(),
     }
 }
 

@@ -1,5 +1,5 @@
 //! What lies in the room that a program lends: a lexer, or why there is none.
-ghost use Rattle.std.specs.Prelude.{◌≡◌, ◌<◌, length, map, IfOk, IfErr};
+ghost use Rattle.std.specs.Prelude.{◌≡◌, ◌<◌, length, IfOk, IfErr};
 ghost use Rattle.lalrpop_emit.specs.EmitErrors.{IsNumbersError};
 ghost use Rattle.bajofeki_c.specs.Built.{AreNamed, IsBuiltOf, IsBuiltFor, IsFreed, IsMade};
 ghost use Rattle.bajofeki_c.specs.declared.held.BuildError.TheVariants.{File, Numbers};
@@ -8,7 +8,6 @@ use lalrpop_emit::{EmitError, LexerNumbers};
 use lalrpop_lexer::Position;
 use lalrpop_rule_file::{FileRule, RuleFile, RuleFileError, read_rules};
 use lalrpop_rules::{RuleLexer, RulesError};
-use reports_lib::{FileLexer, with_names};
 use std::alloc::{AllocError, Global};
 
 /// The lexer of a file's rules, as it is kept between calls.
@@ -16,8 +15,6 @@ use std::alloc::{AllocError, Global};
 pub struct BuiltLexer {
     /// The rules, in the order of their lines, and the automata of their modes.
     pub rules: RuleLexer,
-    /// The names of the modes, in their order.
-    pub modes: Vec<String>,
     /// By these numbers texts are cut.
     pub numbers: LexerNumbers,
 }
@@ -84,22 +81,13 @@ fn named_rules(alloc: Global, rules: &[FileRule<'_>]) -> Result<Vec<NamedRule>, 
     Ok(all)
 }
 
-// The lexer of a file's rules with its numbers and the names of its modes.
-fn numbered(alloc: Global, rules: RuleLexer, file: &RuleFile<'_>) -> Result<BuiltLexer, EmitError>
-    ensures built { IfOk result (λ lexer.
-        IsBuiltOf rules (map (λ name. name.now) file.now.modes.items) lexer) }
+// The lexer with its numbers.
+fn numbered(alloc: Global, rules: RuleLexer) -> Result<BuiltLexer, EmitError>
+    ensures built { IfOk result (IsBuiltOf rules) }
     ensures error { IfErr result (λ e. IsNumbersError rules e) }
 {
     let numbers = LexerNumbers::new(alloc, &rules)?;
-    let FileLexer {
-        lexer: rules,
-        modes,
-    } = with_names(alloc, rules, &file.modes)?;
-    Ok(BuiltLexer {
-        rules,
-        modes,
-        numbers,
-    })
+    Ok(BuiltLexer { rules, numbers })
 }
 
 // The lexer of the rules of the file.
@@ -110,8 +98,8 @@ fn lexer_of(alloc: Global, file: &RuleFile<'_>) -> Result<BuiltLexer, BuildError
     let Ok(rules) = file.mode_rules(alloc) else {
         return Err(BuildError::File(RuleFileError::OutOfMemory));
     };
-    match RuleLexer::from_rules(alloc, &rules, file.modes.len()) {
-        Ok(lexer) => match numbered(alloc, lexer, file) {
+    match RuleLexer::with_modes(alloc, &rules, &file.modes) {
+        Ok(lexer) => match numbered(alloc, lexer) {
             Ok(lexer) => Ok(lexer),
             Err(error) => Err(BuildError::Numbers(error)),
         },

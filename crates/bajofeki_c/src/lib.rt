@@ -618,10 +618,10 @@ pub extern "C" fn bajofeki_position(text: &[u8], at: usize) -> Place
     place_of(text, at)
 }
 
-/// The version of these functions: 4.
+/// The version of these functions: 5.
 #[unsafe(no_mangle)]
 pub extern "C" fn bajofeki_version() -> u32
-    ensures version { result ≡ 4 }
+    ensures version { result ≡ 5 }
 {
-    4
+    5
 }

@@ -24,7 +24,7 @@ fn mode_name(held: &Held, mode: usize) -> &str
     ensures name { result.now ≡ mode_name_of held.now mode }
 {
     match &held.made {
-        Ok(lexer) => match lexer.modes.get(mode) {
+        Ok(lexer) => match lexer.rules.mode_names().get(mode) {
             Some(name) => name.as_str(),
             None => "",
         },

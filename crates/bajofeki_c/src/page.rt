@@ -6,7 +6,7 @@ ghost use Rattle.bajofeki_c.specs.Page.{IsPageOf, IsShown, piece_in};
 use crate::held::Held;
 use crate::rules::write_to;
 use bajofeki::{Painter, push_html};
-use lalrpop_rules::{Item, RuleLexer};
+use lalrpop_rules::{Piece, RuleLexer};
 use std::alloc::{AllocError, Global};
 use std::str;
 
@@ -36,16 +36,16 @@ fn push_piece(
     names: &[String],
     painter: &mut Painter<'_>,
     markup: Markup,
-    item: &Item<'_>,
+    piece: &Piece<'_>,
 ) -> Result<(), AllocError>
     requires names { painter.old ≡ map string_bytes names.now }
     ensures piece { OnOk result (string_bytes page.new
-        ≡ string_bytes page.old ++ piece_in markup (map string_bytes names.now) item.now) }
+        ≡ string_bytes page.old ++ piece_in markup (map string_bytes names.now) piece.now) }
     ensures names { painter.new ≡ painter.old }
 {
     match markup {
-        Markup::Html => push_html(page, names, item),
-        Markup::Ansi => painter.push(page, item),
+        Markup::Html => push_html(page, names, piece),
+        Markup::Ansi => painter.push(page, piece),
     }
 }
 
@@ -61,9 +61,9 @@ fn page_of(
     let names = rules.names();
     let mut painter = Painter::new(alloc, names)?;
     let mut page = String::new(alloc);
-    for item in rules.items(alloc, text)? {
-        match item {
-            Ok(item) => push_piece(&mut page, names, &mut painter, markup, &item)?,
+    for piece in rules.pieces(alloc, text)? {
+        match piece {
+            Ok(piece) => push_piece(&mut page, names, &mut painter, markup, &piece)?,
             Err(error) => return Err(error),
         }
     }

@@ -1,6 +1,6 @@
 //! A text that comes in chunks.
 ghost use Rattle.std.specs.Prelude.{◌≡◌};
-ghost use Rattle.bajofeki.specs.Given.{item_of};
+ghost use Rattle.bajofeki.specs.Given.{piece_of};
 ghost use Rattle.bajofeki_c.specs.Document.{told as told_piece};
 ghost use Rattle.bajofeki_c.specs.Stream.{GivesOn, GivesPieces, IsFed, IsFedOpen, IsStreamBegun};
 
@@ -56,7 +56,7 @@ pub fn feed_stream(stream: &mut Stream<'_>, _alloc: Global, bytes: &[u8], is_las
 
 // A piece in numbers.
 fn told(piece: GivenPiece, slice: &[u8]) -> Piece
-    ensures told { result ≡ told_piece (item_of piece slice.entry) }
+    ensures told { result ≡ told_piece (piece_of piece slice.entry) }
 {
     let (kind, rule) = match piece.rule {
         Some(rule) => (if piece.is_skipped { 1 } else { 0 }, rule),

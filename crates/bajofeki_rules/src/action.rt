@@ -3,7 +3,7 @@
 /// A step that the token of a rule makes on the stack of modes. Modes are numbered from 0.
 ///
 /// ```
-/// use crate::Action;
+/// use bajofeki_rules::Action;
 ///
 /// let open_comment = [Action::Push(1)];
 /// let close_comment = [Action::Pop];

@@ -71,8 +71,7 @@ fn mark_round(marks: &mut [bool], rules: &[ModeRule]) -> bool
 /// It doesn't matter whether the texts of the rules parse. From a mode that isn't there no rule leads anywhere.
 ///
 /// ```
-/// use crate::{Action, ModeRule, entered_modes};
-/// use bajofeki_rules::Rule;
+/// use bajofeki_rules::{Action, ModeRule, Rule, entered_modes};
 ///
 /// let rules = [
 ///     ModeRule { rule: Rule::literal("OPEN", "/*"), modes: &[0], actions: &[Action::Push(1)] },

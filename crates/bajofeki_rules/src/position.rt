@@ -15,7 +15,7 @@ use std::marker::Model;
 /// ```
 /// use bajofeki_rules::Position;
 ///
-/// let place = Position::get("a\nbc", 3); // line 2, column 2
+/// let place = Position::get("a\nbc", 3); // `Some` of line 2, column 2
 /// ```
 #[derive(Clone, Copy, Debug, PartialEq, Eq, PartialOrd, Ord)]
 pub struct Position {
@@ -51,7 +51,7 @@ impl Position {
     ///
     /// ```
     /// let block = Position { line: 7, column: 3 };
-    /// let place = block.then(Position { line: 1, column: 5 }); // line 7, column 7
+    /// let place = block.then(Position { line: 1, column: 5 }); // `Some` of line 7, column 7
     /// ```
     pub fn then(self, next: Position) -> Option<Position>
         ensures place { IfSome result (λ p. p ≡ moved self next) }
@@ -83,7 +83,7 @@ impl Position {
     ///
     /// ```
     /// let block = Position { line: 7, column: 3 };
-    /// let place = block.after_bytes(b"ab\n\xff"); // line 8, column 2
+    /// let place = block.after_bytes(b"ab\n\xff"); // `Some` of line 8, column 2
     /// ```
     pub fn after_bytes(self, bytes: &[u8]) -> Option<Position>
         ensures place { IfSome result (λ p. p ≡ moved self (byte_place bytes.now)) }

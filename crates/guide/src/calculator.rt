@@ -3,7 +3,7 @@
 #![tactic(auto)]
 
 use anyhow::Result;
-use bajofeki::{Item, Position, Rule, RuleLexer};
+use bajofeki::{Piece, Position, Rule, RuleLexer};
 use std::alloc::Global;
 use std::io::{self, Print};
 
@@ -17,7 +17,7 @@ fn lexer(alloc: Global) -> Result<RuleLexer> {
         Rule::pattern("SPACE", r"\s+").skipped(),
         Rule::pattern("COMMENT", r"#[^\n]*").skipped(),
     ];
-    Ok(RuleLexer::of_one_mode(alloc, &rules)?)
+    Ok(RuleLexer::from_rules(alloc, &rules)?)
 }
 
 // Writes the place of a piece of the text, its name and its characters.
@@ -30,14 +30,14 @@ fn show_piece(rt: &impl Print, text: &str, start: usize, name: &str, slice: &str
 
 // Writes each token, and `!` for the name where no rule matches.
 fn show<'x>(rt: &impl Print, alloc: Global, lexer: &'x RuleLexer, text: &'x str) -> Result<()> {
-    for item in lexer.items(alloc, text)? {
-        match item {
-            Ok(Item::Token(token)) => {
+    for piece in lexer.pieces(alloc, text)? {
+        match piece {
+            Ok(Piece::Token(token)) => {
                 let name = lexer.name(token.index).unwrap_or("?");
                 show_piece(rt, text, token.start, name, token.slice)?;
             }
-            Ok(Item::Skipped(_)) => {}
-            Ok(Item::Fault { start, slice }) => show_piece(rt, text, start, "!", slice)?,
+            Ok(Piece::Skipped(_)) => {}
+            Ok(Piece::Fault { start, slice }) => show_piece(rt, text, start, "!", slice)?,
             Err(error) => return Err(error.into()),
         }
     }

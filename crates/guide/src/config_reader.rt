@@ -3,7 +3,7 @@
 
 use crate::files::{lexer_of, text_of};
 use anyhow::{Result, bail};
-use bajofeki::{Item, Position, RuleLexer};
+use bajofeki::{Piece, Position, RuleLexer};
 use std::alloc::Global;
 use std::env;
 use std::io::Print;
@@ -37,16 +37,16 @@ fn show_piece(rt: &impl Print, text: &str, start: usize, kind: Kind, slice: &str
     Ok(())
 }
 
-// Writes each token. The stack of modes may need memory, so an item may be an error.
+// Writes each token. The stack of modes may need memory, so a piece may be an error.
 fn show<'x>(rt: &impl Print, alloc: Global, lexer: &'x RuleLexer, text: &'x str) -> Result<()> {
-    for item in lexer.items(alloc, text)? {
-        match item {
-            Ok(Item::Token(token)) => {
+    for piece in lexer.pieces(alloc, text)? {
+        match piece {
+            Ok(Piece::Token(token)) => {
                 let kind = kind_of(lexer.name(token.index).unwrap_or(""));
                 show_piece(rt, text, token.start, kind, token.slice)?;
             }
-            Ok(Item::Skipped(_)) => {}
-            Ok(Item::Fault { start, slice }) => show_piece(rt, text, start, Kind::Mistake, slice)?,
+            Ok(Piece::Skipped(_)) => {}
+            Ok(Piece::Fault { start, slice }) => show_piece(rt, text, start, Kind::Mistake, slice)?,
             Err(error) => return Err(error.into()),
         }
     }

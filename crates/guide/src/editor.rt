@@ -9,7 +9,7 @@
 
 use crate::files::{lexer_of, text_of};
 use anyhow::{Context, Result, bail, ensure};
-use bajofeki::{Change, Document, EditError, GivenPiece, Item, Position, RuleLexer, Stream};
+use bajofeki::{Change, Document, EditError, GivenPiece, Piece, Position, RuleLexer, Stream};
 use lalrpop_lexer::lexer::re::unescape;
 use std::alloc::{AllocError, Global};
 use std::io::{self, Print};
@@ -43,10 +43,10 @@ fn edit(alloc: Global, text: &mut Document<'_>, line: &str) -> Result<Change> {
 }
 
 // The name of the rule of a piece.
-fn name_of<'text>(lexer: &'text RuleLexer, piece: &Item<'_>) -> &'text str {
+fn name_of<'text>(lexer: &'text RuleLexer, piece: &Piece<'_>) -> &'text str {
     match piece {
-        Item::Token(token) | Item::Skipped(token) => lexer.name(token.index).unwrap_or("?"),
-        Item::Fault { .. } => "!",
+        Piece::Token(token) | Piece::Skipped(token) => lexer.name(token.index).unwrap_or("?"),
+        Piece::Fault { .. } => "!",
     }
 }
 
@@ -76,11 +76,11 @@ fn is_placed(text: &Document<'_>, at: usize) -> bool {
 }
 
 // Whether a new cut gives these pieces, at the places that the text says.
-fn is_cut_so(alloc: Global, text: &Document<'_>, pieces: &[Item<'_>]) -> Result<bool, AllocError> {
+fn is_cut_so(alloc: Global, text: &Document<'_>, pieces: &[Piece<'_>]) -> Result<bool, AllocError> {
     let mut rest = pieces.iter();
-    for item in text.lexer().items(alloc, text.text())? {
-        match item {
-            Ok(item) if rest.next() == Some(&item) && is_placed(text, item.start()) => {}
+    for piece in text.lexer().pieces(alloc, text.text())? {
+        match piece {
+            Ok(piece) if rest.next() == Some(&piece) && is_placed(text, piece.start()) => {}
             Ok(_) => return Ok(false),
             Err(error) => return Err(error),
         }
@@ -89,15 +89,15 @@ fn is_cut_so(alloc: Global, text: &Document<'_>, pieces: &[Item<'_>]) -> Result<
 }
 
 // Whether this piece was given, with this slice.
-fn is_piece(given: &GivenPiece, slice: &[u8], piece: &Item<'_>) -> bool {
+fn is_piece(given: &GivenPiece, slice: &[u8], piece: &Piece<'_>) -> bool {
     match str::from_utf8(slice) {
-        Ok(text) => given.item(text) == *piece,
+        Ok(text) => given.with_slice(text) == *piece,
         Err(_) => false,
     }
 }
 
 // Whether the pieces that can be given are the next ones.
-fn gives(chunks: &mut Stream<'_>, rest: &mut Iter<'_, Item<'_>>) -> Result<bool, EditError> {
+fn gives(chunks: &mut Stream<'_>, rest: &mut Iter<'_, Piece<'_>>) -> Result<bool, EditError> {
     // A piece has one byte at least.
     for _ in 0..chunks.rest().len() {
         let Some(given) = chunks.next_piece()? else {
@@ -112,7 +112,11 @@ fn gives(chunks: &mut Stream<'_>, rest: &mut Iter<'_, Item<'_>>) -> Result<bool,
 }
 
 // Whether the text in chunks of one and two bytes gives these pieces.
-fn is_given_so(alloc: Global, text: &Document<'_>, pieces: &[Item<'_>]) -> Result<bool, EditError> {
+fn is_given_so(
+    alloc: Global,
+    text: &Document<'_>,
+    pieces: &[Piece<'_>],
+) -> Result<bool, EditError> {
     let mut chunks = Stream::new(alloc, text.lexer());
     let mut rest = pieces.iter();
     let bytes = text.text().as_bytes();

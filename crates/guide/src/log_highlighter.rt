@@ -23,7 +23,7 @@ fn paint(
         match chunks.next_piece()? {
             Some(piece) => {
                 let text = String::from_utf8_lossy(alloc, chunks.slice())?;
-                painter.push(&mut page, &piece.item(&text))?;
+                painter.push(&mut page, &piece.with_slice(&text))?;
             }
             None => break,
         }

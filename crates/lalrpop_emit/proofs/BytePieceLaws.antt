@@ -9,8 +9,8 @@ use Rattle.lalrpop_hir.specs.Tree.{Tree}
 use Rattle.lalrpop_hir.specs.Longest.{IsLongest}
 use Rattle.lalrpop_hir.proofs.Longests.{longest-unique}
 use Rattle.lalrpop_rules.specs.Pieces.{IsFault, IsPiece, slice_of}
-use Rattle.lalrpop_rules.specs.declared.item.Item.{Item}
-use Rattle.lalrpop_rules.specs.declared.item.Item.TheVariants.{Token, Skipped, Fault}
+use Rattle.lalrpop_rules.specs.declared.piece.Piece.{Piece}
+use Rattle.lalrpop_rules.specs.declared.piece.Piece.TheVariants.{Token, Skipped, Fault}
 use Rattle.lalrpop_rules.proofs.FirstMatches.{some_length}
 use Rattle.lalrpop_rules.proofs.UniquePieces.{same_fault}
 use Rattle.bajofeki_rules.specs.declared.action.Action.{Action}
@@ -110,7 +110,7 @@ fault_parts ts ps kinds text None rule size slice is fault = (refl, is.0, sym (l
 fault_parts ts ps kinds text (Some kind) rule size slice is fault = absurd (no_fault ts ps text (rule, take size text) slice is.longest fault)
 
 -- the piece of the rules at the place is the piece in numbers
-piece_numbered : (ts : List Tree) (ps kinds : List ℕ) (skips : List Bool) (text : List ℕ) (at : ℕ) (a : NumberedPiece) (item : Item) → IsBytePiece ts ps kinds text at a
+piece_numbered : (ts : List Tree) (ps kinds : List ℕ) (skips : List Bool) (text : List ℕ) (at : ℕ) (a : NumberedPiece) (item : Piece) → IsBytePiece ts ps kinds text at a
     → IsPiece ts ps skips text at item → a ≡ numbered kinds item
 piece_numbered ts ps kinds skips text at a (Token token) is too =
     let same = token_parts ts ps kinds (drop at text) a.kind a.rule a.length token.index token.slice.now is.1 too.0.1 in
@@ -122,13 +122,13 @@ piece_numbered ts ps kinds skips text at a (Fault start slice) is too =
     let same = fault_parts ts ps kinds (drop at text) a.kind a.rule a.length slice.now is.1 too.1 in
     same_piece a (numbered kinds (Fault start slice)) same.0 same.1 (is.0 ∙ sym too.0) same.2
 
-slice_numbered : (kinds : List ℕ) (item : Item) → (numbered kinds item).length ≡ length (slice_of item)
+slice_numbered : (kinds : List ℕ) (item : Piece) → (numbered kinds item).length ≡ length (slice_of item)
 slice_numbered kinds (Token token) = refl
 slice_numbered kinds (Skipped token) = refl
 slice_numbered kinds (Fault start slice) = refl
 
 -- where a piece in numbers is, the pieces of the rules aren't at their end; and where one of the rules is, those in numbers aren't
-some_item : (ts : List Tree) (ps : List ℕ) (skips : List Bool) (text : List ℕ) (at : ℕ) (item : Item) → IsPiece ts ps skips text at item → ¬ AtEnd text at
+some_item : (ts : List Tree) (ps : List ℕ) (skips : List Bool) (text : List ℕ) (at : ℕ) (item : Piece) → IsPiece ts ps skips text at item → ¬ AtEnd text at
 some_item ts ps skips text at (Token token) is end =
     omega (arith, some_before (drop at text) token.slice.now is.0.1.0.0.0 is.0.1.0.0.1.0 is.0.1.0.1, ap length end)
 some_item ts ps skips text at (Skipped token) is end =
@@ -147,7 +147,7 @@ fault_acts : (ts : List Tree) (ps kinds text : List ℕ) (kind : Option ℕ) (ru
 fault_acts ts ps kinds text None rule size slice actions is fault = refl
 fault_acts ts ps kinds text (Some kind) rule size slice actions is fault = absurd (no_fault ts ps text (rule, take size text) slice is.longest fault)
 
-stack_numbered : (ts : List Tree) (ps kinds : List ℕ) (skips : List Bool) (text : List ℕ) (at : ℕ) (a : NumberedPiece) (item : Item) (actions : List (List Action)) (s : Stack)
+stack_numbered : (ts : List Tree) (ps kinds : List ℕ) (skips : List Bool) (text : List ℕ) (at : ℕ) (a : NumberedPiece) (item : Piece) (actions : List (List Action)) (s : Stack)
     → IsBytePiece ts ps kinds text at a → IsPiece ts ps skips text at item → after_piece actions a s ≡ after actions item s
 stack_numbered ts ps kinds skips text at a (Token token) actions s is too =
     ap (λ acts. act_all acts s) (token_acts ts ps kinds (drop at text) a.kind a.rule a.length token.index token.slice.now actions is.1 too.0.1)
@@ -157,11 +157,11 @@ stack_numbered ts ps kinds skips text at a (Fault start slice) actions s is too 
     ap (λ acts. act_all acts s) (fault_acts ts ps kinds (drop at text) a.kind a.rule a.length slice.now actions is.1 too.1)
 
 -- the pieces in numbers are those of the rules, as many as there are
-pub record AreNumbered (kinds : List ℕ) (is_whole : Bool) (xs : List NumberedPiece) (items : List Item) : Type 0 where
+pub record AreNumbered (kinds : List ℕ) (is_whole : Bool) (xs : List NumberedPiece) (items : List Piece) : Type 0 where
   pub same : xs ≡ map (numbered kinds) (take (length xs) items)
   pub whole : is_whole ≡ true → length xs ≡ length items
 
-pub pieces_numbered : (r : ModeRules) (kinds : List ℕ) (room : ℕ) (text : List ℕ) (w : Bool) (at : ℕ) (s : Stack) (xs : List NumberedPiece) (items : List Item) (end : Stack)
+pub pieces_numbered : (r : ModeRules) (kinds : List ℕ) (room : ℕ) (text : List ℕ) (w : Bool) (at : ℕ) (s : Stack) (xs : List NumberedPiece) (items : List Piece) (end : Stack)
     → AreBytePiecesFrom r kinds room text w at s xs → ArePiecesFrom r text at s items end → AreNumbered kinds w xs items
 pieces_numbered r kinds room text w at s [] [] end are too = record { same = refl; whole = λ all. refl }
 pieces_numbered r kinds room text true at s [] (item ∷ items) end are too = absurd (some_item (trees_in r s.mode) r.precedences r.skips text at item too.0 are)

@@ -5,8 +5,8 @@ use Rattle.lalrpop_hir.specs.Tree.{Tree}
 use Rattle.lalrpop_hir.specs.Longest.{IsLongest}
 use Rattle.lalrpop_hir.specs.Chain.{AtEnd}
 use Rattle.lalrpop_rules.specs.Pieces.{IsFault}
-use Rattle.lalrpop_rules.specs.declared.item.Item.{Item}
-use Rattle.lalrpop_rules.specs.declared.item.Item.TheVariants.{Token, Skipped, Fault}
+use Rattle.lalrpop_rules.specs.declared.piece.Piece.{Piece}
+use Rattle.lalrpop_rules.specs.declared.piece.Piece.TheVariants.{Token, Skipped, Fault}
 use Rattle.bajofeki_rules.specs.declared.action.Action.{Action}
 use Rattle.bajofeki_rules.specs.Stack.{Stack, start, act, act_all, actions_of}
 use Rattle.lalrpop_rules.specs.Modes.{ModeRules, trees_in}
@@ -75,7 +75,7 @@ abbrev pub AreBytePieces : ModeRules → List ℕ → ℕ → List ℕ → List 
 AreBytePieces r kinds room text pieces is_whole = AreBytePiecesFrom r kinds room text is_whole 0 start pieces
 
 -- a piece of a UTF-8 text in numbers: a token, skipped or not, with the kind of its rule, or a fault
-abbrev pub numbered : List ℕ → Item → NumberedPiece
+abbrev pub numbered : List ℕ → Piece → NumberedPiece
 numbered kinds (Token token) = record { kind = slice_get kinds token.index; rule = token.index; start = token.start; length = length token.slice.now }
 numbered kinds (Skipped token) = record { kind = slice_get kinds token.index; rule = token.index; start = token.start; length = length token.slice.now }
 numbered kinds (Fault start slice) = record { kind = None; rule = 0; start = start; length = length slice.now }

@@ -1,7 +1,7 @@
 //! A lexer in numbers.
 ghost use Rattle.std.specs.Prelude.{◌≡◌, ◌<◌, ◌^◌, Bool, IsTrue, List, length, map, take, string_bytes, IfOk, IfErr, OnOk};
 ghost use Rattle.std.specs.List.{All};
-ghost use Rattle.lalrpop_rules.specs.declared.item.Item.{Item};
+ghost use Rattle.lalrpop_rules.specs.declared.piece.Piece.{Piece};
 ghost use Rattle.lalrpop_rules.specs.Modes.{ModeRules, ArePiecesFrom};
 ghost use Rattle.bajofeki_rules.specs.Stack.{Stack, start};
 ghost use Rattle.lalrpop_emit.specs.BytePieces.{AreBytePieces, numbered};
@@ -80,7 +80,7 @@ impl Model for LexerNumbers {
 }
 
 impl LexerNumbers {
-    /// The numbers of the rules and of their modes. Rules with one name are of one kind.
+    /// The numbers of the rules of a lexer and of their modes. A token has the number of its rule's name, whatever else the rule says.
     ///
     /// # Errors
     ///
@@ -135,13 +135,13 @@ impl LexerNumbers {
             → (others : List NumberedPiece) (is_whole : Bool)
             → AreBytePieces r self.now.kinds 1024 text.now others is_whole
             → (others ≡ all.pieces.items) × (is_whole ≡ all.is_whole)) }
-        ensures items { IfOk result (λ all. (r : ModeRules) → AreNumbersOf r self.now
-            → (items : List Item) (end : Stack) → ArePiecesFrom r text.now 0 start items end
+        ensures of_rules { IfOk result (λ all. (r : ModeRules) → AreNumbersOf r self.now
+            → (xs : List Piece) (end : Stack) → ArePiecesFrom r text.now 0 start xs end
             → all.pieces.items
-            ≡ map (numbered self.now.kinds) (take (length all.pieces.items) items)) }
+            ≡ map (numbered self.now.kinds) (take (length all.pieces.items) xs)) }
         ensures whole { IfOk result (λ all. (r : ModeRules) → AreNumbersOf r self.now
-            → (items : List Item) (end : Stack) → ArePiecesFrom r text.now 0 start items end
-            → IsTrue all.is_whole → length all.pieces.items ≡ length items) }
+            → (xs : List Piece) (end : Stack) → ArePiecesFrom r text.now 0 start xs end
+            → IsTrue all.is_whole → length all.pieces.items ≡ length xs) }
     {
         all_pieces(alloc, self, text)
     }

@@ -14,7 +14,7 @@ use thiserror::Error;
 /// ```
 #[derive(Clone, Copy, Debug, PartialEq, Eq)]
 pub struct Token<'text> {
-    /// The index of the pattern in the list.
+    /// The index of the pattern in the list, or of the rule in a lexer of rules.
     pub index: NfaIndex,
     /// The slice, never empty.
     pub slice: &'text str,

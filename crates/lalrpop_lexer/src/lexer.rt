@@ -145,8 +145,8 @@ impl Lexer {
     }
 
     /// The tokens of the text, in order, each at the front of the rest. They end at the end of the text, or with one fault
-    /// at the first place where no pattern matches. After that, every call returns `None`. There are at most as many tokens
-    /// and faults as the text has characters.
+    /// at the first place where no pattern matches. After that, every call returns `None`; `RuleLexer::pieces` goes on after a
+    /// fault. There are at most as many tokens and faults as the text has characters.
     ///
     /// The time is linear in the length of the text, whatever the patterns are. A step is counted each time a character is
     /// read, which only contracts see. If `lookahead` is n, a whole text costs at most n + 2 steps a character, and no memory

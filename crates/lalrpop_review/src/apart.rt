@@ -105,8 +105,8 @@ fn all_meanings<'lexers>(
 ///
 /// let names = [ModeRule { rule: Rule::pattern("NAME", "[a-z]+"), modes: &[0], actions: &[] }];
 /// let numbers = [ModeRule { rule: Rule::pattern("NAME", "[0-9]+"), modes: &[0], actions: &[] }];
-/// let old = RuleLexer::from_rules(alloc, &names, 1)?;
-/// let new = RuleLexer::from_rules(alloc, &numbers, 1)?;
+/// let old = RuleLexer::with_modes(alloc, &names, &["INITIAL"])?;
+/// let new = RuleLexer::with_modes(alloc, &numbers, &["INITIAL"])?;
 /// if let Some(found) = difference_in(alloc, &old, &new, 0)? {
 ///     let word = &found.word; // "0": no token of the old lexer, and a NAME of the new one
 /// }

@@ -34,7 +34,7 @@ use std::alloc::{AllocError, Global};
 ///     ModeRule { rule: keyword, modes: &[0], actions: &[] },
 ///     ModeRule { rule: name, modes: &[0], actions: &[] },
 /// ];
-/// let lexer = RuleLexer::from_rules(alloc, &rules, 1)?;
+/// let lexer = RuleLexer::with_modes(alloc, &rules, &["INITIAL"])?;
 /// let found = review(alloc, &lexer)?;
 /// let hidden = &found.modes[0].idle[0]; // the rule 0: rule 1 wins "if"
 /// ```

@@ -23,7 +23,7 @@ use std::alloc::{AllocError, Global};
 ///
 /// let file = read_rules(alloc, b"OPEN push C = '/*'\nNAME = /[a-z]+/\n[C]\nCLOSE pop = '*/'\n")?;
 /// let rules = file.mode_rules(alloc)?;
-/// let lexer = RuleLexer::from_rules(alloc, &rules, file.modes.len())?;
+/// let lexer = RuleLexer::with_modes(alloc, &rules, &file.modes)?;
 /// let place = file.rules[1].place; // line 2, column 9
 /// ```
 #[derive(Debug, Drop)]
@@ -82,7 +82,7 @@ fn mode_rule<'file>(rule: &'file FileRule<'_>, parts: &'file [Part]) -> ModeRule
 }
 
 impl<'text> RuleFile<'text> {
-    /// The rules as `RuleLexer::from_rules` takes them, with `file.modes.len()` modes. A pattern has the parts that stand above
+    /// The rules as `RuleLexer::with_modes` takes them, with the modes `file.modes`. A pattern has the parts that stand above
     /// its line.
     ///
     /// # Errors
@@ -161,7 +161,7 @@ pub fn without_mark(bytes: &[u8]) -> &[u8]
 /// let text = file.rules[1].rule.text; // RuleText::Escaped("\\n")
 /// ```
 ///
-/// The patterns of rules and escapes aren't parsed here, nor is B looked at: `RuleLexer::from_rules` does that.
+/// The patterns of rules and escapes aren't parsed here, nor is B looked at: `RuleLexer::with_modes` does that.
 ///
 /// # Errors
 ///

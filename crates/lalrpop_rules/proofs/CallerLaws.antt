@@ -12,8 +12,8 @@ use Rattle.lalrpop_hir.proofs.Chains.{chain_at}
 use Rattle.lalrpop_rules.specs.Modes.{ModeRules, kinds_of, mode_rules, trees_in}
 use Rattle.lalrpop_rules.specs.Pieces.{IsPiece, ArePieces, start_of}
 use Rattle.lalrpop_rules.proofs.KindLaws.{merged-few}
-use Rattle.lalrpop_rules.specs.declared.item.Item.{Item}
-use Rattle.lalrpop_rules.specs.declared.item.Item.TheVariants.{Token, Skipped, Fault}
+use Rattle.lalrpop_rules.specs.declared.piece.Piece.{Piece}
+use Rattle.lalrpop_rules.specs.declared.piece.Piece.TheVariants.{Token, Skipped, Fault}
 
 -- the pattern of a token is one of the list
 pub index_within : (ts : List Tree) (ps text : List ℕ) (at : ℕ) (token : Cut) → IsToken ts ps text at token → token.index < length ts
@@ -37,13 +37,13 @@ token_at_its_place ts ps text at i xs token are is =
     let here = chain_at _ _ _ at i xs (Ok token) are is in
     subst (λ (n : ℕ). IsToken ts ps text n token) (sym here.1.0) here.1
 
-pub starts_at : (ts : List Tree) (ps : List ℕ) (skips : List Bool) (text : List ℕ) (at : ℕ) (x : Item) → IsPiece ts ps skips text at x → start_of x ≡ at
+pub starts_at : (ts : List Tree) (ps : List ℕ) (skips : List Bool) (text : List ℕ) (at : ℕ) (x : Piece) → IsPiece ts ps skips text at x → start_of x ≡ at
 starts_at ts ps skips text at (Token token) is = is.0.0
 starts_at ts ps skips text at (Skipped token) is = is.0.0
 starts_at ts ps skips text at (Fault start slice) is = is.0
 
 -- and each of its pieces the piece at its place
-pub piece_at_its_place : (ts : List Tree) (ps : List ℕ) (skips : List Bool) (text : List ℕ) (at i : ℕ) (xs : List Item) (x : Item)
+pub piece_at_its_place : (ts : List Tree) (ps : List ℕ) (skips : List Bool) (text : List ℕ) (at i : ℕ) (xs : List Piece) (x : Piece)
     → ArePieces ts ps skips text at xs → slice_get xs i ≡ Some x → IsPiece ts ps skips text (start_of x) x
 piece_at_its_place ts ps skips text at i xs x are is =
     let here = chain_at _ _ _ at i xs x are is in

@@ -9,8 +9,8 @@ use Rattle.lalrpop_hir.specs.Prefix.{IsPrefix}
 use Rattle.lalrpop_lexer.proofs.Standings.{fewer_behind}
 use Rattle.lalrpop_rules.specs.Internal.CutToEnd.{CutToEnd, IsPaid, GivesPiece, PassesTo, IsSoughtFromRest, IsSoughtAfterPiece}
 use Rattle.lalrpop_rules.specs.Pieces.{IsPiece, slice_of}
-use Rattle.lalrpop_rules.specs.declared.item.Item.{Item}
-use Rattle.lalrpop_rules.specs.declared.item.Item.TheVariants.{Token, Skipped, Fault}
+use Rattle.lalrpop_rules.specs.declared.piece.Piece.{Piece}
+use Rattle.lalrpop_rules.specs.declared.piece.Piece.TheVariants.{Token, Skipped, Fault}
 use Rattle.std.proofs.lemmas.Str.{IsUtf8-drop}
 use Rattle.lalrpop_rules.proofs.PieceLaws.{is_front}
 use Rattle.lalrpop_rules.specs.Modes.{ModeRules, trees_in}
@@ -78,12 +78,12 @@ sought_further text p at c same b h =
     )
 
 -- the mode's own piece is the piece of the text
-pub own_piece : (r : ModeRules) (text : List ℕ) (at mode : ℕ) (c : CutToEnd) (x : Item) → IsCutIn r text at mode c → c.at ≡ at
+pub own_piece : (r : ModeRules) (text : List ℕ) (at mode : ℕ) (c : CutToEnd) (x : Piece) → IsCutIn r text at mode c → c.at ≡ at
     → IsPiece c.rules.trees c.rules.precedences c.skips c.text c.at x → IsPiece (trees_in r mode) r.precedences r.skips text at x
 own_piece r text at mode c x is here piece = rw (is.trees, is.precedences, is.skips, is.same_text, here) at piece
 
 -- what cuts the text in a mode has cut a piece
-cut_on : (r : ModeRules) (text : List ℕ) (at mode : ℕ) (c d : CutToEnd) (x : Item) → IsCutIn r text at mode c → c.at ≡ at → GivesPiece c (Some x) d
+cut_on : (r : ModeRules) (text : List ℕ) (at mode : ℕ) (c d : CutToEnd) (x : Piece) → IsCutIn r text at mode c → c.at ≡ at → GivesPiece c (Some x) d
     → IsCutIn r text (at + length (slice_of x)) mode d × (d.at ≡ at + length (slice_of x))
 cut_on r text at mode c d x is here g =
     let there : d.at ≡ at + length (slice_of x) = ap (λ (w : CutToEnd). w.at) g.1 ∙ ap (λ (n : ℕ). n + length (slice_of x)) here in (
@@ -98,7 +98,7 @@ cut_on r text at mode c d x is here g =
     )
 
 -- the others are as they were
-pub cuts_on : (r : ModeRules) (text : List ℕ) (at mode : ℕ) (cs : List CutToEnd) (c d : CutToEnd) (x : Item) → IsUtf8 text → IsCharBoundary text at
+pub cuts_on : (r : ModeRules) (text : List ℕ) (at mode : ℕ) (cs : List CutToEnd) (c d : CutToEnd) (x : Piece) → IsUtf8 text → IsCharBoundary text at
     → AreCuts r text at mode cs → slice_get cs mode ≡ Some c → mode < length cs → GivesPiece c (Some x) d
     → AreCuts r text (at + length (slice_of x)) mode (slice_set cs mode d)
 cuts_on r text at mode cs c d x u b are is within g =
@@ -133,7 +133,7 @@ piece_paid mode cs c d is within paid =
     (omega (arith, paid.0, steps), omega (arith, paid.1, steps, spare, here, there))
 
 -- after a token, no match after it is found yet
-pub piece_sought : (r : ModeRules) (text : List ℕ) (at mode : ℕ) (cs : List CutToEnd) (c d : CutToEnd) (x : Item) → IsCutIn r text at mode c → c.at ≡ at
+pub piece_sought : (r : ModeRules) (text : List ℕ) (at mode : ℕ) (cs : List CutToEnd) (c d : CutToEnd) (x : Piece) → IsCutIn r text at mode c → c.at ≡ at
     → mode < length cs → GivesPiece c (Some x) d → IsSoughtAfterPiece x d
     → IsSoughtAfter x (record { rules = r; text = text; at = at + length (slice_of x); mode = mode; memo = memo_in mode (slice_set cs mode d); steps = steps_in (slice_set cs mode d) })
 piece_sought r text at mode cs c d x one here within g sought = by_item x (cut_on r text at mode c d x one here g) sought
@@ -144,7 +144,7 @@ piece_sought r text at mode cs c d x one here within g sought = by_item x (cut_o
         let own : d.memo.unsought ≡ length (chars (drop place text)) = rw (there, on.same_text) at h in
         unsought_here mode (slice_set cs mode d) d (get_set cs mode d within) ∙ own
 
-    by_item : (x : Item) → IsCutIn r text (at + length (slice_of x)) mode d × (d.at ≡ at + length (slice_of x)) → IsSoughtAfterPiece x d
+    by_item : (x : Piece) → IsCutIn r text (at + length (slice_of x)) mode d × (d.at ≡ at + length (slice_of x)) → IsSoughtAfterPiece x d
         → IsSoughtAfter x (record { rules = r; text = text; at = at + length (slice_of x); mode = mode; memo = memo_in mode (slice_set cs mode d); steps = steps_in (slice_set cs mode d) })
     by_item (Token token) on h = found (at + length token.slice.now) on.0 on.1 h
     by_item (Skipped token) on h = found (at + length token.slice.now) on.0 on.1 h

@@ -32,7 +32,8 @@ says bytes file taken read known = record {
 }
 
 pub lexer_of_file : (bytes : List ℕ) (file : RuleFile) (r : Result ModeRules FileError) → IsReadFrom bytes file → IfOk r (IsLexerOfRules file) → IfOk r (IsLexerOfFile bytes)
-lexer_of_file bytes file (Ok lexer) read (taken, (known, are)) = (length file.modes.items, (file.rules.items, (taken, (says bytes file taken read known, are))))
+unfolding says
+lexer_of_file bytes file (Ok lexer) read (taken, (known, are, named)) = (length file.modes.items, (file.rules.items, (taken, (says bytes file taken read known, (are, named)))))
 lexer_of_file bytes file (Err e) read is = tt
 
 pub error_of_file : (bytes : List ℕ) (file : RuleFile) (r : Result ModeRules FileError) → IsReadFrom bytes file → IfErr r (IsRefusalOfRules file) → IfErr r (IsFileError bytes)

@@ -9,8 +9,8 @@ use Rattle.lalrpop_hir.specs.declared.token.Token.{Token as Cut}
 use Rattle.lalrpop_lexer.proofs.UniqueTokens.{token-unique}
 use Rattle.lalrpop_rules.specs.Found.{NoMatchBefore, IsFound, NothingFound}
 use Rattle.lalrpop_rules.specs.Pieces.{ArePieces, first_token}
-use Rattle.lalrpop_rules.specs.declared.item.Item.{Item}
-use Rattle.lalrpop_rules.specs.declared.item.Item.TheVariants.{Token, Skipped, Fault}
+use Rattle.lalrpop_rules.specs.declared.piece.Piece.{Piece}
+use Rattle.lalrpop_rules.specs.declared.piece.Piece.TheVariants.{Token, Skipped, Fault}
 use Rattle.lalrpop_rules.proofs.FirstMatches.{match_within}
 use Rattle.lalrpop_rules.proofs.PieceLaws.{are_apart}
 
@@ -36,7 +36,7 @@ module _ (ts : List Tree) (ps text : List ℕ) where
   nothing_before_start n less m = omega arith
 
   -- the first token of all pieces is found, and where there is none, nothing
-  pub first_is_found : (skips : List Bool) (xs : List Item) → ArePieces ts ps skips text 0 xs
+  pub first_is_found : (skips : List Bool) (xs : List Piece) → ArePieces ts ps skips text 0 xs
       → IfSome (first_token xs) (λ token. IsFound ts ps text token) × IfNone (first_token xs) (NothingFound ts text)
   first_is_found skips [] are = (tt, λ n m. omega (arith, match_within ts text n m, ap length are))
   first_is_found skips (Token token ∷ xs) are = (found_at 0 token are.0.0 nothing_before_start, tt)
@@ -61,7 +61,7 @@ module _ (ts : List Tree) (ps text : List ℕ) where
   both_found (Some a) (Some b) some nothing some2 nothing2 = found-unique a b some some2
 
   -- so what is found is the first token
-  pub found_is_first : (skips : List Bool) (xs : List Item) (found : Option Cut) → ArePieces ts ps skips text 0 xs
+  pub found_is_first : (skips : List Bool) (xs : List Piece) (found : Option Cut) → ArePieces ts ps skips text 0 xs
       → IfSome found (λ token. IsFound ts ps text token) → IfNone found (NothingFound ts text)
       → MatchOption found (first_token xs ≡ None) (λ a. IsSomeAnd (first_token xs) (λ b. IsSameToken a b))
   found_is_first skips xs found are some nothing =

@@ -7,8 +7,8 @@ use Rattle.lalrpop_hir.specs.Tree.{Tree}
 use Rattle.lalrpop_hir.specs.Winners.{TreeMatches}
 use Rattle.lalrpop_rules.proofs.KindLaws.{of_merged, into_merged}
 use Rattle.lalrpop_rules.specs.Pieces.{IsPiece, AreApart, slice_of}
-use Rattle.lalrpop_rules.specs.declared.item.Item.{Item}
-use Rattle.lalrpop_rules.specs.declared.item.Item.TheVariants.{Token, Skipped, Fault}
+use Rattle.lalrpop_rules.specs.declared.piece.Piece.{Piece}
+use Rattle.lalrpop_rules.specs.declared.piece.Piece.TheVariants.{Token, Skipped, Fault}
 use Rattle.lalrpop_rules.proofs.PieceLaws.{two_faults}
 use Rattle.bajofeki_rules.specs.declared.action.Action.{Action}
 use Rattle.bajofeki_rules.specs.declared.action.Action.TheVariants.{Mode, Push, Pop}
@@ -78,21 +78,21 @@ module _ (r : ModeRules) (there : (m i : ℕ) → Belongs r.members m i → m < 
       let belongs = token-belongs r s.mode w i matches in
       act-keeps (CanBeEntered r.members r.actions r.modes) (actions_of r.actions i) s (λ m leads. by_rule i (there s.mode i belongs) all.0 belongs leads) all
 
-  after_entered : (text : List ℕ) (at : ℕ) (s : Stack) (x : Item) → IsPiece (trees_in r s.mode) r.precedences r.skips text at x
+  after_entered : (text : List ℕ) (at : ℕ) (s : Stack) (x : Piece) → IsPiece (trees_in r s.mode) r.precedences r.skips text at x
       → AllCanBeEntered r s → AllCanBeEntered r (after r.actions x s)
   after_entered text at s (Token token) is all = token_entered s _ token.index is.0.2.0.0 all
   after_entered text at s (Skipped token) is all = token_entered s _ token.index is.0.2.0.0 all
   after_entered text at s (Fault at_start slice) is all = all
 
   -- from modes that can be entered on, only such modes are entered
-  pub only-entered : (text : List ℕ) (at : ℕ) (s : Stack) (xs : List Item) (t : Stack) → ArePiecesFrom r text at s xs t → AllCanBeEntered r s → AllCanBeEntered r t
+  pub only-entered : (text : List ℕ) (at : ℕ) (s : Stack) (xs : List Piece) (t : Stack) → ArePiecesFrom r text at s xs t → AllCanBeEntered r s → AllCanBeEntered r t
   only-entered text at s [] t are all = subst (λ (v : Stack). AllCanBeEntered r v) (sym are.1) all
   only-entered text at s (x ∷ xs) t are all =
       only-entered text (at + length (slice_of x)) (after r.actions x s) xs t are.1 (after_entered text at s x are.0 all)
 
 -- ---- no two faults in turn
 
-pub apart-from : (r : ModeRules) (text : List ℕ) (at : ℕ) (s : Stack) (xs : List Item) (t : Stack) → ArePiecesFrom r text at s xs t → AreApart xs
+pub apart-from : (r : ModeRules) (text : List ℕ) (at : ℕ) (s : Stack) (xs : List Piece) (t : Stack) → ArePiecesFrom r text at s xs t → AreApart xs
 apart-from r text at s [] t are = tt
 apart-from r text at s (Token token ∷ xs) t are =
     apart-from r text (at + length token.slice.now) (after r.actions (Token token) s) xs t are.1

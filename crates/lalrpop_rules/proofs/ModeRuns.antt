@@ -1,4 +1,4 @@
--- What the calls of `next_item` give for a text that is cut by rules with modes.
+-- What the calls of `next_piece` give for a text that is cut by rules with modes.
 use Rattle.std.proofs.Common.{◌≡◌, ℕ, zero, suc, ◌+◌, ◌<◌, ◌≤◌, map, refl, arith, get_or, Bool, List, [], ◌∷◌, length, sym, ap, subst, ◌∙◌, ◌++◌, append_assoc}
 use Rattle.std.specs.Str.{IsUtf8, IsCharBoundary}
 use Rattle.std.proofs.lemmas.Str.{IsUtf8-drop}
@@ -10,7 +10,7 @@ use Rattle.lalrpop_rules.proofs.Finding.{paid_on}
 use Rattle.std.specs.Prelude.{Option, Some, None}
 use Rattle.lalrpop_rules.specs.Internal.CutToEnd.{steps_for}
 use Rattle.std.specs.Iterator.{Yields}
-use Rattle.lalrpop_rules.specs.declared.item.Item.{Item}
+use Rattle.lalrpop_rules.specs.declared.piece.Piece.{Piece}
 use Rattle.bajofeki_rules.specs.declared.action.Action.{Action}
 use Rattle.bajofeki_rules.specs.Stack.{Stack, start, act_all, actions_of}
 use Rattle.lalrpop_rules.specs.Modes.{ModeRules, ArePiecesFrom, EachMode, trees_in, after}
@@ -20,19 +20,19 @@ use Rattle.lalrpop_rules.specs.ModeCut.{ModeCut, uncut, left_text, GivesModePiec
 use Rattle.lalrpop_rules.proofs.ModeLaws.{act-keeps}
 
 -- the pieces up to the end of the text
-pub pieces-of-run : (s t : ModeCut) (xs : List Item) → Yields GivesModePiece s xs t → left_text t ≡ []
+pub pieces-of-run : (s t : ModeCut) (xs : List Piece) → Yields GivesModePiece s xs t → left_text t ≡ []
     → ArePiecesFrom s.rules s.text s.at s.stack xs t.stack
 pieces-of-run s t [] y end = (ap (λ (w : ModeCut). left_text w) y ∙ end, sym (ap (λ (w : ModeCut). w.stack) y))
 pieces-of-run s t (x ∷ xs) (j, g, y) end =
     (g.0, subst (λ (w : ModeCut). ArePiecesFrom w.rules w.text w.at w.stack xs t.stack) g.1 (pieces-of-run j t xs y end))
 
-pub pieces-from-first : (s : ModeCut) (r : ModeRules) (text : List ℕ) (most : ℕ) → s ≡ uncut r text most → (xs : List Item) (t : ModeCut)
+pub pieces-from-first : (s : ModeCut) (r : ModeRules) (text : List ℕ) (most : ℕ) → s ≡ uncut r text most → (xs : List Piece) (t : ModeCut)
     → Yields GivesModePiece s xs t → left_text t ≡ [] → ArePiecesFrom r text 0 start xs t.stack
 pieces-from-first s r text most e xs t y end =
     subst (λ (w : ModeCut). ArePiecesFrom w.rules w.text w.at w.stack xs t.stack) e (pieces-of-run s t xs y end)
 
 -- after the first `None` every call gives `None`
-pub none_for_good : (s t u : ModeCut) (x : Option Item) → GivesModePiece s None t → GivesModePiece t x u → x ≡ None
+pub none_for_good : (s t u : ModeCut) (x : Option Piece) → GivesModePiece s None t → GivesModePiece t x u → x ≡ None
 none_for_good s t u None end g = refl
 none_for_good s t u (Some x) (same, end) g =
     let front = is_split (trees_in t.rules t.stack.mode) t.rules.precedences t.rules.skips t.text t.at x g.0 in
@@ -40,7 +40,7 @@ none_for_good s t u (Some x) (same, end) g =
     absurd (rest_some (slice_of x) (left_text t) front some (ap (λ (w : ModeCut). left_text w) same ∙ end))
 
 -- a piece is cut in the mode on top, and the text is cut in the new one from then on
-pub piece-given : (old between new : Cutting) (s t : Stack) (x : Item) (mode : ℕ) (over : Bool) → old.mode ≡ s.mode → CutsPiece old x between → Follows between mode new
+pub piece-given : (old between new : Cutting) (s t : Stack) (x : Piece) (mode : ℕ) (over : Bool) → old.mode ≡ s.mode → CutsPiece old x between → Follows between mode new
     → t ≡ after old.rules.actions x s
     → GivesModePiece (record { rules = old.rules; text = old.text; at = old.at; stack = s; steps = old.steps; steps_left = steps_for old.memo; is_over = over }) (Some x)
     (record { rules = new.rules; text = new.text; at = new.at; stack = t; steps = new.steps; steps_left = steps_for new.memo; is_over = over })
@@ -55,17 +55,17 @@ piece-given old between new s t x mode over on_top cuts follows acted =
 
 -- ---- the pieces and the rest are the text
 
-step_splits : (s j : ModeCut) (x : Item) → GivesModePiece s (Some x) j → left_text s ≡ slice_of x ++ left_text j
+step_splits : (s j : ModeCut) (x : Piece) → GivesModePiece s (Some x) j → left_text s ≡ slice_of x ++ left_text j
 step_splits s j x g =
     split_at s.text s.at (slice_of x) (is_split (trees_in s.rules s.stack.mode) s.rules.precedences s.rules.skips s.text s.at x g.0)
     ∙ ap (λ (w : ModeCut). slice_of x ++ left_text w) (sym g.1)
 
-parts-of-run : (s t : ModeCut) (xs : List Item) → Yields GivesModePiece s xs t → left_text s ≡ joined xs ++ left_text t
+parts-of-run : (s t : ModeCut) (xs : List Piece) → Yields GivesModePiece s xs t → left_text s ≡ joined xs ++ left_text t
 parts-of-run s t [] y = ap (λ (w : ModeCut). left_text w) y
 parts-of-run s t (x ∷ xs) (j, g, y) =
     step_splits s j x g ∙ ap (λ (r : List ℕ). slice_of x ++ r) (parts-of-run j t xs y) ∙ sym (append_assoc (slice_of x) (joined xs) (left_text t))
 
-pub parts-from-first : (s : ModeCut) (r : ModeRules) (text : List ℕ) (most : ℕ) → s ≡ uncut r text most → (xs : List Item) (t : ModeCut)
+pub parts-from-first : (s : ModeCut) (r : ModeRules) (text : List ℕ) (most : ℕ) → s ≡ uncut r text most → (xs : List Piece) (t : ModeCut)
     → Yields GivesModePiece s xs t → text ≡ joined xs ++ left_text t
 parts-from-first s r text most e xs t y = sym (ap (λ (w : ModeCut). left_text w) e) ∙ parts-of-run s t xs y
 
@@ -77,7 +77,7 @@ pub act-within : (n : ℕ) (acts : List Action) (s t : Stack) → t ≡ act_all 
 act-within n acts s t is lead there = subst (λ (u : Stack). EachMode (λ m. m < n) u) (sym is) (act-keeps (λ m. m < n) acts s lead there)
 
 -- the text may be cut after a piece
-pub cut-behind : (ts : List Tree) (ps : List ℕ) (skips : List Bool) (text : List ℕ) (at : ℕ) (x : Item) → IsUtf8 text → IsCharBoundary text at
+pub cut-behind : (ts : List Tree) (ps : List ℕ) (skips : List Bool) (text : List ℕ) (at : ℕ) (x : Piece) → IsUtf8 text → IsCharBoundary text at
     → IsPiece ts ps skips text at x → IsCharBoundary text (at + length (slice_of x))
 cut-behind ts ps skips text at x u here is = boundary_behind text at (slice_of x) here (IsUtf8-drop text at u here) (is_front ts ps skips text at x (IsUtf8-drop text at u here) is)
 

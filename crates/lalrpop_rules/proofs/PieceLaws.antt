@@ -10,8 +10,8 @@ use Rattle.lalrpop_hir.specs.Tokens.{AreTokens}
 use Rattle.lalrpop_hir.proofs.LastFaults.{tokens_to_fault}
 use Rattle.lalrpop_rules.specs.Found.{MatchesAt}
 use Rattle.lalrpop_rules.specs.Pieces.{IsFault, IsPiece, ArePieces, AreApart, slice_of, up_to_fault}
-use Rattle.lalrpop_rules.specs.declared.item.Item.{Item}
-use Rattle.lalrpop_rules.specs.declared.item.Item.TheVariants.{Token, Skipped, Fault}
+use Rattle.lalrpop_rules.specs.declared.piece.Piece.{Piece}
+use Rattle.lalrpop_rules.specs.declared.piece.Piece.TheVariants.{Token, Skipped, Fault}
 use Rattle.lalrpop_lexer.proofs.Cuttings.{cut_behind, some_char}
 use Rattle.lalrpop_rules.proofs.FirstMatches.{match_begins, some_length}
 
@@ -20,7 +20,7 @@ pub after_prefix : (p text : List ℕ) → IsPrefix p text → (rest : List ℕ)
 after_prefix p text b = (b.0, b.1.0)
 
 -- the rest begins with a piece
-pub is_split : (ts : List Tree) (ps : List ℕ) (skips : List Bool) (text : List ℕ) (at : ℕ) (x : Item) → IsPiece ts ps skips text at x
+pub is_split : (ts : List Tree) (ps : List ℕ) (skips : List Bool) (text : List ℕ) (at : ℕ) (x : Piece) → IsPiece ts ps skips text at x
     → (rest : List ℕ) × (drop at text ≡ slice_of x ++ rest)
 is_split ts ps skips text at (Token token) is = after_prefix token.slice.now (drop at text) is.0.1.0.0
 is_split ts ps skips text at (Skipped token) is = after_prefix token.slice.now (drop at text) is.0.1.0.0
@@ -37,14 +37,14 @@ fault_utf8 ts text slice u fault = elim fault.ends [
     same = ap (take (length slice)) fault.front.1 ∙ take-append_seam slice fault.front.0
 
 -- where the rest is UTF-8, a piece is a prefix of it
-pub is_front : (ts : List Tree) (ps : List ℕ) (skips : List Bool) (text : List ℕ) (at : ℕ) (x : Item) → IsUtf8 (drop at text)
+pub is_front : (ts : List Tree) (ps : List ℕ) (skips : List Bool) (text : List ℕ) (at : ℕ) (x : Piece) → IsUtf8 (drop at text)
     → IsPiece ts ps skips text at x → IsPrefix (slice_of x) (drop at text)
 is_front ts ps skips text at (Token token) u is = is.0.1.0.0
 is_front ts ps skips text at (Skipped token) u is = is.0.1.0.0
 is_front ts ps skips text at (Fault start slice) u is = (is.1.front.0, (is.1.front.1, fault_utf8 ts (drop at text) slice.now u is.1))
 
 -- and not empty
-pub is_some : (ts : List Tree) (ps : List ℕ) (skips : List Bool) (text : List ℕ) (at : ℕ) (x : Item) → IsPiece ts ps skips text at x → slice_of x ≢ []
+pub is_some : (ts : List Tree) (ps : List ℕ) (skips : List Bool) (text : List ℕ) (at : ℕ) (x : Piece) → IsPiece ts ps skips text at x → slice_of x ≢ []
 is_some ts ps skips text at (Token token) is = is.0.1.0.1
 is_some ts ps skips text at (Skipped token) is = is.0.1.0.1
 is_some ts ps skips text at (Fault start slice) is = is.1.some
@@ -91,7 +91,7 @@ two_faults ts text at p q first second = elim first.ends [
     drop_all : (xs : List ℕ) → drop (length xs) xs ≡ []
     drop_all xs = ap (drop (length xs)) (sym (append-nil xs)) ∙ drop_at xs [] (length xs) refl
 
-pub are_apart : (ts : List Tree) (ps : List ℕ) (skips : List Bool) (text : List ℕ) (at : ℕ) (xs : List Item) → ArePieces ts ps skips text at xs → AreApart xs
+pub are_apart : (ts : List Tree) (ps : List ℕ) (skips : List Bool) (text : List ℕ) (at : ℕ) (xs : List Piece) → ArePieces ts ps skips text at xs → AreApart xs
 are_apart ts ps skips text at [] are = tt
 are_apart ts ps skips text at (Token token ∷ xs) are = are_apart ts ps skips text (at + length token.slice.now) xs are.1
 are_apart ts ps skips text at (Skipped token ∷ xs) are = are_apart ts ps skips text (at + length token.slice.now) xs are.1
@@ -102,7 +102,7 @@ are_apart ts ps skips text at (Fault start slice ∷ Fault start2 slice2 ∷ xs)
     two_faults ts text at slice.now slice2.now are.0.1 are.1.0.1
 
 -- up to the first fault they are the tokens of the text
-pub tokens_of : (ts : List Tree) (ps : List ℕ) (skips : List Bool) (text : List ℕ) (at : ℕ) (xs : List Item) → ArePieces ts ps skips text at xs
+pub tokens_of : (ts : List Tree) (ps : List ℕ) (skips : List Bool) (text : List ℕ) (at : ℕ) (xs : List Piece) → ArePieces ts ps skips text at xs
     → AreTokens ts ps text at (up_to_fault xs)
 tokens_of ts ps skips text at [] are = are
 tokens_of ts ps skips text at (Token token ∷ xs) are = (are.0.0, tokens_of ts ps skips text (at + length token.slice.now) xs are.1)

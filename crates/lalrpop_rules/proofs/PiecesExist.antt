@@ -14,8 +14,8 @@ use Rattle.lalrpop_lexer.proofs.Decided.{longest-exists}
 use Rattle.lalrpop_hir.proofs.Strongest.{IsOnlyStrongest-from_greatest}
 use Rattle.lalrpop_rules.specs.Found.{MatchesAt, NoMatchBefore, NothingFound}
 use Rattle.lalrpop_rules.specs.Pieces.{IsPiece, ArePieces, slice_of}
-use Rattle.lalrpop_rules.specs.declared.item.Item.{Item}
-use Rattle.lalrpop_rules.specs.declared.item.Item.TheVariants.{Token, Skipped, Fault}
+use Rattle.lalrpop_rules.specs.declared.piece.Piece.{Piece}
+use Rattle.lalrpop_rules.specs.declared.piece.Piece.TheVariants.{Token, Skipped, Fault}
 use Rattle.lalrpop_rules.proofs.FirstMatches.{before_start, nothing_found}
 use Rattle.lalrpop_rules.proofs.Fronts.{fault_to_end, fault_to_match}
 use Rattle.lalrpop_rules.proofs.PieceLaws.{is_some, is_split, shorter_left}
@@ -47,16 +47,16 @@ module _ (ts : List Tree) (ps : List ℕ) where
       at_place rest n found.0 found.1 before (λ none. search_from rest left (n + 1) (omega arith) none)
 
 module _ (ts : List Tree) (ps : List ℕ) (skips : List Bool) (text : List ℕ) (clear : NoClash ts ps) where
-  of_token : (at : ℕ) (token : Cut) → IsToken ts ps text at token → (x : Item) × IsPiece ts ps skips text at x
+  of_token : (at : ℕ) (token : Cut) → IsToken ts ps text at token → (x : Piece) × IsPiece ts ps skips text at x
   of_token at token is = elim (is_true (slice_get skips token.index)) [ inl e ↦ (Skipped token, (is, e)) | inr e ↦ (Token token, (is, e)) ]
 
-  of_match : (at : ℕ) (found : Option (ℕ × List ℕ)) → IsLongest ts ps (drop at text) found → MatchesAt ts (drop at text) 0 → (x : Item) × IsPiece ts ps skips text at x
+  of_match : (at : ℕ) (found : Option (ℕ × List ℕ)) → IsLongest ts ps (drop at text) found → MatchesAt ts (drop at text) 0 → (x : Piece) × IsPiece ts ps skips text at x
   of_match at None longest m = absurd (longest m.0 m.1)
   of_match at (Some found) longest m =
       let token : Cut = record { index = found.0; slice = lent found.1; start = at } in
       of_token at token (refl, longest, IsOnlyStrongest-from_greatest ts ps (chars found.1) found.0 clear longest.2)
 
-  at_front : (at : ℕ) → drop at text ≢ [] → FirstMatch ts (drop at text) → (x : Item) × IsPiece ts ps skips text at x
+  at_front : (at : ℕ) → drop at text ≢ [] → FirstMatch ts (drop at text) → (x : Piece) × IsPiece ts ps skips text at x
   at_front at some (inl nothing) = (Fault at (lent (drop at text)), (refl, fault_to_end ts (drop at text) some nothing))
   at_front at some (inr (zero, (m, before))) =
       let found = longest-exists ts ps (drop at text) in
@@ -66,8 +66,8 @@ module _ (ts : List Tree) (ps : List ℕ) (skips : List Bool) (text : List ℕ) 
       (Fault at (lent slice), (refl, fault_to_match ts (drop at text) slice (suc n) m before (omega arith) refl))
 
   front_or_end : (at n : ℕ) (rest : List ℕ) → rest ≡ drop at text → length (drop at text) ≤ suc n
-      → ((to : ℕ) → length (drop to text) ≤ n → (xs : List Item) × ArePieces ts ps skips text to xs)
-      → (xs : List Item) × ArePieces ts ps skips text at xs
+      → ((to : ℕ) → length (drop to text) ≤ n → (xs : List Piece) × ArePieces ts ps skips text to xs)
+      → (xs : List Piece) × ArePieces ts ps skips text at xs
   front_or_end at n [] e most others = ([], sym e)
   front_or_end at n (b ∷ rest) e most others =
       let first = at_front at (λ none. cc) (search_from ts ps (drop at text) (length (drop at text)) 0 (omega arith) (before_start ts (drop at text))) in
@@ -76,11 +76,11 @@ module _ (ts : List Tree) (ps : List ℕ) (skips : List Bool) (text : List ℕ) 
       let later = others (at + length slice) less in
       (first.0 ∷ later.0, (first.1, later.1))
 
-  from : (n at : ℕ) → length (drop at text) ≤ n → (xs : List Item) × ArePieces ts ps skips text at xs
+  from : (n at : ℕ) → length (drop at text) ≤ n → (xs : List Piece) × ArePieces ts ps skips text at xs
   from zero at most = ([], nil_from_length (drop at text) (omega arith))
   from (suc n) at most = front_or_end at n (drop at text) refl most (λ to less. from n to less)
 
 -- the pieces of a text, which needn't be UTF-8, where no word is ambiguous
 pub pieces-exist : (ts : List Tree) (ps : List ℕ) (skips : List Bool) (text : List ℕ) → NoClash ts ps
-    → (xs : List Item) × ArePieces ts ps skips text 0 xs
+    → (xs : List Piece) × ArePieces ts ps skips text 0 xs
 pieces-exist ts ps skips text clear = from ts ps skips text clear (length text) 0 (omega arith)

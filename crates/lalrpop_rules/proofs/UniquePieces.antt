@@ -7,8 +7,8 @@ use Rattle.lalrpop_hir.specs.Tokens.{IsToken}
 use Rattle.lalrpop_hir.specs.declared.token.Token.{Token as Cut}
 use Rattle.lalrpop_lexer.proofs.UniqueTokens.{token-unique}
 use Rattle.lalrpop_rules.specs.Pieces.{IsFault, IsPiece, ArePieces, IsSkipped, IsSame, AreSame, slice_of}
-use Rattle.lalrpop_rules.specs.declared.item.Item.{Item}
-use Rattle.lalrpop_rules.specs.declared.item.Item.TheVariants.{Token, Skipped, Fault}
+use Rattle.lalrpop_rules.specs.declared.piece.Piece.{Piece}
+use Rattle.lalrpop_rules.specs.declared.piece.Piece.TheVariants.{Token, Skipped, Fault}
 use Rattle.lalrpop_rules.proofs.FirstMatches.{some_length}
 use Rattle.lalrpop_rules.proofs.PieceLaws.{is_split, is_some, rest_some}
 
@@ -36,7 +36,7 @@ same_fault ts text p q first second = same_front p q text first.front second.fro
 no_fault : (ts : List Tree) (ps text : List ℕ) (at : ℕ) (a : Cut) (slice : List ℕ) → IsToken ts ps text at a → ¬ IsFault ts (drop at text) slice
 no_fault ts ps text at a slice is fault = fault.nothing 0 (some_length slice fault.some) (a.slice.now, is.1.0)
 
-pub same_piece : (ts : List Tree) (ps : List ℕ) (skips : List Bool) (text : List ℕ) (at : ℕ) (x y : Item) → IsPiece ts ps skips text at x
+pub same_piece : (ts : List Tree) (ps : List ℕ) (skips : List Bool) (text : List ℕ) (at : ℕ) (x y : Piece) → IsPiece ts ps skips text at x
     → IsPiece ts ps skips text at y → IsSame x y
 same_piece ts ps skips text at (Token a) (Token b) is too = token-unique ts ps text at a b is.0 too.0
 same_piece ts ps skips text at (Token a) (Skipped b) is too =
@@ -52,7 +52,7 @@ same_piece ts ps skips text at (Fault start slice) (Fault start2 slice2) is too 
     (is.0 ∙ sym too.0, same_fault ts (drop at text) slice.now slice2.now is.1 too.1)
 
 -- the same pieces have the same bytes
-pub same_slice : (x y : Item) → IsSame x y → slice_of x ≡ slice_of y
+pub same_slice : (x y : Piece) → IsSame x y → slice_of x ≡ slice_of y
 same_slice (Token a) (Token b) same = same.2
 same_slice (Token a) (Skipped b) same = absurd same
 same_slice (Token a) (Fault start slice) same = absurd same
@@ -63,13 +63,13 @@ same_slice (Fault start slice) (Token b) same = absurd same
 same_slice (Fault start slice) (Skipped b) same = absurd same
 same_slice (Fault start slice) (Fault start2 slice2) same = same.1
 
-pub no_piece_left : (ts : List Tree) (ps : List ℕ) (skips : List Bool) (text : List ℕ) (at : ℕ) (x : Item) → IsPiece ts ps skips text at x
+pub no_piece_left : (ts : List Tree) (ps : List ℕ) (skips : List Bool) (text : List ℕ) (at : ℕ) (x : Piece) → IsPiece ts ps skips text at x
     → drop at text ≢ []
 no_piece_left ts ps skips text at x is =
     rest_some (slice_of x) (drop at text) (is_split ts ps skips text at x is) (is_some ts ps skips text at x is)
 
 -- the pieces of a text are unique
-pub pieces-unique : (ts : List Tree) (ps : List ℕ) (skips : List Bool) (text : List ℕ) (at : ℕ) (xs ys : List Item)
+pub pieces-unique : (ts : List Tree) (ps : List ℕ) (skips : List Bool) (text : List ℕ) (at : ℕ) (xs ys : List Piece)
     → ArePieces ts ps skips text at xs → ArePieces ts ps skips text at ys → AreSame xs ys
 pieces-unique ts ps skips text at [] [] are too = tt
 pieces-unique ts ps skips text at [] (y ∷ ys) are too = absurd (no_piece_left ts ps skips text at y too.0 are)

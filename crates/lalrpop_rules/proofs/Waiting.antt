@@ -19,8 +19,8 @@ use Rattle.lalrpop_hir.proofs.Cuts.{IsCut}
 use Rattle.lalrpop_rules.specs.Pieces.{IsFault}
 use Rattle.std.proofs.lemmas.Bool.{cases_order}
 use Rattle.lalrpop_rules.specs.Internal.CutToEnd.{CutToEnd, IsSoughtFromRest, IsSoughtAfterPiece}
-use Rattle.lalrpop_rules.specs.declared.item.Item.{Item}
-use Rattle.lalrpop_rules.specs.declared.item.Item.TheVariants.{Token, Skipped, Fault}
+use Rattle.lalrpop_rules.specs.declared.piece.Piece.{Piece}
+use Rattle.lalrpop_rules.specs.declared.piece.Piece.TheVariants.{Token, Skipped, Fault}
 use Rattle.lalrpop_rules.specs.Internal.Finding.{Match, ForRules, IsSomeText, IsMatchOf, Passes, IsSoughtFrom, IsWaiting, IsPassing, IsAtFront}
 use Rattle.lalrpop_rules.proofs.FirstMatches.{before_start, before_next, nothing_found}
 use Rattle.lalrpop_rules.proofs.Fronts.{boundary_behind, fault_to_end, fault_to_match}
@@ -209,7 +209,7 @@ place_behind m text found place u s b few = by_order (cases_order place found)
 pub sought_rest : (m : Matching) (text : List ℕ) (at : ℕ) → IsWaiting text at None m → length (chars (rest_of m)) ≡ length (chars (drop at text))
 sought_rest m text at w = ap (λ (t : List ℕ). length (chars t)) (rest_there text at m (sought_at text _ at m (omega arith) w.sought))
 
-pub sought_behind_piece : (x : Item) (s : CutToEnd) → IsSoughtFromRest s → IsSoughtAfterPiece x s
+pub sought_behind_piece : (x : Piece) (s : CutToEnd) → IsSoughtFromRest s → IsSoughtAfterPiece x s
 sought_behind_piece (Token token) s h = h
 sought_behind_piece (Skipped token) s h = h
 sought_behind_piece (Fault start slice) s h = tt

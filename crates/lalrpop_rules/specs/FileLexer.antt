@@ -45,10 +45,11 @@ place_of rules (Some i) = option_map (λ r. r.place) (slice_get rules i)
 abbrev pub place_in : List FileRule → RulesError → Option Position
 place_in rules e = place_of rules (rule_of e)
 
--- the lexer has the rules of the file
+-- the lexer has the rules and the modes of the file
 abbrev pub IsLexerOfFile : List ℕ → ModeRules → Type 0
 IsLexerOfFile bytes lexer =
-    (modes : ℕ) × ((rules : List FileRule) × ((taken : List ModeRule) × (Says bytes modes rules taken × AreModeRules taken modes lexer)))
+    (modes : ℕ) × ((rules : List FileRule) × ((taken : List ModeRule) × ((says : Says bytes modes rules taken)
+    × (AreModeRules taken modes lexer × (lexer.mode_names ≡ says.names)))))
 
 -- the error is right: the file can't be read; or its rules make no lexer, and the text of the rule named first begins at this place
 abbrev pub IsFileError : List ℕ → FileError → Type 0

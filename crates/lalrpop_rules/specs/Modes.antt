@@ -7,14 +7,14 @@ use Rattle.lalrpop_hir.specs.Clash.{NoClash, IsClash}
 use Rattle.lalrpop_lexer.specs.Dfa.{Row}
 use Rattle.lalrpop_rules.specs.Kinds.{merged}
 use Rattle.lalrpop_rules.specs.Pieces.{IsPiece, slice_of}
-use Rattle.lalrpop_rules.specs.declared.item.Item.{Item}
-use Rattle.lalrpop_rules.specs.declared.item.Item.TheVariants.{Token, Skipped, Fault}
+use Rattle.lalrpop_rules.specs.declared.piece.Piece.{Piece}
+use Rattle.lalrpop_rules.specs.declared.piece.Piece.TheVariants.{Token, Skipped, Fault}
 use Rattle.bajofeki_rules.specs.declared.action.Action.{Action}
 use Rattle.bajofeki_rules.specs.Stack.{Stack, act_all, actions_of}
 use Rattle.bajofeki_rules.specs.EnteredModes.{CanBeEntered}
 
 -- rules with modes: the name, the tree, the precedence and the actions of each rule, whether it is skipped, the modes that it belongs to, and its
--- kind, which is the index of the first rule of that kind; how many modes there are; and the states of the automaton of each mode
+-- kind, which is the index of the first rule of that kind; how many modes there are, and their names; and the states of the automaton of each mode
 pub record ModeRules : Type 0 where
   pub names : List (List ℕ)
   pub trees : List Tree
@@ -24,6 +24,7 @@ pub record ModeRules : Type 0 where
   pub members : List (List ℕ)
   pub kinds : List ℕ
   pub modes : ℕ
+  pub mode_names : List (List ℕ)
   pub automata : List (List Row)
 
 -- the kinds of the rules that belong to a mode; the others have none there
@@ -45,20 +46,20 @@ abbrev pub trees_in : ModeRules → ℕ → List Tree
 trees_in r m = trees_of (mode_rules r m) r.kinds r.trees
 
 -- the stack after a piece: the actions of a token's rule; a fault leaves the stack as it is
-abbrev pub after : List (List Action) → Item → Stack → Stack
+abbrev pub after : List (List Action) → Piece → Stack → Stack
 after actions (Token token) s = act_all (actions_of actions token.index) s
 after actions (Skipped token) s = act_all (actions_of actions token.index) s
 after actions (Fault start slice) s = s
 
 -- all pieces of the text from a place and a stack on, up to its end, and the stack there
-abbrev pub ArePiecesFrom : ModeRules → List ℕ → ℕ → Stack → List Item → Stack → Type 0
+abbrev pub ArePiecesFrom : ModeRules → List ℕ → ℕ → Stack → List Piece → Stack → Type 0
 ArePiecesFrom r text at s [] end = (drop at text ≡ []) × (end ≡ s)
 ArePiecesFrom r text at s (x ∷ xs) end =
     IsPiece (trees_in r s.mode) r.precedences r.skips text at x
     × ArePiecesFrom r text (at + length (slice_of x)) (after r.actions x s) xs end
 
 -- the stack after pieces
-abbrev pub after_all : List (List Action) → List Item → Stack → Stack
+abbrev pub after_all : List (List Action) → List Piece → Stack → Stack
 after_all actions [] s = s
 after_all actions (x ∷ xs) s = after_all actions xs (after actions x s)
 

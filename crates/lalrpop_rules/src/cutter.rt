@@ -4,8 +4,8 @@ ghost use Rattle.std.specs.Prelude.{◌≡◌, ℕ, ◌<◌, ◌⊎◌, ◌≢�
 ghost use Rattle.lalrpop_rules.specs.Internal.Cutting.{CutsNext, IsSoughtHere, IsSoughtNext, Follows, actions_after};
 ghost use Rattle.bajofeki_rules.specs.EnteredModes.{OneLeadsInto};
 
-use crate::item::Item;
-use crate::pieces::Items;
+use crate::mode_pieces::ModePieces;
+use crate::piece::Piece;
 use crate::rule_lexer::RuleLexer;
 use bajofeki_rules::Action;
 use std::alloc::{AllocError, Global};
@@ -22,7 +22,7 @@ pub(crate) struct Cutter<'text> {
     mode: usize,
     // What cuts the text in each mode. The one of the current mode goes along; each other is passed on to the rest when the
     // text is cut in its mode again.
-    cuts: Vec<Items<'text>>,
+    cuts: Vec<ModePieces<'text>>,
 }
 
 impl<'text> Model for Cutter<'text> {
@@ -72,7 +72,7 @@ impl<'text> Cutter<'text> {
     {
         let mut cuts = Vec::new(alloc);
         for mode in 0..lexer.modes() {
-            let cut = Items::new(alloc, lexer.lexer(mode), lexer.skips(), text)?;
+            let cut = ModePieces::new(alloc, lexer.lexer(mode), lexer.skips(), text)?;
             // A refused `push` hands the cut back, which `?` would have to convert.
             match cuts.push(cut) {
                 Ok(()) => {}
@@ -98,14 +98,14 @@ impl<'text> Cutter<'text> {
     /// The piece at the front of the rest, in the mode, or `None` at the end of the text. From then on the rest begins after
     /// it.
     #[inline(always)]
-    pub(crate) fn next_piece(&mut self) -> Option<Item<'text>>
+    pub(crate) fn next_piece(&mut self) -> Option<Piece<'text>>
         ensures cuts { CutsNext self.old result self.new }
         ensures sought { IsSoughtNext result self.new }
     {
-        match self.cuts[self.mode].next_item() {
-            Some(item) => {
-                self.at += item.slice().len();
-                Some(item)
+        match self.cuts[self.mode].next_piece() {
+            Some(piece) => {
+                self.at += piece.slice().len();
+                Some(piece)
             }
             None => None,
         }
@@ -136,13 +136,13 @@ impl<'text> Cutter<'text> {
 
     /// What the rule of the piece does to the stack.
     #[inline(always)]
-    pub(crate) fn actions(&self, item: &Item) -> &'text [Action]
-        ensures actions { result.now ≡ actions_after self.now.rules.actions item.now }
+    pub(crate) fn actions(&self, piece: &Piece) -> &'text [Action]
+        ensures actions { result.now ≡ actions_after self.now.rules.actions piece.now }
         ensures within { (m : ℕ) → OneLeadsInto result.now m → m < self.now.rules.modes }
     {
-        match item {
-            Item::Token(token) | Item::Skipped(token) => self.lexer.actions(token.index),
-            Item::Fault { .. } => &[],
+        match piece {
+            Piece::Token(token) | Piece::Skipped(token) => self.lexer.actions(token.index),
+            Piece::Fault { .. } => &[],
         }
     }
 }

@@ -17,7 +17,7 @@ use thiserror::Error;
 /// use lalrpop_rules::{ModeRule, Rule, RuleLexer, RulesError};
 ///
 /// let rules = [ModeRule { rule: Rule::literal("A", "a"), modes: &[2], actions: &[] }];
-/// let missing = match RuleLexer::from_rules(alloc, &rules, 1) {
+/// let missing = match RuleLexer::with_modes(alloc, &rules, &["INITIAL"]) {
 ///     Err(RulesError::NoSuchMode { rule, mode }) => Some((rule, mode)), // (0, 2)
 ///     _ => None,
 /// };

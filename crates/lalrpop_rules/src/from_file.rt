@@ -17,7 +17,7 @@ use thiserror::Error;
 /// use lalrpop_rules::{FileError, RuleLexer};
 ///
 /// let place = match RuleLexer::from_file(alloc, b"A = 'a'\nB = /b(/\n") {
-///     Err(FileError::Rules { place, .. }) => place, // line 2, column 6
+///     Err(FileError::Rules { place, .. }) => place, // `Some` of line 2, column 6
 ///     _ => None,
 /// };
 /// ```
@@ -26,8 +26,8 @@ pub enum FileError {
     /// A line, a part or an action of the file is wrong, or memory was refused: the error says where, and why.
     #[error("{0}")]
     File(RuleFileError),
-    /// The rules make no lexer: the error says why, and `place` where the text of the rule begins that it names first. It is
-    /// `None` if the error names no rule, as one for memory does.
+    /// The rules make no lexer: the error says why, and `place` where the text of its `rule` begins; of a clash, that of the
+    /// later rule. It is `None` if the error names no rule, as one for memory does.
     #[error("{error}")]
     Rules {
         place: Option<Position>,
@@ -83,7 +83,7 @@ fn lexer_of(alloc: Global, file: &RuleFile<'_>) -> Result<RuleLexer, FileError>
     ensures error { IfErr result (IsRefusalOfRules file.now) }
 {
     let rules = file.mode_rules(alloc)?;
-    match RuleLexer::from_rules(alloc, &rules, file.modes.len()) {
+    match RuleLexer::with_modes(alloc, &rules, &file.modes) {
         Ok(lexer) => Ok(lexer),
         Err(error) => {
             let place = place_of(&file.rules, &error);
@@ -93,7 +93,7 @@ fn lexer_of(alloc: Global, file: &RuleFile<'_>) -> Result<RuleLexer, FileError>
 }
 
 impl RuleLexer {
-    /// The lexer of the rules of a file, which `lalrpop_rule_file` describes. Its modes are those of the file, in the order in
+    /// The lexer of the rules of a file, which `read_rules` describes. Its modes are those of the file, in the order in
     /// which they first appear.
     ///
     /// ```
@@ -105,7 +105,7 @@ impl RuleLexer {
     ///
     /// # Errors
     ///
-    /// That of `read_rules`, or else that of `RuleLexer::from_rules` with the place of the rule's text; or out of memory.
+    /// That of `read_rules`, or else that of `RuleLexer::with_modes` with the place of the rule's text; or out of memory.
     pub fn from_file(alloc: Global, bytes: &[u8]) -> Result<RuleLexer, FileError>
         ensures lexer { IfOk result (IsLexerOfFile bytes.now) }
         ensures no_clash { IfOk result NoModeClash }

@@ -8,7 +8,7 @@ ghost use Rattle.lalrpop_rules.specs.Pieces.{IsPiece, IsFault, IsSkipped, slice_
 ghost use Rattle.lalrpop_rules.specs.Internal.CutToEnd.{IsPaid};
 ghost use Rattle.lalrpop_rules.specs.Internal.Finding.{memo_of, ForRules, IsSomeText, IsAtFront, IsMatchOf, IsWaiting, IsPassing, Passes};
 
-use crate::item::Item;
+use crate::piece::Piece;
 use lalrpop_lexer::lexer::dfa::NfaIndex;
 use lalrpop_lexer::lexer::nfa::Steps;
 use lalrpop_lexer::{LinearMatches, Token};
@@ -31,7 +31,7 @@ pub(crate) fn piece_of<'text>(
     index: NfaIndex,
     slice: &'text str,
     start: usize,
-) -> Item<'text>
+) -> Piece<'text>
     ensures piece { (ts : List Tree) (ps text : List ℕ) (at : ℕ)
         → IsToken ts ps text at (record { index = index; slice = slice.entry; start = start })
         → IsPiece ts ps skips.now text at result }
@@ -44,9 +44,9 @@ pub(crate) fn piece_of<'text>(
         start,
     };
     if is_skipped {
-        return Item::Skipped(token);
+        return Piece::Skipped(token);
     }
-    Item::Token(token)
+    Piece::Token(token)
 }
 
 /// The match at the front of the rest: from then on the rest begins after it. If there is none, the first character is passed.

@@ -53,6 +53,18 @@ pub(crate) fn name_list(alloc: Global, rules: &[ModeRule]) -> Result<Vec<String>
     Ok(all)
 }
 
+// Names in memory of their own.
+pub(crate) fn owned_names(alloc: Global, names: &[&str]) -> Result<Vec<String>, AllocError>
+    ensures names { IfOk result (λ all.
+        map string_bytes all.items ≡ map (λ m. m.now) names.now) }
+{
+    let mut all = Vec::new(alloc);
+    for name in names {
+        all.push(String::from_str(alloc, name)?)?;
+    }
+    Ok(all)
+}
+
 // What is kept of all rules.
 pub(crate) fn known_rules(alloc: Global, rules: &[ModeRule]) -> Result<Vec<KnownRule>, AllocError>
     ensures modes { IfOk result (λ all.

@@ -8,7 +8,7 @@ ghost use Rattle.lalrpop_rules.specs.Modes.{EachMode};
 ghost use Rattle.bajofeki_rules.specs.Stack.{start, act, act_all};
 
 use crate::cutter::Cutter;
-use crate::item::Item;
+use crate::piece::Piece;
 use bajofeki_rules::Action;
 use std::alloc::{AllocError, Global};
 use std::marker::Model;
@@ -146,22 +146,22 @@ impl ModeStack {
         &mut self,
         cutter: &mut Cutter<'text>,
         most: usize,
-    ) -> Result<Option<Item<'text>>, AllocError>
+    ) -> Result<Option<Piece<'text>>, AllocError>
         requires most { HasAtMost most cutter.old.rules.actions }
-        ensures cuts { IfOk result (λ item. CutsNext cutter.old item cutter.new) }
-        ensures sought { IfOk result (λ item. IsSoughtNext item cutter.new) }
-        ensures acted { IfOk result (λ item.
-            self.new ≡ after_next cutter.old.rules.actions item self.old) }
+        ensures cuts { IfOk result (λ piece. CutsNext cutter.old piece cutter.new) }
+        ensures sought { IfOk result (λ piece. IsSoughtNext piece cutter.new) }
+        ensures acted { IfOk result (λ piece.
+            self.new ≡ after_next cutter.old.rules.actions piece self.old) }
         ensures there { OnOk result (EachMode (λ m. m < cutter.old.rules.modes) self.old
             → EachMode (λ m. m < cutter.old.rules.modes) self.new) }
         ensures refused { OnErr result ((self.new ≡ self.old) × (cutter.new ≡ cutter.old)) }
     {
         self.below.reserve(most)?;
         match cutter.next_piece() {
-            Some(item) => {
-                let actions = cutter.actions(&item);
+            Some(piece) => {
+                let actions = cutter.actions(&piece);
                 act_all_within(&mut self.top, &mut self.below, actions);
-                Ok(Some(item))
+                Ok(Some(piece))
             }
             None => Ok(None),
         }

@@ -1,131 +1,166 @@
-//! Cutting a text to its end in one mode: tokens, skipped pieces and faults.
+//! Cutting a text to its end by rules with modes.
 
-ghost use Rattle.std.specs.Prelude.{◌≡◌};
+ghost use Rattle.std.specs.Prelude.{◌≡◌, ◌<◌, IfOk, OnErr, OnSome};
+ghost use Rattle.lalrpop_rules.specs.Internal.CutToEnd.{steps_for};
+ghost use Rattle.lalrpop_rules.specs.Internal.Cutting.{HasAtMost};
+ghost use Rattle.lalrpop_rules.specs.ModeCut.{uncut, left_text, pieces_left, GivesModePiece, GivesPieceOrError};
+ghost use Rattle.bajofeki_rules.specs.Stack.{start};
 
-use crate::front::{pass_fault, piece_of, take_or_find};
-use crate::item::Item;
-use lalrpop_lexer::lexer::dfa::NfaIndex;
-use lalrpop_lexer::lexer::nfa::Steps;
-use lalrpop_lexer::{Lexer, LinearMatches};
-use std::alloc::{AllocError, Global};
+use crate::cutter::Cutter;
+use crate::mode_stack::ModeStack;
+use crate::piece::Piece;
+use std::alloc::AllocError;
+use std::iter::FusedIterator;
 use std::marker::Model;
 
-/// Cuts any text into pieces, from its beginning to its end. The pieces are slices of the text.
+/// Cuts any text into pieces, from its beginning to its end, and keeps the stack of modes. The pieces are slices of the text.
 ///
-/// The text is read a block ahead, and the match right after a fault is kept for the next call. This takes linear time: a step is
-/// counted for each character the automaton reads, as often as it reads it. Only contracts see the steps.
-#[derive(Drop)]
-#[derive_where(Debug)]
-pub(crate) struct Items<'text> {
-    lexer: &'text Lexer,
-    skips: &'text [bool],
-    text: &'text str,
-    // The rest of the text begins here.
-    at: usize,
-    // The match at the front of the rest, if it is known.
-    kept: Option<(NfaIndex, &'text str)>,
-    // What finds the matches after that one.
-    matches: LinearMatches<'text>,
-    #[derive_where(skip)]
-    steps: Steps,
+/// As an iterator it returns each piece as `Ok`. Where a request for memory was refused it returns one `Err`, and from then on
+/// `None`, so that a `for` ends. `next_piece` can still be asked for that piece.
+///
+/// This takes linear time. A step is counted for each character an automaton reads, as often as it reads it. Only contracts see the
+/// steps.
+///
+/// ```
+/// for piece in lexer.pieces(alloc, "a /* b */")? {
+///     match piece {
+///         Ok(Piece::Token(token)) => println!(rt; "{}", token.slice)?,
+///         Ok(_) => {}
+///         Err(error) => return Err(error.into()),
+///     }
+/// }
+/// ```
+#[derive(Debug, Drop)]
+pub struct Pieces<'text> {
+    cutter: Cutter<'text>,
+    stack: ModeStack,
+    // No rule has more actions.
+    most: usize,
+    // For `next`: it has returned an error.
+    is_over: bool,
 }
 
-impl<'text> Model for Items<'text> {
-    ghost use Rattle.lalrpop_rules.specs.Internal.CutToEnd.{CutToEnd};
-    ghost use Rattle.lalrpop_rules.specs.Internal.Code.{cut_code};
-    ghost use Rattle.lalrpop_lexer.specs.Rules.{IsBuiltFrom};
-    ghost use Rattle.lalrpop_rules.specs.Internal.Finding.{memo_of, IsWaiting};
+impl<'text> Model for Pieces<'text> {
+    ghost use Rattle.lalrpop_rules.specs.ModeCut.{ModeCut};
+    ghost use Rattle.lalrpop_rules.specs.Internal.ModeCode.{cut_code};
+    ghost use Rattle.lalrpop_rules.specs.Internal.Cutting.{IsGoing};
+    ghost use Rattle.lalrpop_rules.specs.Internal.CutToEnd.{steps_for};
 
-    ghost Value = { CutToEnd };
+    ghost Value = { ModeCut };
 
     ghost coded = { cut_code };
 
-    ghost view = { λ t.
-        record {
-          rules = t.lexer.now;
-          skips = t.skips.now;
-          text = t.text.now;
-          at = t.at;
-          memo = memo_of t.matches;
-          steps = t.steps;
-        } };
+    ghost view = { λ t. record {
+      rules = t.cutter.rules;
+      text = t.cutter.text;
+      at = t.cutter.at;
+      stack = t.stack;
+      steps = t.cutter.steps;
+      steps_left = steps_for t.cutter.memo;
+      is_over = t.is_over;
+    } };
 
-    ghost invariant = { λ t.
-        IsBuiltFrom t.lexer.now.trees t.lexer.now.precedences t.matches.automaton
-        × IsWaiting t.text.now t.at t.kept t.matches };
+    ghost invariant = { λ t. IsGoing t.cutter t.stack t.most };
 }
 
-impl<'text> Items<'text> {
-    ghost use Rattle.std.specs.Prelude.{◌≤◌, ◌+◌, ◌*◌, length, drop, IfOk, IfSome};
-    ghost use Rattle.std.specs.Str.{chars, IsCharBoundary};
-    ghost use Rattle.lalrpop_lexer.specs.Matching.{open_states};
-    ghost use Rattle.lalrpop_rules.specs.Internal.CutToEnd.{uncut, GivesPiece, IsSoughtAfterPiece, PassesTo};
-
-    /// The whole text, before the first piece. All memory is taken here.
-    pub(crate) fn new(
-        alloc: Global,
-        lexer: &'text Lexer,
-        skips: &'text [bool],
-        text: &'text str,
-    ) -> Result<Items<'text>, AllocError>
-        ensures start { IfOk result (λ s. s ≡ uncut lexer.now skips.now text.now s.memo) }
-        ensures unsought { IfOk result (λ s. s.memo.unsought ≡ length (chars text.now)) }
-        ensures spare { IfOk result (λ s. s.memo.spare ≤ length (chars text.now)
-            + length text.now + open_states lexer.now.automaton * (length text.now + 64)) }
+impl<'text> Pieces<'text> {
+    // The whole text, before the first piece.
+    pub(crate) fn new(cutter: Cutter<'text>, stack: ModeStack, most: usize) -> Pieces<'text>
+        requires first { stack ≡ start }
+        requires some { 0 < cutter.rules.modes }
+        requires most { HasAtMost most cutter.rules.actions }
+        requires uncut { (cutter.at ≡ 0) × (cutter.mode ≡ 0) × (cutter.steps ≡ 0) }
+        ensures start { result ≡ uncut cutter.entry.rules cutter.entry.text
+            (steps_for cutter.entry.memo) }
     {
-        let matches = lexer.matches(alloc, text)?;
-        Ok(Items {
-            lexer,
-            skips,
-            text,
-            at: 0,
-            kept: None,
-            matches,
-            steps: Steps::new(),
-        })
+        Pieces {
+            cutter,
+            stack,
+            most,
+            is_over: false,
+        }
     }
 
-    /// The next piece, or `None` at the end of the text. After a token, matches are sought from its end on. After a fault, the match
-    /// after it may be found already.
-    #[inline(always)]
-    pub(crate) fn next_item(&mut self) -> Option<Item<'text>>
-        ensures gives { GivesPiece self.old result self.new }
-        ensures sought { IfSome result (λ item. IsSoughtAfterPiece item self.new) }
+    /// The rest of the text, after the last piece.
+    pub fn rest(&self) -> &'text str
+        ensures rest { result.now ≡ left_text self.now }
     {
-        let start = self.at;
-        let rest = &self.text[start..];
-        if rest.is_empty() {
+        self.cutter.rest()
+    }
+
+    /// The stack of modes after the last piece.
+    ///
+    /// ```
+    /// let mut pieces = lexer.pieces(alloc, text)?;
+    /// while let Some(piece) = pieces.next_piece()? {
+    ///     let mode = lexer.mode_names()[pieces.stack().top()].as_str();
+    ///     println!(rt; "{:?}, then {mode}", piece.slice())?;
+    /// }
+    /// ```
+    pub fn stack(&self) -> &ModeStack
+        ensures stack { result.now ≡ self.now.stack }
+    {
+        &self.stack
+    }
+
+    /// The piece at the front of the rest by the rules of the mode on top, or `None` at the end of the text. Then the rest
+    /// begins after it, and the actions of its rule are done.
+    ///
+    /// # Errors
+    ///
+    /// `AllocError` if a request for memory was refused. Then nothing has changed. It is requested before the piece is cut, for
+    /// as many modes more as some rule has actions.
+    #[inline(always)]
+    pub fn next_piece(&mut self) -> Result<Option<Piece<'text>>, AllocError>
+        ensures gives { IfOk result (λ piece. GivesModePiece self.old piece self.new) }
+        ensures refused { OnErr result (self.new ≡ self.old) }
+    {
+        // Where no rule has actions, the stack stays as it is.
+        if self.most == 0 {
+            return Ok(self.cutter.next_piece());
+        }
+        match self.stack.cut_piece(&mut self.cutter, self.most) {
+            Ok(Some(piece)) => {
+                self.cutter.follow(self.stack.top());
+                Ok(Some(piece))
+            }
+            Ok(None) => Ok(None),
+            Err(error) => Err(error),
+        }
+    }
+
+    // What `next` returns. At the end of the text no memory is requested.
+    fn piece_or_error(&mut self) -> Option<Result<Piece<'text>, AllocError>>
+        ensures gives { GivesPieceOrError self.old result self.new }
+        ensures goes { OnSome result (pieces_left self.new < pieces_left self.old) }
+    {
+        if self.is_over || self.rest().is_empty() {
             return None;
         }
-        match take_or_find(&mut self.kept, &mut self.matches, &mut self.steps) {
-            Some(found) => {
-                self.at += found.1.len();
-                Some(piece_of(self.skips, found.0, found.1, start))
-            }
-            None => {
-                let (slice, kept) = pass_fault(
-                    self.text,
-                    start,
-                    &mut self.matches,
-                    &mut self.steps,
-                );
-                self.kept = kept;
-                self.at += slice.len();
-                Some(Item::Fault { start, slice })
+        match self.next_piece() {
+            Ok(Some(piece)) => Some(Ok(piece)),
+            Ok(None) => None,
+            Err(error) => {
+                self.is_over = true;
+                Some(Err(error))
             }
         }
     }
+}
 
-    /// From now on the rest begins at this place: what lies between was cut in other modes. The place isn't before the end of a match
-    /// that is found already, as the one after a fault.
-    pub(crate) fn pass_to(&mut self, at: usize)
-        requires behind { self.old.at ≤ at }
-        requires boundary { IsCharBoundary self.old.text at }
-        requires sought { length (chars (drop at self.old.text)) ≤ self.old.memo.unsought }
-        ensures passes { PassesTo self.old at self.new }
-    {
-        self.kept = None;
-        self.matches.pass_to(at, &mut self.steps);
-        self.at = at;
+impl<'text> Iterator for Pieces<'text> {
+    ghost use Rattle.std.specs.Iterator.{at_most};
+    ghost use Rattle.lalrpop_rules.specs.ModeCut.{pieces_left, GivesPieceOrError};
+
+    type Item = Result<Piece<'text>, AllocError>;
+
+    ghost next_gives = { GivesPieceOrError };
+
+    ghost remaining = { λ s. at_most (pieces_left s) };
+
+    fn next(&mut self) -> Option<Result<Piece<'text>, AllocError>> {
+        self.piece_or_error()
     }
 }
+
+impl<'text> FusedIterator for Pieces<'text> {}

@@ -12,20 +12,22 @@ ghost use Rattle.lalrpop_hir.specs.Tokens.{IsToken};
 ghost use Rattle.lalrpop_hir.specs.declared.token.Token.{Token as TokenValue};
 ghost use Rattle.lalrpop_rules.specs.Found.{IsFound, NothingFound};
 ghost use Rattle.lalrpop_rules.specs.Pieces.{AreApart, IsSkipped, joined};
-ghost use Rattle.lalrpop_rules.specs.declared.item.Item.{Item as ItemValue};
+ghost use Rattle.lalrpop_rules.specs.declared.piece.Piece.{Piece as PieceValue};
 ghost use Rattle.std.specs.Iterator.{Yields};
 ghost use Rattle.bajofeki_rules.specs.Stack.{Stack, start, actions_of};
 
 use crate::cutter::Cutter;
 use crate::error::RulesError;
-use crate::known_rule::{KnownRule, known_rules, name_list, precedence_list, skip_list};
+use crate::known_rule::{
+    KnownRule, known_rules, name_list, owned_names, precedence_list, skip_list,
+};
 use crate::lexers::lexers_of;
 use crate::missing::all_there;
 use crate::mode_kinds::kind_list;
 use crate::mode_stack::ModeStack;
 use crate::mode_trees::rule_trees;
 use crate::one_mode::in_one_mode;
-use crate::rule_items::RuleItems;
+use crate::pieces::Pieces;
 use crate::{front, leftmost};
 use bajofeki_rules::{Action, ModeRule, Rule};
 use lalrpop_lexer::lexer::dfa::{NfaIndex, Precedence};
@@ -45,9 +47,9 @@ use std::marker::Model;
 ///     ModeRule { rule: Rule::pattern("REST", "(?s:.)"), modes: &[1], actions: &[] },
 ///     ModeRule { rule: Rule::pattern("NAME", "[a-z]+"), modes: &[0], actions: &[] },
 /// ];
-/// let lexer = RuleLexer::from_rules(alloc, &rules, 2)?;
-/// let mut items = lexer.items(alloc, "a/*b/*c*/d*/e")?;
-/// let first = items.next_item()?; // the NAME "a"
+/// let lexer = RuleLexer::with_modes(alloc, &rules, &["CODE", "COMMENT"])?;
+/// let mut pieces = lexer.pieces(alloc, "a/*b/*c*/d*/e")?;
+/// let first = pieces.next_piece()?; // `Some` of the NAME "a"
 /// ```
 #[derive(Debug, Drop)]
 pub struct RuleLexer {
@@ -57,6 +59,7 @@ pub struct RuleLexer {
     skips: Vec<bool>,
     kinds: Vec<usize>,
     known: Vec<KnownRule>,
+    mode_names: Vec<String>,
     lexers: Vec<Lexer>,
 }
 
@@ -79,6 +82,7 @@ impl Model for RuleLexer {
       members = map (λ k. k.modes.items) l.known.items;
       kinds = l.kinds.items;
       modes = length l.lexers.items;
+      mode_names = map (λ s. string_bytes s) l.mode_names.items;
       automata = map (λ x. x.automaton) l.lexers.items;
     } };
 
@@ -91,6 +95,7 @@ impl Model for RuleLexer {
       members = map (λ k. k.modes.items) l.known.items;
       kinds = l.kinds.items;
       modes = length l.lexers.items;
+      mode_names = map (λ s. string_bytes s) l.mode_names.items;
       automata = map (λ x. x.automaton) l.lexers.items;
     }) l.lexers.items };
 }
@@ -117,7 +122,8 @@ fn most_actions(known: &[KnownRule]) -> usize
 }
 
 impl RuleLexer {
-    /// Builds the lexers of these rules, one for each mode. There is one mode at least, in which a text begins.
+    /// Builds the lexers of these rules, one for each mode. The names are those of the modes, in order: a rule names a mode by its
+    /// place among them. There is one mode at least, in which a text begins.
     ///
     /// Rules with one name, one precedence and the same actions that are both skipped or both not are one kind: they don't
     /// clash with each other, and in each mode a token of one of them is a token of the first that belongs to the mode.
@@ -127,13 +133,35 @@ impl RuleLexer {
     /// The first rule that names a mode that isn't there; otherwise the first rule whose text has no tree, and why; otherwise
     /// the first that can't be compiled; otherwise, in the first mode that has one, the shortest, then least, word with
     /// strongest rules of two or more kinds, and the last two of those; or out of memory.
-    pub fn from_rules(
+    pub fn with_modes(
+        alloc: Global,
+        rules: &[ModeRule],
+        modes: &[&str],
+    ) -> Result<RuleLexer, RulesError>
+        requires some { 0 < length modes.now }
+        ensures rules { IfOk result (λ lexer.
+            AreModeRules rules.now (length modes.now) lexer) }
+        ensures modes { IfOk result (λ lexer. lexer.mode_names ≡ map (λ m. m.now) modes.now) }
+        ensures there { OnOk result ((i m : ℕ) (q : RuleValue)
+            → slice_get rules.now i ≡ Some q → NamesMode q m → m < length modes.now) }
+        ensures no_clash { IfOk result NoModeClash }
+        ensures error { IfErr result (IsRulesError rules.now (length modes.now)) }
+    {
+        RuleLexer::build(alloc, rules, modes.len(), modes)
+    }
+
+    // The same, where the names are that many.
+    fn build(
         alloc: Global,
         rules: &[ModeRule],
         modes: usize,
+        names_of_modes: &[&str],
     ) -> Result<RuleLexer, RulesError>
         requires some { 0 < modes }
+        requires named { length names_of_modes.now ≡ modes }
         ensures rules { IfOk result (λ lexer. AreModeRules rules.now modes lexer) }
+        ensures modes { IfOk result (λ lexer.
+            lexer.mode_names ≡ map (λ m. m.now) names_of_modes.now) }
         ensures there { OnOk result ((i m : ℕ) (q : RuleValue)
             → slice_get rules.now i ≡ Some q → NamesMode q m → m < modes) }
         ensures no_clash { IfOk result NoModeClash }
@@ -147,6 +175,7 @@ impl RuleLexer {
         let known = known_rules(alloc, rules)?;
         let kinds = kind_list(alloc, rules)?;
         let lexers = lexers_of(alloc, &regexs, &precedences, &kinds, &known, modes)?;
+        let mode_names = owned_names(alloc, names_of_modes)?;
         Ok(RuleLexer {
             names,
             regexs,
@@ -154,6 +183,7 @@ impl RuleLexer {
             skips,
             kinds,
             known,
+            mode_names,
             lexers,
         })
     }
@@ -164,13 +194,13 @@ impl RuleLexer {
     /// use lalrpop_rules::{Rule, RuleLexer};
     ///
     /// let rules = [Rule::pattern("NUMBER", "[0-9]+"), Rule::pattern("NUMBER", "[0-9a-f]+h?")];
-    /// let lexer = RuleLexer::of_one_mode(alloc, &rules)?; // all its tokens have the index 0
+    /// let lexer = RuleLexer::from_rules(alloc, &rules)?; // all its tokens have the index 0
     /// ```
     ///
     /// # Errors
     ///
-    /// As `from_rules`, but never `NoSuchMode`.
-    pub fn of_one_mode(alloc: Global, rules: &[Rule]) -> Result<RuleLexer, RulesError>
+    /// As `with_modes`, but never `NoSuchMode`.
+    pub fn from_rules(alloc: Global, rules: &[Rule]) -> Result<RuleLexer, RulesError>
         ensures rules { IfOk result (λ lexer. (qs : List RuleValue)
             × (AreInOneMode rules.now qs × AreModeRules qs 1 lexer)) }
         ensures no_clash { IfOk result NoModeClash }
@@ -178,7 +208,7 @@ impl RuleLexer {
             × (AreInOneMode rules.now qs × IsRulesError qs 1 e)) }
     {
         let all = in_one_mode(alloc, rules)?;
-        RuleLexer::from_rules(alloc, &all, 1)
+        RuleLexer::with_modes(alloc, &all, &["INITIAL"])
     }
 
     /// How many modes there are.
@@ -189,6 +219,18 @@ impl RuleLexer {
             → m < self.now.modes }
     {
         self.lexers.len()
+    }
+
+    /// The names of the modes, in order.
+    ///
+    /// ```
+    /// let mode = lexer.mode_names()[stream.mode()].as_str();
+    /// ```
+    pub fn mode_names(&self) -> &[String]
+        ensures names { map string_bytes result.now ≡ self.now.mode_names }
+        ensures count { length result.now ≡ self.now.modes }
+    {
+        &self.mode_names
     }
 
     /// For each rule, in order, whether it is skipped.
@@ -203,7 +245,7 @@ impl RuleLexer {
     /// ```
     /// use lalrpop_rules::{Rule, RuleLexer};
     ///
-    /// let lexer = RuleLexer::of_one_mode(alloc, &[Rule::literal("IF", "if")])?;
+    /// let lexer = RuleLexer::from_rules(alloc, &[Rule::literal("IF", "if")])?;
     /// let first = &lexer.names()[0]; // "IF"
     /// ```
     pub fn names(&self) -> &[String]
@@ -285,7 +327,7 @@ impl RuleLexer {
     /// ```
     /// use lalrpop_rules::{Rule, RuleLexer};
     ///
-    /// let lexer = RuleLexer::of_one_mode(alloc, &[Rule::pattern("NUMBER", "[0-9]+")])?;
+    /// let lexer = RuleLexer::from_rules(alloc, &[Rule::pattern("NUMBER", "[0-9]+")])?;
     /// let start = lexer.find("no 12 3").map(|token| token.start); // Some(3)
     /// ```
     pub fn find<'text>(&self, text: &'text str) -> Option<Token<'text>>
@@ -313,9 +355,9 @@ impl RuleLexer {
     /// the text.
     ///
     /// ```
-    /// for item in lexer.items(alloc, text)? {
-    ///     match item {
-    ///         Ok(item) => println!(rt; "{:?}", item.slice())?,
+    /// for piece in lexer.pieces(alloc, text)? {
+    ///     match piece {
+    ///         Ok(piece) => println!(rt; "{:?}", piece.slice())?,
     ///         Err(error) => return Err(error.into()), // no memory for the stack
     ///     }
     /// }
@@ -324,31 +366,31 @@ impl RuleLexer {
     /// # Errors
     ///
     /// `AllocError` if a request for memory was refused.
-    pub fn items<'text>(
+    pub fn pieces<'text>(
         &'text self,
         alloc: Global,
         text: &'text str,
-    ) -> Result<RuleItems<'text>, AllocError>
+    ) -> Result<Pieces<'text>, AllocError>
         ensures start { IfOk result (λ c. c ≡ uncut self.now text.now c.steps_left) }
-        ensures items { IfOk result (λ c. (xs : List ItemValue) (s : ModeCut)
+        ensures pieces { IfOk result (λ c. (xs : List PieceValue) (s : ModeCut)
             → Yields GivesModePiece c xs s → left_text s ≡ []
             → ArePiecesFrom self.now text.now 0 start xs s.stack) }
-        ensures whole { IfOk result (λ c. (xs : List ItemValue) (s : ModeCut)
+        ensures whole { IfOk result (λ c. (xs : List PieceValue) (s : ModeCut)
             → Yields GivesModePiece c xs s → left_text s ≡ [] → joined xs ≡ text.now) }
-        ensures parts { IfOk result (λ c. (xs : List ItemValue) (s : ModeCut)
+        ensures parts { IfOk result (λ c. (xs : List PieceValue) (s : ModeCut)
             → Yields GivesModePiece c xs s → text.now ≡ joined xs ++ left_text s) }
-        ensures apart { IfOk result (λ c. (xs : List ItemValue) (s : ModeCut)
+        ensures apart { IfOk result (λ c. (xs : List PieceValue) (s : ModeCut)
             → Yields GivesModePiece c xs s → left_text s ≡ [] → AreApart xs) }
-        ensures next { IfOk result (λ c. (xs : List ItemValue) (s : ModeCut)
+        ensures next { IfOk result (λ c. (xs : List PieceValue) (s : ModeCut)
             → Yields GivesPieceOrError c (map Ok xs) s
             → Yields GivesModePiece c xs s × (s.is_over ≡ false)) }
-        ensures count { IfOk result (λ c. (xs : List ItemValue) (s : ModeCut)
+        ensures count { IfOk result (λ c. (xs : List PieceValue) (s : ModeCut)
             → Yields GivesModePiece c xs s → length xs ≤ length (chars text.now)) }
-        ensures cost { IfOk result (λ c. (xs : List ItemValue) (s : ModeCut)
+        ensures cost { IfOk result (λ c. (xs : List PieceValue) (s : ModeCut)
             → Yields GivesModePiece c xs s → s.steps ≤ 65 * length (chars text.now)
             + (self.now.modes * (length (chars text.now) + length text.now)
             + open_in_all self.now * (length text.now + 64))) }
-        ensures exist { (xs : List ItemValue) × ((end : Stack)
+        ensures exist { (xs : List PieceValue) × ((end : Stack)
             × ArePiecesFrom self.now text.now 0 start xs end) }
         ensures no_clash { NoModeClash self.now }
     {
@@ -357,7 +399,7 @@ impl RuleLexer {
         match Cutter::new(alloc, self, text) {
             Ok(cutter) => {
                 let most = most_actions(&self.known);
-                Ok(RuleItems::new(cutter, ModeStack::new(alloc), most))
+                Ok(Pieces::new(cutter, ModeStack::new(alloc), most))
             }
             Err(error) => Err(error),
         }

@@ -7,7 +7,7 @@ use Rattle.bajofeki_rules.specs.Position.{byte_place_of}
 use Rattle.lalrpop_rules.specs.Modes.{ModeRules}
 use Rattle.lalrpop_rule_file.specs.RuleFile.{without_mark}
 use Rattle.lalrpop_rules.specs.Pieces.{joined}
-use Rattle.lalrpop_rules.specs.declared.item.Item.{Item}
+use Rattle.lalrpop_rules.specs.declared.piece.Piece.{Piece}
 use Rattle.lexdfa_lib.specs.declared.error.RunError.{RunError}
 use Rattle.lexdfa_lib.specs.declared.error.RunError.TheVariants.{OutOfMemory}
 use Rattle.lexdfa_lib.specs.Streams.{Reading, ReadEnd, AtEnd, Failed, LeftOff, Reads, Stream}
@@ -25,7 +25,7 @@ use Rattle.pieces_lib.specs.declared.incoming.Brought.TheVariants.{More, Nothing
 use Rattle.pieces_lib.specs.declared.incoming.Incoming.{Incoming}
 use Rattle.pieces_lib.specs.declared.sheet.Form.{Form}
 use Rattle.pieces_lib.proofs.CutLaws.{IsSameCut, into_fed, into_whole, place_within}
-use Rattle.pieces_lib.proofs.ItemSending.{all_sent, part_so_far, sent_same}
+use Rattle.pieces_lib.proofs.PieceSending.{all_sent, part_so_far, sent_same}
 use Rattle.pieces_lib.proofs.PieceLines.{shown_stays}
 use Rattle.lexdfa_lib.proofs.StreamLaws.{reads_again}
 
@@ -40,7 +40,7 @@ front_stays bytes text more i is = by i.has_begun refl
     by false not_yet = (without_mark (bytes ++ more), ap (λ (l : List ℕ). l ++ without_mark (bytes ++ more)) (sym (is.back not_yet).0))
 
 -- where a fault begins, all of the text has come
-all_at_fault : (rules : ModeRules) (bytes text : List ℕ) (xs : List Item) (i : Incoming) (c : Chunked) → IsIncoming bytes text i → Came rules text xs c → BeginsFault c → without_mark bytes ≡ text
+all_at_fault : (rules : ModeRules) (bytes text : List ℕ) (xs : List Piece) (i : Incoming) (c : Chunked) → IsIncoming bytes text i → Came rules text xs c → BeginsFault c → without_mark bytes ≡ text
 all_at_fault rules bytes text xs i c is came fault = by i.has_begun refl
   where
     none_behind : (front rest : List ℕ) → [] ≡ front ++ rest → rest ≡ []
@@ -75,7 +75,7 @@ open_is text mode (at ∷ begins) = refl
 pub record IsBetween (form : Form) (rules : ModeRules) (s t : Stream) (begun now : Console) (c : Cutter) : Type 0 where
   pub bytes : List ℕ
   pub text : List ℕ
-  pub xs : List Item
+  pub xs : List Piece
   pub reads : Reads s t (record { bytes = bytes; end = LeftOff })
   pub incoming : IsIncoming bytes text c.incoming
   pub given : IsGiven form rules text xs c [] begun now
@@ -86,7 +86,7 @@ pub record HasRead (form : Form) (rules : ModeRules) (s t : Stream) (begun now :
   pub bytes : List ℕ
   pub end : ReadEnd
   pub text : List ℕ
-  pub xs : List Item
+  pub xs : List Piece
   pub reads : Reads s t (record { bytes = bytes; end = end })
   pub given : IsGiven form rules text xs c [] begun now
   pub come : HasCome end bytes text c brought
@@ -167,7 +167,7 @@ come_front end bytes text c Nothing come = ([], come.1.0 ∙ sym (append-nil tex
 come_front end bytes text c Failure come = ([], come.1.0 ∙ sym (append-nil text))
 
 -- and is all of it at a fault
-come_all : (rules : ModeRules) (end : ReadEnd) (bytes text : List ℕ) (xs : List Item) (c : Cutter) (d : Chunked) (brought : Brought) → HasCome end bytes text c brought
+come_all : (rules : ModeRules) (end : ReadEnd) (bytes text : List ℕ) (xs : List Piece) (c : Cutter) (d : Chunked) (brought : Brought) → HasCome end bytes text c brought
     → Came rules text xs d → BeginsFault d → without_mark bytes ≡ text
 come_all rules end bytes text xs c d More come came fault = all_at_fault rules bytes text xs c.incoming d come.1.0 came fault
 come_all rules end bytes text xs c d Nothing come came fault = come.1.0
@@ -179,7 +179,7 @@ module _ (form : Form) (rules : ModeRules) (s t : Stream) (begun now : Console) 
   reading = record { bytes = is.bytes; end = is.end }
 
   -- an error while pieces are given
-  pub in_part : (error : RunError) (later : Console) (ys : List Item) (d : Chunked) → IsGivenInPart form rules is.text ys d begun error later
+  pub in_part : (error : RunError) (later : Console) (ys : List Piece) (d : Chunked) → IsGivenInPart form rules is.text ys d begun error later
       → d.is_ended ≡ c.incoming.chunks.is_ended → WritesSome form rules s t begun error later
   in_part error later ys d part same =
       let front = come_front is.end is.bytes is.text c brought is.come in (
@@ -209,7 +209,7 @@ module _ (form : Form) (rules : ModeRules) (s t : Stream) (begun now : Console) 
       )
 
   -- pieces were cut of all the text
-  writes_so : (later : Console) (ys : List Item) (ended : CutEnd) → without_mark is.bytes ≡ is.text → IsCutTo rules (goes_on form) reading is.text ys ended
+  writes_so : (later : Console) (ys : List Piece) (ended : CutEnd) → without_mark is.bytes ≡ is.text → IsCutTo rules (goes_on form) reading is.text ys ended
       → Writes begun (shown form rules is.text ys) later → WritesAll form rules s t begun later ended
   writes_so later ys ended all cut written = (
     reading,
@@ -322,7 +322,7 @@ module _ (c : Cutter) (mid : Incoming) (s t : Stream) (end : ReadEnd) (goes : c.
   still_goes : mid.chunks.is_ended ≡ false
   still_goes = fed_goes c.incoming.chunks mid.chunks read.1.1.0 read.1.1.1.0 goes
 
-  module _ (bytes text : List ℕ) (xs : List Item) (incoming : IsIncoming bytes text c.incoming) (cut : IsCutInto c.lexer.now text xs c) where
+  module _ (bytes text : List ℕ) (xs : List Piece) (incoming : IsIncoming bytes text c.incoming) (cut : IsCutInto c.lexer.now text xs c) where
     abbrev now_text : List ℕ
     now_text = text ++ read.1.1.0
 
@@ -350,7 +350,7 @@ module _ (c : Cutter) (mid : Incoming) (s t : Stream) (end : ReadEnd) (goes : c.
     last_goes : last.chunks.is_ended ≡ false
     last_goes = fed_goes mid.chunks last.chunks ends.0 ends.1.0 still_goes
 
-    module _ (bytes text : List ℕ) (xs : List Item) (incoming : IsIncoming bytes text c.incoming) (cut : IsCutInto c.lexer.now text xs c) where
+    module _ (bytes text : List ℕ) (xs : List Piece) (incoming : IsIncoming bytes text c.incoming) (cut : IsCutInto c.lexer.now text xs c) where
       abbrev later : List ℕ
       later = (text ++ read.1.1.0) ++ ends.0
 
@@ -407,7 +407,7 @@ module _ (c : Cutter) (mid : Incoming) (s t : Stream) (end : ReadEnd) (goes : c.
 
 -- ---- the same of the same form and rules
 
-module _ (f g : Form) (r s : ModeRules) (same_form : f ≡ g) (same_rules : r ≡ s) (text : List ℕ) (xs : List Item) (c : Cutter) (waiting : List ℕ) (begun a b : Console)
+module _ (f g : Form) (r s : ModeRules) (same_form : f ≡ g) (same_rules : r ≡ s) (text : List ℕ) (xs : List Piece) (c : Cutter) (waiting : List ℕ) (begun a b : Console)
     (none : waiting ≡ []) where
   -- what giving gives
   pub gives_so : (d : Cutter) (now : List ℕ) (ended : Option CutEnd) → (IsGiven f r text xs c waiting begun a → GivesAll f r text c d now begun b ended)
@@ -420,7 +420,7 @@ module _ (f g : Form) (r s : ModeRules) (same_form : f ≡ g) (same_rules : r �
   -- and before an error
   module _ (error : RunError) where
     abbrev Part : Form → ModeRules → List ℕ → Type 0
-    Part e q w = IsGiven e q text xs c w begun a → (ys : List Item) × ((d : Chunked) × (IsGivenInPart e q text ys d begun error b × (d.is_ended ≡ c.incoming.chunks.is_ended)))
+    Part e q w = IsGiven e q text xs c w begun a → (ys : List Piece) × ((d : Chunked) × (IsGivenInPart e q text ys d begun error b × (d.is_ended ≡ c.incoming.chunks.is_ended)))
 
     pub part_so : Part f r waiting → Part g s []
     part_so h =

@@ -7,7 +7,7 @@ use Rattle.std.specs.Borrow.{Bor}
 use Rattle.bajofeki_rules.specs.Position.{byte_place, byte_place_of, moved}
 use Rattle.bajofeki_rules.specs.declared.position.Position.{Position}
 use Rattle.bajofeki.specs.Chunked.{Chunked, GivesFinal, nothing_come, Came, nothing, fed, given, ended}
-use Rattle.bajofeki.specs.Given.{item_by, item_of}
+use Rattle.bajofeki.specs.Given.{item_by, piece_of}
 use Rattle.bajofeki.specs.declared.given_piece.GivenPiece.{GivenPiece}
 use Rattle.bajofeki.proofs.ChunkLaws.{came_nothing, came_more, came_given, came_whole, came_rest}
 use Rattle.lalrpop_rules.specs.Modes.{ModeRules, after, after_all, AllOf}
@@ -15,8 +15,8 @@ use Rattle.bajofeki_rules.specs.Stack.{Stack, start, actions_of}
 use Rattle.bajofeki_rules.specs.declared.action.Action.{Action}
 use Rattle.bajofeki_rules.specs.declared.action.Action.TheVariants.{Mode, Push, Pop}
 use Rattle.lalrpop_rules.specs.Pieces.{joined, slice_of, start_of}
-use Rattle.lalrpop_rules.specs.declared.item.Item.{Item}
-use Rattle.lalrpop_rules.specs.declared.item.Item.TheVariants.{Token, Skipped, Fault}
+use Rattle.lalrpop_rules.specs.declared.piece.Piece.{Piece}
+use Rattle.lalrpop_rules.specs.declared.piece.Piece.TheVariants.{Token, Skipped, Fault}
 use Rattle.pieces_lib.specs.CutEnds.{first_fault}
 use Rattle.pieces_lib.specs.OpenModes.{pushed, pushed_all, open_after, open_behind}
 use Rattle.pieces_lib.specs.Internal.CutTexts.{BeginWithin, GivesCut, IsCutInto, is_fault, opened_after, opened_by}
@@ -27,15 +27,15 @@ use Rattle.bajofeki_rules.proofs.BytePlaces.{bytes_more}
 
 -- ---- lists of pieces
 
-pub joined_more : (xs : List Item) (x : Item) → joined (xs ++ x ∷ []) ≡ joined xs ++ slice_of x
+pub joined_more : (xs : List Piece) (x : Piece) → joined (xs ++ x ∷ []) ≡ joined xs ++ slice_of x
 joined_more [] x = append-nil (slice_of x)
 joined_more (y ∷ xs) x = ap (λ (t : List ℕ). slice_of y ++ t) (joined_more xs x) ∙ sym (append_assoc (slice_of y) (joined xs) (slice_of x))
 
-pub stack_more : (r : ModeRules) (xs : List Item) (x : Item) (s : Stack) → after_all r.actions (xs ++ x ∷ []) s ≡ after r.actions x (after_all r.actions xs s)
+pub stack_more : (r : ModeRules) (xs : List Piece) (x : Piece) (s : Stack) → after_all r.actions (xs ++ x ∷ []) s ≡ after r.actions x (after_all r.actions xs s)
 stack_more r [] x s = refl
 stack_more r (y ∷ xs) x s = stack_more r xs x (after r.actions y s)
 
-pub fault_more : (xs : List Item) (x : Item) → is_some (first_fault (xs ++ x ∷ [])) ≡ (is_some (first_fault xs) || is_fault x)
+pub fault_more : (xs : List Piece) (x : Piece) → is_some (first_fault (xs ++ x ∷ [])) ≡ (is_some (first_fault xs) || is_fault x)
 fault_more [] (Token x) = refl
 fault_more [] (Skipped x) = refl
 fault_more [] (Fault begin slice) = refl
@@ -43,17 +43,17 @@ fault_more (Token y ∷ xs) x = fault_more xs x
 fault_more (Skipped y ∷ xs) x = fault_more xs x
 fault_more (Fault begin slice ∷ xs) x = refl
 
-pub open_more : (r : ModeRules) (xs : List Item) (x : Item) (begins : List ℕ) → open_behind r.actions (xs ++ x ∷ []) begins ≡ open_after r.actions x (open_behind r.actions xs begins)
+pub open_more : (r : ModeRules) (xs : List Piece) (x : Piece) (begins : List ℕ) → open_behind r.actions (xs ++ x ∷ []) begins ≡ open_after r.actions x (open_behind r.actions xs begins)
 open_more r [] x begins = refl
 open_more r (y ∷ xs) x begins = open_more r xs x (open_after r.actions y begins)
 
 -- ---- where they begin
 
-pub begin_later : (m n : ℕ) (xs : List Item) → m ≤ n → BeginWithin m xs → BeginWithin n xs
+pub begin_later : (m n : ℕ) (xs : List Piece) → m ≤ n → BeginWithin m xs → BeginWithin n xs
 begin_later m n [] le begin = tt
 begin_later m n (x ∷ xs) le begin = (omega (arith, begin.0), begin_later m n xs le begin.1)
 
-begin_more : (n : ℕ) (xs : List Item) (x : Item) → BeginWithin n xs → start_of x ≤ n → BeginWithin n (xs ++ x ∷ [])
+begin_more : (n : ℕ) (xs : List Piece) (x : Piece) → BeginWithin n xs → start_of x ≤ n → BeginWithin n (xs ++ x ∷ [])
 begin_more n [] x begin here = (here, tt)
 begin_more n (y ∷ xs) x begin here = (begin.0, begin_more n xs x begin.1 here)
 
@@ -71,7 +71,7 @@ all_pushed_all : (P : ℕ → Type 0) (at : ℕ) (acts : List Action) (begins : 
 all_pushed_all P at [] begins here all = all
 all_pushed_all P at (a ∷ acts) begins here all = all_pushed_all P at acts (pushed at a begins) here (all_pushed P at a begins here all)
 
-all_after : (P : ℕ → Type 0) (actions : List (List Action)) (x : Item) (begins : List ℕ) → P (start_of x) → AllOf P begins → AllOf P (open_after actions x begins)
+all_after : (P : ℕ → Type 0) (actions : List (List Action)) (x : Piece) (begins : List ℕ) → P (start_of x) → AllOf P begins → AllOf P (open_after actions x begins)
 all_after P actions (Token token) begins here all = all_pushed_all P token.start (actions_of actions token.index) begins here all
 all_after P actions (Skipped token) begins here all = all_pushed_all P token.start (actions_of actions token.index) begins here all
 all_after P actions (Fault begin slice) begins here all = all
@@ -89,7 +89,7 @@ map_pushed_all f at [] begins = refl
 map_pushed_all f at (a ∷ acts) begins =
     ap (pushed_all (f at) acts) (map_pushed f at a begins) ∙ map_pushed_all f at acts (pushed at a begins)
 
-map_after : (f : ℕ → Position) (actions : List (List Action)) (x : Item) (begins : List ℕ)
+map_after : (f : ℕ → Position) (actions : List (List Action)) (x : Piece) (begins : List ℕ)
     → opened_after actions (f (start_of x)) x (map f begins) ≡ map f (open_after actions x begins)
 map_after f actions (Token token) begins = map_pushed_all f token.start (actions_of actions token.index) begins
 map_after f actions (Skipped token) begins = map_pushed_all f token.start (actions_of actions token.index) begins
@@ -108,7 +108,7 @@ places_stay text more n (k ∷ begins) within all =
 
 -- ---- the stack
 
-pub came_stack : (r : ModeRules) (text : List ℕ) (xs : List Item) (c : Chunked) → Came r text xs c → c.stack ≡ after_all r.actions xs start
+pub came_stack : (r : ModeRules) (text : List ℕ) (xs : List Piece) (c : Chunked) → Came r text xs c → c.stack ≡ after_all r.actions xs start
 came_stack r _ _ _ nothing = refl
 came_stack r _ xs _ (fed {text = text} {c = c} chunk goes came) = came_stack r text xs c came
 came_stack r text _ d (given {xs = xs} {c = c} x gives came) =
@@ -117,12 +117,12 @@ came_stack r text _ d (given {xs = xs} {c = c} x gives came) =
 came_stack r text xs _ (ended {c = c} came) = came_stack r text xs c came
 
 -- what was given lies in front
-pub given_front : (r : ModeRules) (text : List ℕ) (xs : List Item) (c : Chunked) → Came r text xs c → take c.at text ≡ joined xs
+pub given_front : (r : ModeRules) (text : List ℕ) (xs : List Piece) (c : Chunked) → Came r text xs c → take c.at text ≡ joined xs
 given_front r text xs c came =
     let so_far = came_rest r text xs c came in
     ap (take c.at) so_far.0 ∙ ap (λ (n : ℕ). take n (joined xs ++ c.rest)) so_far.1 ∙ take-append_seam (joined xs) c.rest
 
-pub place_within : (r : ModeRules) (text : List ℕ) (xs : List Item) (c : Chunked) → Came r text xs c → c.at ≤ length text
+pub place_within : (r : ModeRules) (text : List ℕ) (xs : List Piece) (c : Chunked) → Came r text xs c → c.at ≤ length text
 place_within r text xs c came =
     let so_far = came_rest r text xs c came in
     omega (arith, so_far.1, ap length so_far.0, length-append (joined xs) c.rest)
@@ -146,7 +146,7 @@ into_none rules c lexer none at fault places here =
 
 -- ---- one more piece
 
-module _ (rules : ModeRules) (text : List ℕ) (xs : List Item) (c d : Cutter) (x : Item) (place : Position) (mode : ℕ) (is : IsCutInto rules text xs c)
+module _ (rules : ModeRules) (text : List ℕ) (xs : List Piece) (c d : Cutter) (x : Piece) (place : Position) (mode : ℕ) (is : IsCutInto rules text xs c)
     (gives : GivesCut c x place mode d) where
   starts_here : start_of x ≡ c.incoming.chunks.at
   starts_here = gives.gives.1
@@ -216,14 +216,14 @@ after_by actions place (Some i) false at slice places = refl
 
 -- a piece was given to the chunks, and noted
 pub gives_cut : (c d : Cutter) (chunks : Chunked) (piece : GivenPiece) (slice : Bor (List ℕ)) (mode : ℕ)
-    → GivesFinal c.incoming.chunks (Some (item_of piece slice)) chunks → slice.now ≡ chunks.last → mode ≡ c.incoming.chunks.stack.mode
+    → GivesFinal c.incoming.chunks (Some (piece_of piece slice)) chunks → slice.now ≡ chunks.last → mode ≡ c.incoming.chunks.stack.mode
     → d.incoming ≡ record c.incoming { chunks = chunks } → d.lexer ≡ c.lexer → d.here ≡ moved c.here (byte_place chunks.last) → d.at ≡ c.at + length chunks.last → d.has_fault ≡ (c.has_fault || is_none piece.rule)
     → reverse d.places.items ≡ opened_by c.lexer.now.actions c.here piece.rule (reverse c.places.items)
-    → GivesCut c (item_of piece slice) c.here mode d
+    → GivesCut c (piece_of piece slice) c.here mode d
 gives_cut c d chunks piece slice mode gives same in_mode incoming lexer here at fault places =
-    let bytes : chunks.last ≡ slice_of (item_of piece slice) = sym same ∙ sym (slice_by piece.rule piece.is_skipped piece.start slice) in
+    let bytes : chunks.last ≡ slice_of (piece_of piece slice) = sym same ∙ sym (slice_by piece.rule piece.is_skipped piece.start slice) in
     record {
-      gives = subst (GivesFinal c.incoming.chunks (Some (item_of piece slice))) (sym (ap (λ (i : Incoming). i.chunks) incoming)) gives;
+      gives = subst (GivesFinal c.incoming.chunks (Some (piece_of piece slice))) (sym (ap (λ (i : Incoming). i.chunks) incoming)) gives;
       front = ap (λ (i : Incoming). i.front) incoming;
       begun = ap (λ (i : Incoming). i.has_begun) incoming;
       lexer = lexer;
@@ -245,7 +245,7 @@ pub record IsSameCut (c d : Cutter) : Type 0 where
   pub fault : d.has_fault ≡ c.has_fault
   pub places : d.places ≡ c.places
 
-into_later : (rules : ModeRules) (text more : List ℕ) (xs : List Item) (c d : Cutter) → IsCutInto rules text xs c → IsSameCut c d
+into_later : (rules : ModeRules) (text more : List ℕ) (xs : List Piece) (c d : Cutter) → IsCutInto rules text xs c → IsSameCut c d
     → d.incoming.chunks.at ≡ c.incoming.chunks.at → Came rules (text ++ more) xs d.incoming.chunks → IsCutInto rules (text ++ more) xs d
 into_later rules text more xs c d is same at came =
     let within = place_within rules text xs c.incoming.chunks is.came in
@@ -261,7 +261,7 @@ into_later rules text more xs c d is same at came =
     }
 
 -- a part of the text comes
-pub into_fed : (rules : ModeRules) (text chunk : List ℕ) (xs : List Item) (c d : Cutter) → IsCutInto rules text xs c → IsSameCut c d
+pub into_fed : (rules : ModeRules) (text chunk : List ℕ) (xs : List Piece) (c d : Cutter) → IsCutInto rules text xs c → IsSameCut c d
     → c.incoming.chunks.is_ended ≡ false → IsFed c.incoming.chunks chunk d.incoming.chunks → IsCutInto rules (text ++ chunk) xs d
 into_fed rules text chunk xs c d is same goes (inl more) =
     into_later rules text chunk xs c d is same (ap (λ (e : Chunked). e.at) more)
@@ -272,7 +272,7 @@ into_fed rules text chunk xs c d is same goes (inr (none, old)) =
     (subst (λ (t : List ℕ). Came rules t xs d.incoming.chunks) (sym all) (subst (Came rules text xs) (sym old) is.came))
 
 -- no more comes
-pub into_whole : (rules : ModeRules) (text : List ℕ) (xs : List Item) (c d : Cutter) → IsCutInto rules text xs c → IsSameCut c d
+pub into_whole : (rules : ModeRules) (text : List ℕ) (xs : List Piece) (c d : Cutter) → IsCutInto rules text xs c → IsSameCut c d
     → d.incoming.chunks ≡ record c.incoming.chunks { is_ended = true } → IsCutInto rules text xs d
 into_whole rules text xs c d is same over =
     subst (λ (t : List ℕ). IsCutInto rules t xs d) (append-nil text)

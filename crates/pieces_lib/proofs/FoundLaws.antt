@@ -14,8 +14,8 @@ use Rattle.lalrpop_hir.specs.Prefix.{IsPrefix}
 use Rattle.lalrpop_hir.specs.Tree.{Tree}
 use Rattle.lalrpop_rules.proofs.FirstMatches.{match_begins, some_length}
 use Rattle.lalrpop_rules.specs.Pieces.{IsFault, slice_of}
-use Rattle.lalrpop_rules.specs.declared.item.Item.{Item}
-use Rattle.lalrpop_rules.specs.declared.item.Item.TheVariants.{Token, Skipped, Fault}
+use Rattle.lalrpop_rules.specs.declared.piece.Piece.{Piece}
+use Rattle.lalrpop_rules.specs.declared.piece.Piece.TheVariants.{Token, Skipped, Fault}
 use Rattle.lalrpop_rules.specs.Modes.{trees_in}
 use Rattle.bajofeki.proofs.BegunLaws.{bad_after, begun_after, nothing_begun}
 use Rattle.bajofeki.specs.Chunked.{Chunked, IsFinal, MayMatch}
@@ -78,7 +78,7 @@ fault_found ts text slice found fault is =
     (found_more slice fault.front.0 found (λ none. subst NoCharacter fault.front.1 (fault_none ts text slice fault none)) is)
 
 -- whatever comes
-pub found_at_fault : (c : Chunked) (x : Item) (found : Found) → IsFinal c x → is_fault x ≡ true → IsFound (slice_of x) found → IsFoundNext c found
+pub found_at_fault : (c : Chunked) (x : Piece) (found : Found) → IsFinal c x → is_fault x ≡ true → IsFound (slice_of x) found → IsFoundNext c found
 found_at_fault c (Token token) found final fault is more nothing = absurd (cc (fault))
 found_at_fault c (Skipped token) found final fault is more nothing = absurd (cc (fault))
 found_at_fault c (Fault start slice) found final fault is more nothing =

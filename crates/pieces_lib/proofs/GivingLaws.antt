@@ -8,8 +8,8 @@ use Rattle.bajofeki.proofs.ChunkLaws.{fault_begins, given_less, held_after}
 use Rattle.bajofeki_rules.specs.declared.position.Position.{Position}
 use Rattle.lalrpop_rules.specs.Modes.{ModeRules}
 use Rattle.lalrpop_rules.specs.Pieces.{slice_of}
-use Rattle.lalrpop_rules.specs.declared.item.Item.{Item}
-use Rattle.lalrpop_rules.specs.declared.item.Item.TheVariants.{Token, Skipped, Fault}
+use Rattle.lalrpop_rules.specs.declared.piece.Piece.{Piece}
+use Rattle.lalrpop_rules.specs.declared.piece.Piece.TheVariants.{Token, Skipped, Fault}
 use Rattle.lexdfa_lib.specs.declared.error.RunError.{RunError}
 use Rattle.lexdfa_lib.specs.declared.error.RunError.TheVariants.{OutOfMemory}
 use Rattle.pieces_lib.specs.Console.{Console, Writes, WritesPart}
@@ -23,9 +23,9 @@ use Rattle.pieces_lib.specs.declared.sheet.Form.{Form}
 use Rattle.pieces_lib.proofs.CutLaws.{came_on, into_more, mode_here, place_here}
 use Rattle.pieces_lib.proofs.FoundLaws.{found_at_fault}
 use Rattle.pieces_lib.proofs.PieceLines.{shown_more}
-use Rattle.pieces_lib.proofs.ItemSending.{part_more, part_so_far, part_waiting, sent_more, sent_whole}
+use Rattle.pieces_lib.proofs.PieceSending.{part_more, part_so_far, part_waiting, sent_more, sent_whole}
 
-none_more : (xs : List Item) (x : Item) → first_fault xs ≡ None → is_fault x ≡ false → first_fault (xs ++ x ∷ []) ≡ None
+none_more : (xs : List Piece) (x : Piece) → first_fault xs ≡ None → is_fault x ≡ false → first_fault (xs ++ x ∷ []) ≡ None
 none_more [] (Token x) none other = refl
 none_more [] (Skipped x) none other = refl
 none_more [] (Fault begin slice) none other = absurd (cc (other))
@@ -36,11 +36,11 @@ none_more (Fault begin slice ∷ xs) x none other = absurd (cc (none))
 -- at an error some pieces were given, whatever was given before
 abbrev pub GivesSome : Form → ModeRules → Cutter → List ℕ → Console → Console → RunError → Type 0
 GivesSome form rules c waiting old new error =
-    (begun : Console) (text : List ℕ) (xs : List Item) → IsGiven form rules text xs c waiting begun old
-    → (ys : List Item) × ((d : Chunked) × (IsGivenInPart form rules text ys d begun error new × (d.is_ended ≡ c.incoming.chunks.is_ended)))
+    (begun : Console) (text : List ℕ) (xs : List Piece) → IsGiven form rules text xs c waiting begun old
+    → (ys : List Piece) × ((d : Chunked) × (IsGivenInPart form rules text ys d begun error new × (d.is_ended ≡ c.incoming.chunks.is_ended)))
 
 -- one more piece changes nothing of what comes
-pub as_more : (c d e : Cutter) (x : Item) (place : Position) (mode : ℕ) → IsAsBefore c d → GivesCut d x place mode e → IsAsBefore c e
+pub as_more : (c d e : Cutter) (x : Piece) (place : Position) (mode : ℕ) → IsAsBefore c d → GivesCut d x place mode e → IsAsBefore c e
 as_more c d e x place mode same gives = record {
   lexer = gives.lexer ∙ same.lexer;
   front = gives.front ∙ same.front;
@@ -49,16 +49,16 @@ as_more c d e x place mode same gives = record {
 }
 
 -- less is left
-pub less_left : (c d : Cutter) (x : Item) (place : Position) (mode : ℕ) → GivesCut c x place mode d → length d.incoming.chunks.rest < length c.incoming.chunks.rest
+pub less_left : (c d : Cutter) (x : Piece) (place : Position) (mode : ℕ) → GivesCut c x place mode d → length d.incoming.chunks.rest < length c.incoming.chunks.rest
 less_left c d x place mode gives = given_less c.incoming.chunks d.incoming.chunks x gives.gives
 
-module _ (form : Form) (rules : ModeRules) (text : List ℕ) (ys : List Item) (c : Cutter) (waiting : List ℕ) (begun a : Console)
+module _ (form : Form) (rules : ModeRules) (text : List ℕ) (ys : List Piece) (c : Cutter) (waiting : List ℕ) (begun a : Console)
     (is : IsGiven form rules text ys c waiting begun a) where
   -- an error, before more is written
   pub in_part_now : (error : RunError) → error ≡ OutOfMemory → IsGivenInPart form rules text ys c.incoming.chunks begun error a
   in_part_now error refused = record { came = is.cut.came; no_fault = is.no_fault; part = part_so_far (shown form rules text ys) waiting begun a error refused is.written }
 
-  module _ (d : Cutter) (x : Item) (place : Position) (mode : ℕ) (gives : GivesCut c x place mode d) where
+  module _ (d : Cutter) (x : Piece) (place : Position) (mode : ℕ) (gives : GivesCut c x place mode d) where
     grows : shown form rules text (ys ++ x ∷ []) ≡ shown form rules text ys ++ piece_shown form rules.names place mode x
     grows = shown_more form rules text ys x place mode (place_here rules text ys c d x place mode is.cut gives) (mode_here rules text ys c d x place mode is.cut gives)
 
@@ -81,7 +81,7 @@ module _ (form : Form) (rules : ModeRules) (text : List ℕ) (ys : List Item) (c
       part = part_more (shown form rules text ys) waiting begun a b is.written (piece_shown form rules.names place mode x) (shown form rules text (ys ++ x ∷ [])) error grows h;
     }
 
-    fault_here : (y : Item) → is_fault y ≡ true → GivesFinal c.incoming.chunks (Some y) d.incoming.chunks → BeginsFault c.incoming.chunks
+    fault_here : (y : Piece) → is_fault y ≡ true → GivesFinal c.incoming.chunks (Some y) d.incoming.chunks → BeginsFault c.incoming.chunks
     fault_here (Token y) fault final = absurd (cc (fault))
     fault_here (Skipped y) fault final = absurd (cc (fault))
     fault_here (Fault begin slice) fault final = fault_begins c.incoming.chunks d.incoming.chunks begin slice final
@@ -113,7 +113,7 @@ module _ (form : Form) (rules : ModeRules) (text : List ℕ) (ys : List Item) (c
   }
 
 -- no piece can be given any more
-pub waits_now : (form : Form) (rules : ModeRules) (text : List ℕ) (ys : List Item) (b c d : Cutter) (waiting : List ℕ) (begun a : Console) → IsGiven form rules text ys c waiting begun a
+pub waits_now : (form : Form) (rules : ModeRules) (text : List ℕ) (ys : List Piece) (b c d : Cutter) (waiting : List ℕ) (begun a : Console) → IsGiven form rules text ys c waiting begun a
     → d ≡ c → GivesFinal c.incoming.chunks None d.incoming.chunks → IsAsBefore b c → (goes_on form ≡ false → IsBegun d.incoming.chunks.rest ⊎ MayMatch d.incoming.chunks)
     → GivesAll form rules text b d waiting begun a None
 waits_now form rules text ys b c d waiting begun a is same none before may = (
@@ -125,7 +125,7 @@ waits_now form rules text ys b c d waiting begun a is same none before may = (
 )
 
 -- unless a fault begins there
-pub waits_or_stops : (form : Form) (rules : ModeRules) (text : List ℕ) (ys : List Item) (b c d : Cutter) (waiting : List ℕ) (begun a : Console) → IsGiven form rules text ys c waiting begun a
+pub waits_or_stops : (form : Form) (rules : ModeRules) (text : List ℕ) (ys : List Piece) (b c d : Cutter) (waiting : List ℕ) (begun a : Console) → IsGiven form rules text ys c waiting begun a
     → d ≡ c → GivesFinal c.incoming.chunks None d.incoming.chunks → IsAsBefore b c → goes_on form ≡ false → (ended : Option CutEnd)
     → IfSome ended (λ end. (found : Found) × ((end ≡ Stopped d.here found) × (IsFoundNext d.incoming.chunks found × BeginsFault d.incoming.chunks)))
     → IfNone ended (IsBegun d.incoming.chunks.rest ⊎ MayMatch d.incoming.chunks)
@@ -138,14 +138,14 @@ waits_or_stops form rules text ys b c d waiting begun a is same none before ends
     (ys, (d.incoming.chunks, (stops_next form rules text ys d waiting begun a now ends found ended e shows fault, (now.written, so_far.ended))))
 
 -- a piece that is given isn't empty
-pub some_slice : (c d : Cutter) (x : Item) (place : Position) (mode : ℕ) → GivesCut c x place mode d → slice_of x ≢ []
+pub some_slice : (c d : Cutter) (x : Piece) (place : Position) (mode : ℕ) → GivesCut c x place mode d → slice_of x ≢ []
 some_slice c d x place mode gives none =
     let less = less_left c d x place mode gives in
     let all : d.incoming.chunks.rest ≡ drop (length (slice_of x)) c.incoming.chunks.rest = ap (λ (e : Chunked). e.rest) gives.gives.2 in
     omega (arith, less, ap length (all ∙ ap (λ (t : List ℕ). drop (length t) c.incoming.chunks.rest) none))
 
 -- what is written for it by the same form and rules
-pub same_piece : (f g : Form) (k l : Bor ModeRules) (place : Position) (mode : ℕ) (x : Item) → f ≡ g → k ≡ l
+pub same_piece : (f g : Form) (k l : Bor ModeRules) (place : Position) (mode : ℕ) (x : Piece) → f ≡ g → k ≡ l
     → piece_shown g l.now.names place mode x ≡ piece_shown f k.now.names place mode x
 same_piece f g k l place mode x same_form same_rules =
     ap (λ (e : Form). piece_shown e l.now.names place mode x) (sym same_form) ∙ ap (λ (b : Bor ModeRules). piece_shown f b.now.names place mode x) (sym same_rules)
@@ -161,7 +161,7 @@ all_flushed form rules text c d waiting begun a b (Some ended) (ys, (e, (stops, 
 -- or a part of it
 pub part_flushed : (form : Form) (rules : ModeRules) (text : List ℕ) (c d : Cutter) (waiting : List ℕ) (begun a b : Console) (ended : Option CutEnd) (error : RunError)
     → GivesAll form rules text c d waiting begun a ended → WritesPart a waiting error b
-    → (ys : List Item) × ((e : Chunked) × (IsGivenInPart form rules text ys e begun error b × (e.is_ended ≡ c.incoming.chunks.is_ended)))
+    → (ys : List Piece) × ((e : Chunked) × (IsGivenInPart form rules text ys e begun error b × (e.is_ended ≡ c.incoming.chunks.is_ended)))
 part_flushed form rules text c d waiting begun a b None error (ys, (is, (waits, same))) h = (
   ys,
   (

@@ -3,7 +3,7 @@ mod Cases
 pub mod CutLaws
 pub mod FoundLaws
 pub mod PieceLines
-pub mod ItemSending
+pub mod PieceSending
 pub mod GivingLaws
 pub mod ComingLaws
 pub mod WrittenLaws

@@ -7,11 +7,11 @@ use Rattle.std.proofs.lemmas.List.{append-nil}
 use Rattle.lalrpop_rule_file.specs.RuleFile.{without_mark}
 use Rattle.lalrpop_rules.specs.Modes.{ModeRules}
 use Rattle.bajofeki_rules.specs.Stack.{start}
-use Rattle.lalrpop_rules.specs.declared.item.Item.{Item}
+use Rattle.lalrpop_rules.specs.declared.piece.Piece.{Piece}
 use Rattle.lexdfa_lib.specs.declared.error.RunError.{RunError}
 use Rattle.lexdfa_lib.specs.Streams.{Reading, Stream, Takes, TakesPart, IsTold, IsToldPart}
 use Rattle.reports_lib.specs.Answer.{Answer, remark}
-use Rattle.reports_lib.specs.ItemLines.{item_lines, piece_lines}
+use Rattle.reports_lib.specs.PieceLines.{layout_lines, piece_lines}
 use Rattle.lexdfa_lib.specs.declared.layout.LineForm.{LineForm}
 use Rattle.pieces_lib.specs.Console.{Console, Says, Answers, Begins, Fails}
 use Rattle.pieces_lib.specs.TextAnswer.{cut_status, cut_text, CutAnswer, CutPart, lines_of}
@@ -26,13 +26,13 @@ then_some-now true name = refl
 then_some-now false name = refl
 
 -- the lines name the file, if there are several
-pub same_lines : (rules : ModeRules) (form : LineForm) (recovers several : Bool) (name : Bor (List ℕ)) (file : Option (Bor (List ℕ))) (modes : Bor (List (String Global))) (names : List (String Global))
-    → file ≡ then_some several name → modes.now ≡ names → (text : List ℕ) (xs : List Item)
-    → item_lines (record { form = form; recovers = recovers; file = file; modes = modes }) rules text xs ≡ lines_of rules (map string_bytes names) form recovers several name.now text xs
+pub same_lines : (rules : ModeRules) (form : LineForm) (recovers several : Bool) (name : Bor (List ℕ)) (file : Option (Bor (List ℕ))) (modes : Bor (List (String Global))) (names : List (List ℕ))
+    → file ≡ then_some several name → map string_bytes modes.now ≡ names → (text : List ℕ) (xs : List Piece)
+    → layout_lines (record { form = form; recovers = recovers; file = file; modes = modes }) rules text xs ≡ lines_of rules names form recovers several name.now text xs
 same_lines rules form recovers several name file modes names file_is modes_is text xs =
     ap (λ (f : Option (List ℕ)). piece_lines form recovers f (map string_bytes modes.now) rules text start xs)
     (ap (option_map (λ (f : Bor (List ℕ)). f.now)) file_is ∙ then_some-now several name)
-    ∙ ap (λ (ms : List (String Global)). piece_lines form recovers (then_some several name.now) (map string_bytes ms) rules text start xs) modes_is
+    ∙ ap (λ (ms : List (List ℕ)). piece_lines form recovers (then_some several name.now) ms rules text start xs) modes_is
 
 -- where something is said of a status
 pub where_ok : {E : Type 0} (r : Result ℕ E) (P Q : ℕ → Type 0) (S : Type 0) → ((status : ℕ) → P status → S → Q status) → IfOk r P → OnOk r S → IfOk r Q
@@ -40,14 +40,14 @@ where_ok (Ok status) P Q S then p s = then status p s
 where_ok (Err e) P Q S then p s = tt
 
 abbrev Lines : Type 0
-Lines = List ℕ → List Item → List ℕ
+Lines = List ℕ → List Piece → List ℕ
 
-abbrev told_end : List (List ℕ) → Lines → List ℕ → List ℕ → List Item → CutEnd → Answer
+abbrev told_end : List (List ℕ) → Lines → List ℕ → List ℕ → List Piece → CutEnd → Answer
 told_end modes out file text xs ended = record { status = cut_status ended; out = out text xs; err = cut_text modes file ended }
 
 -- `out` is what was written, and `of_file` what is wanted for a file with a name
 module _ (rules : ModeRules) (modes : List (List ℕ)) (recovers : Bool) (out : Lines) (of_file : List ℕ → Lines) (file : List ℕ) (Gives_it : Reading → Type 0)
-    (same : (text : List ℕ) (xs : List Item) → out text xs ≡ of_file file text xs) where
+    (same : (text : List ℕ) (xs : List Piece) → out text xs ≡ of_file file text xs) where
   abbrev Whole : List ℕ → Reading → Answer → Type 0
   Whole name = CutAnswer rules modes recovers (of_file name) name
 

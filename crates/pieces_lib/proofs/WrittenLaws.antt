@@ -4,11 +4,11 @@ use Rattle.std.specs.Prelude.{Result, Ok, Err, IfOk, IfErr}
 use Rattle.bajofeki.specs.Chunked.{nothing_come, nothing}
 use Rattle.lalrpop_rule_file.specs.RuleFile.{without_mark}
 use Rattle.lalrpop_rules.specs.Modes.{ModeRules}
-use Rattle.lalrpop_rules.specs.declared.item.Item.{Item}
+use Rattle.lalrpop_rules.specs.declared.piece.Piece.{Piece}
 use Rattle.lexdfa_lib.specs.declared.error.RunError.{RunError}
 use Rattle.lexdfa_lib.specs.declared.error.RunError.TheVariants.{OutOfMemory}
 use Rattle.lexdfa_lib.specs.Streams.{Reading, LeftOff, Reads, Stream}
-use Rattle.reports_lib.specs.ItemLines.{item_lines}
+use Rattle.reports_lib.specs.PieceLines.{layout_lines}
 use Rattle.lexdfa_lib.specs.declared.layout.Layout.{Layout}
 use Rattle.pieces_lib.specs.Console.{Console, Writes, WritesPart}
 use Rattle.pieces_lib.specs.CutEnds.{AreGiven, IsCutTo}
@@ -27,7 +27,7 @@ use Rattle.pieces_lib.proofs.AnswerLaws.{writes_front, writes_none}
 
 -- ---- the same bytes
 
-module _ (s t : Stream) (old new : Console) (rules : ModeRules) (recovers : Bool) (out : List ℕ → List Item → List ℕ) where
+module _ (s t : Stream) (old new : Console) (rules : ModeRules) (recovers : Bool) (out : List ℕ → List Piece → List ℕ) where
   -- what was read, and what was written for it
   abbrev pub IsWritten : CutEnd → Type 0
   IsWritten ended = (reading : Reading) × (Reads s t reading × WritesCut rules recovers out reading old new ended)
@@ -36,7 +36,7 @@ module _ (s t : Stream) (old new : Console) (rules : ModeRules) (recovers : Bool
   abbrev pub IsWrittenPart : RunError → Type 0
   IsWrittenPart error = (reading : Reading) × (Reads s t reading × WritesCutPart rules recovers out reading old error new)
 
-  module _ (f : Form) (goes : goes_on f ≡ recovers) (same : (text : List ℕ) (xs : List Item) → shown f rules text xs ≡ out text xs) where
+  module _ (f : Form) (goes : goes_on f ≡ recovers) (same : (text : List ℕ) (xs : List Piece) → shown f rules text xs ≡ out text xs) where
     whole_so : (ended : CutEnd) → WritesAll f rules s t old new ended → IsWritten ended
     whole_so ended (reading, (reads, (xs, (cut, writes)))) =
         let text = without_mark reading.bytes in (
@@ -92,7 +92,7 @@ module _ (s t : Stream) (old new : Console) (rules : ModeRules) (recovers : Bool
     err_so r same_rules (Err error) h = part_so error (subst (λ (q : ModeRules). WritesSome f q s t old error new) same_rules h)
 
 -- memory is refused before anything is read
-pub none_written : (s : Stream) (a : Console) (rules : ModeRules) (recovers : Bool) (out : List ℕ → List Item → List ℕ) (error : RunError) → error ≡ OutOfMemory
+pub none_written : (s : Stream) (a : Console) (rules : ModeRules) (recovers : Bool) (out : List ℕ → List Piece → List ℕ) (error : RunError) → error ≡ OutOfMemory
     → IsWrittenPart s s a a rules recovers out error
 none_written s a rules recovers out error refused = (
   record { bytes = []; end = LeftOff },
@@ -122,8 +122,8 @@ none_written s a rules recovers out error refused = (
 
 -- ---- lines
 
-pub lines_so : (layout : Layout) (rules : ModeRules) (f : Form) → f ≡ Lines layout → (text : List ℕ) (xs : List Item)
-    → shown f rules text xs ≡ item_lines layout rules text xs
+pub lines_so : (layout : Layout) (rules : ModeRules) (f : Form) → f ≡ Lines layout → (text : List ℕ) (xs : List Piece)
+    → shown f rules text xs ≡ layout_lines layout rules text xs
 lines_so layout rules f same text xs = ap (λ (g : Form). shown g rules text xs) same ∙ lines_shown layout rules text xs
 
 -- ---- a page
@@ -136,7 +136,7 @@ goes_so (Ansi painter) markup names is = refl
 pub page_goes_on : (form : Form) (markup : Markup) (names : List (List ℕ)) → IsPageForm form markup names → (f : Form) → f ≡ form → goes_on f ≡ true
 page_goes_on form markup names is f same = ap goes_on same ∙ goes_so form markup names is
 
-page_shown : (form : Form) (markup : Markup) (rules : ModeRules) → IsPageForm form markup rules.names → (text : List ℕ) (xs : List Item)
+page_shown : (form : Form) (markup : Markup) (rules : ModeRules) → IsPageForm form markup rules.names → (text : List ℕ) (xs : List Piece)
     → shown form rules text xs ≡ page_of markup rules.names xs
 page_shown (Lines layout) markup rules is text xs = absurd is
 page_shown Html MarkupHtml rules is text xs = html_shown rules text xs
@@ -144,6 +144,6 @@ page_shown Html MarkupAnsi rules is text xs = absurd is
 page_shown (Ansi painter) MarkupHtml rules is text xs = absurd is
 page_shown (Ansi painter) MarkupAnsi rules is text xs = ansi_shown painter rules text xs ∙ ap (λ (names : List (List ℕ)). page_of MarkupAnsi names xs) is
 
-pub page_so : (form : Form) (markup : Markup) (rules : ModeRules) → IsPageForm form markup rules.names → (f : Form) → f ≡ form → (text : List ℕ) (xs : List Item)
+pub page_so : (form : Form) (markup : Markup) (rules : ModeRules) → IsPageForm form markup rules.names → (f : Form) → f ≡ form → (text : List ℕ) (xs : List Piece)
     → shown f rules text xs ≡ page_of markup rules.names xs
 page_so form markup rules is f same text xs = ap (λ (g : Form). shown g rules text xs) same ∙ page_shown form markup rules is text xs

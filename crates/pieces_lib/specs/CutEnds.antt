@@ -8,8 +8,8 @@ use Rattle.bajofeki.specs.Begun.{IsBegun, NoCharacter}
 use Rattle.bajofeki_rules.specs.Position.{byte_place_of}
 use Rattle.lalrpop_rules.specs.Modes.{ModeRules, ArePiecesFrom}
 use Rattle.bajofeki_rules.specs.Stack.{Stack, start}
-use Rattle.lalrpop_rules.specs.declared.item.Item.{Item}
-use Rattle.lalrpop_rules.specs.declared.item.Item.TheVariants.{Fault}
+use Rattle.lalrpop_rules.specs.declared.piece.Piece.{Piece}
+use Rattle.lalrpop_rules.specs.declared.piece.Piece.TheVariants.{Fault}
 use Rattle.lexdfa_lib.specs.Streams.{Reading, AtEnd, Failed}
 use Rattle.pieces_lib.specs.OpenModes.{open_behind, open_mode}
 use Rattle.pieces_lib.specs.declared.cut_end.CutEnd.{CutEnd}
@@ -18,13 +18,13 @@ use Rattle.pieces_lib.specs.declared.cut_end.Found.{Found}
 use Rattle.pieces_lib.specs.declared.cut_end.Found.TheVariants.{Character, Byte}
 
 -- where the first fault begins
-abbrev pub first_fault : List Item → Option ℕ
+abbrev pub first_fault : List Piece → Option ℕ
 first_fault [] = None
 first_fault (Fault begin slice ∷ xs) = Some begin
 first_fault (x ∷ xs) = first_fault xs
 
 -- these pieces were given of the text that has come, and nothing that comes can change them; none of them is a fault, if cutting ends at one
-pub record AreGiven (rules : ModeRules) (recovers : Bool) (reading : Reading) (text : List ℕ) (xs : List Item) (c : Chunked) : Type 0 where
+pub record AreGiven (rules : ModeRules) (recovers : Bool) (reading : Reading) (text : List ℕ) (xs : List Piece) (c : Chunked) : Type 0 where
   pub came : Came rules text xs c
   pub ended : c.is_ended ≡ true → reading.end ≡ AtEnd
   pub no_fault : recovers ≡ false → first_fault xs ≡ None
@@ -41,7 +41,7 @@ IsFoundNext c found = (more : List ℕ) → (c.is_ended ≡ true → more ≡ []
 -- the pieces that were cut of the text, and how cutting ended: at the end of the text, with all its pieces; at a fault, which nothing that comes
 -- can change; or where a read failed, with all pieces that nothing that comes could change. Then something may match next, if cutting ends at
 -- a fault, or nothing is left but a character that has begun
-abbrev pub IsCutTo : ModeRules → Bool → Reading → List ℕ → List Item → CutEnd → Type 0
+abbrev pub IsCutTo : ModeRules → Bool → Reading → List ℕ → List Piece → CutEnd → Type 0
 IsCutTo rules recovers reading text xs (Whole has_fault inside) =
     (reading.end ≡ AtEnd) × ((end : Stack) × (ArePiecesFrom rules text 0 start xs end
     × ((has_fault ≡ is_some (first_fault xs)) × ((recovers ≡ false → has_fault ≡ false) × (inside ≡ open_mode text end.mode (open_behind rules.actions xs []))))))

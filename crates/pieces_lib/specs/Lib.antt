@@ -11,4 +11,4 @@ pub mod Internal
 -- what the public contracts of lexdfa_lib and reports_lib name
 pub use Rattle.lexdfa_lib.specs.Streams
 pub use Rattle.reports_lib.specs.Answer
-pub use Rattle.reports_lib.specs.ItemLines
+pub use Rattle.reports_lib.specs.PieceLines

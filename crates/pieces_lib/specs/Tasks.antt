@@ -1,5 +1,5 @@
 -- What is done with each text.
-use Rattle.std.specs.Prelude.{ℕ, ◌⊎◌, List, map, string_bytes}
+use Rattle.std.specs.Prelude.{ℕ, ◌⊎◌, List}
 use Rattle.lexdfa_lib.specs.Streams.{Reading}
 use Rattle.reports_lib.specs.Answer.{Answer}
 use Rattle.pieces_lib.specs.TextAnswer.{PiecesAnswer, PiecesPart, PageAnswer, PagePart}
@@ -8,13 +8,13 @@ use Rattle.pieces_lib.specs.declared.cut_files.Task.TheVariants.{Pieces, Markup}
 
 -- the answer of a task for what is read of a file
 abbrev pub TaskAnswer : Task → List ℕ → Reading → Answer → Type 0
-TaskAnswer (Pieces rules form recovers several) = PiecesAnswer rules.now.lexer (map string_bytes rules.now.modes.items) form recovers several
-TaskAnswer (Markup rules markup) = PageAnswer rules.now.lexer (map string_bytes rules.now.modes.items) markup
+TaskAnswer (Pieces rules form recovers several) = PiecesAnswer rules.now rules.now.mode_names form recovers several
+TaskAnswer (Markup rules markup) = PageAnswer rules.now rules.now.mode_names markup
 
 -- for a part of it, before a run failed
 abbrev pub TaskPart : Task → List ℕ → Reading → Answer → Type 0
-TaskPart (Pieces rules form recovers several) = PiecesPart rules.now.lexer (map string_bytes rules.now.modes.items) form recovers several
-TaskPart (Markup rules markup) = PagePart rules.now.lexer (map string_bytes rules.now.modes.items) markup
+TaskPart (Pieces rules form recovers several) = PiecesPart rules.now rules.now.mode_names form recovers several
+TaskPart (Markup rules markup) = PagePart rules.now rules.now.mode_names markup
 
 -- the answer for all that is read, or for a part of it
 abbrev pub EitherAnswer : (List ℕ → Reading → Answer → Type 0) → (List ℕ → Reading → Answer → Type 0) → List ℕ → Reading → Answer → Type 0

@@ -12,11 +12,11 @@ use Rattle.bajofeki.specs.Terminal.{painted}
 use Rattle.lalrpop_rules.specs.Modes.{ModeRules}
 use Rattle.bajofeki_rules.specs.Stack.{start}
 use Rattle.lalrpop_rule_file.specs.RuleFile.{without_mark}
-use Rattle.lalrpop_rules.specs.declared.item.Item.{Item}
-use Rattle.lalrpop_rules.specs.declared.item.Item.TheVariants.{Token, Skipped, Fault}
+use Rattle.lalrpop_rules.specs.declared.piece.Piece.{Piece}
+use Rattle.lalrpop_rules.specs.declared.piece.Piece.TheVariants.{Token, Skipped, Fault}
 use Rattle.lexdfa_lib.specs.Streams.{Reading}
 use Rattle.reports_lib.specs.Answer.{Answer, about}
-use Rattle.reports_lib.specs.ItemLines.{byte_told, name_at, piece_lines}
+use Rattle.reports_lib.specs.PieceLines.{byte_told, name_at, piece_lines}
 use Rattle.lexdfa_lib.specs.declared.layout.LineForm.{LineForm}
 use Rattle.pieces_lib.specs.CutEnds.{AreGiven, IsCutTo}
 use Rattle.lexdfa_lib.specs.declared.command.Markup.{Markup}
@@ -62,19 +62,19 @@ cut_text modes file (Stopped place found) = fault_text file place (found_told fo
 cut_text modes file Unread = about file (codes "read failed")
 
 -- what is written for the pieces of a text that are cut of what is read, and how that ends
-abbrev pub CutAnswer : ModeRules → List (List ℕ) → Bool → (List ℕ → List Item → List ℕ) → List ℕ → Reading → Answer → Type 0
+abbrev pub CutAnswer : ModeRules → List (List ℕ) → Bool → (List ℕ → List Piece → List ℕ) → List ℕ → Reading → Answer → Type 0
 CutAnswer rules modes recovers out file reading answer =
-    (xs : List Item) × ((ended : CutEnd) × (IsCutTo rules recovers reading (without_mark reading.bytes) xs ended
+    (xs : List Piece) × ((ended : CutEnd) × (IsCutTo rules recovers reading (without_mark reading.bytes) xs ended
     × (answer ≡ record { status = cut_status ended; out = out (without_mark reading.bytes) xs; err = cut_text modes file ended })))
 
 -- the same for pieces that were given before a run failed; nothing was said yet
-abbrev pub CutPart : ModeRules → Bool → (List ℕ → List Item → List ℕ) → Reading → Answer → Type 0
+abbrev pub CutPart : ModeRules → Bool → (List ℕ → List Piece → List ℕ) → Reading → Answer → Type 0
 CutPart rules recovers out reading answer =
-    (text : List ℕ) × ((left : List ℕ) × ((xs : List Item) × ((c : Chunked) × ((without_mark reading.bytes ≡ text ++ left)
+    (text : List ℕ) × ((left : List ℕ) × ((xs : List Piece) × ((c : Chunked) × ((without_mark reading.bytes ≡ text ++ left)
     × (AreGiven rules recovers reading text xs c × (answer ≡ record { status = 0; out = out text xs; err = [] }))))))
 
 -- a line for each piece that has one, with the file's name if there are several
-abbrev pub lines_of : ModeRules → List (List ℕ) → LineForm → Bool → Bool → List ℕ → List ℕ → List Item → List ℕ
+abbrev pub lines_of : ModeRules → List (List ℕ) → LineForm → Bool → Bool → List ℕ → List ℕ → List Piece → List ℕ
 lines_of rules modes form recovers several file text xs = piece_lines form recovers (then_some several file) modes rules text start xs
 
 abbrev pub PiecesAnswer : ModeRules → List (List ℕ) → LineForm → Bool → Bool → List ℕ → Reading → Answer → Type 0
@@ -87,18 +87,18 @@ abbrev pub lossy : Bor (List ℕ) → Bor (List ℕ)
 lossy slice = record slice { now = utf8_lossy slice.now }
 
 -- the piece with U+FFFD for what isn't UTF-8, which only a fault has
-abbrev pub legible : Item → Item
+abbrev pub legible : Piece → Piece
 legible (Token token) = Token (record token { slice = lossy token.slice })
 legible (Skipped token) = Skipped (record token { slice = lossy token.slice })
 legible (Fault start slice) = Fault start (lossy slice)
 
 -- a piece as HTML, or in colours for a terminal
-abbrev pub piece_in : Markup → List (List ℕ) → Item → List ℕ
+abbrev pub piece_in : Markup → List (List ℕ) → Piece → List ℕ
 piece_in Html names x = marked names (legible x)
 piece_in Ansi names x = painted names (legible x)
 
 -- the pieces, one after another
-abbrev pub page_of : Markup → List (List ℕ) → List Item → List ℕ
+abbrev pub page_of : Markup → List (List ℕ) → List Piece → List ℕ
 page_of markup names xs = flat_map (piece_in markup names) xs
 
 -- as markup

@@ -10,11 +10,12 @@ ghost use Rattle.pieces_lib.specs.Tasks.{TaskAnswer, TaskPart, EitherAnswer, Rea
 use crate::console::Console;
 use crate::cut_end::CutEnd;
 use crate::fault::{fault_message, open_message, unread_message};
-use crate::item_lines::write_items;
+use crate::lines::write_lines;
 use crate::page::write_page;
 use crate::progress::{number_message, total_said};
+use lalrpop_rules::RuleLexer;
 use lexdfa_lib::{Files, Markup, NoBytes, Reader, RunError, Sink, Source, Verbosity};
-use reports_lib::{FileLexer, Layout, LineForm, NO_TEXT, mode_name, unread};
+use reports_lib::{Layout, LineForm, NO_TEXT, mode_name, unread};
 use std::alloc::{AllocError, Global};
 
 /// What is done with each text.
@@ -29,7 +30,7 @@ use std::alloc::{AllocError, Global};
 pub enum Task<'rules> {
     /// It is cut, and the lines of its pieces are written.
     Pieces {
-        rules: &'rules FileLexer,
+        rules: &'rules RuleLexer,
         form: LineForm,
         /// Whether cutting goes on after a fault.
         recovers: bool,
@@ -38,7 +39,7 @@ pub enum Task<'rules> {
     },
     /// It is cut, and written as markup.
     Markup {
-        rules: &'rules FileLexer,
+        rules: &'rules RuleLexer,
         markup: Markup,
     },
 }
@@ -119,7 +120,7 @@ fn tell_end<O: Sink, E: Sink>(
 // Cuts what is read, writes the lines of its pieces, and returns the status.
 fn cut_pieces<S: Source, O: Sink, E: Sink>(
     alloc: Global,
-    rules: &FileLexer,
+    rules: &RuleLexer,
     form: LineForm,
     recovers: bool,
     several: bool,
@@ -128,44 +129,45 @@ fn cut_pieces<S: Source, O: Sink, E: Sink>(
     console: &mut Console<O, E>,
 ) -> Result<u8, RunError>
     ensures answer { IfOk result (λ status. Answers (ReadAnswer (Reads reader.old reader.new)
-        (PiecesAnswer rules.now.lexer (map string_bytes rules.now.modes.items)
+        (PiecesAnswer rules.now rules.now.mode_names
         form recovers several name.now)) console.old status console.new) }
     ensures fails { IfErr result (λ e. Fails (ReadAnswer (Reads reader.old reader.new)
-        (EitherAnswer (PiecesAnswer rules.now.lexer (map string_bytes rules.now.modes.items)
+        (EitherAnswer (PiecesAnswer rules.now rules.now.mode_names
         form recovers several)
-        (PiecesPart rules.now.lexer (map string_bytes rules.now.modes.items)
+        (PiecesPart rules.now rules.now.mode_names
         form recovers several)
         name.now)) console.old e console.new) }
 {
+    let modes = rules.mode_names();
     let layout = Layout {
         form,
         recovers,
         file: several.then_some(name),
-        modes: &rules.modes,
+        modes,
     };
-    let end = write_items(alloc, &rules.lexer, &layout, reader, console)?;
-    tell_end(alloc, &rules.modes, name, &end, console)
+    let end = write_lines(alloc, rules, &layout, reader, console)?;
+    tell_end(alloc, modes, name, &end, console)
 }
 
 // Cuts what is read, writes it as markup, and returns the status.
 fn cut_page<S: Source, O: Sink, E: Sink>(
     alloc: Global,
-    rules: &FileLexer,
+    rules: &RuleLexer,
     markup: Markup,
     name: &str,
     reader: &mut Reader<S>,
     console: &mut Console<O, E>,
 ) -> Result<u8, RunError>
     ensures answer { IfOk result (λ status. Answers (ReadAnswer (Reads reader.old reader.new)
-        (PageAnswer rules.now.lexer (map string_bytes rules.now.modes.items) markup name.now))
+        (PageAnswer rules.now rules.now.mode_names markup name.now))
         console.old status console.new) }
     ensures fails { IfErr result (λ e. Fails (ReadAnswer (Reads reader.old reader.new)
-        (EitherAnswer (PageAnswer rules.now.lexer (map string_bytes rules.now.modes.items) markup)
-        (PagePart rules.now.lexer (map string_bytes rules.now.modes.items) markup)
+        (EitherAnswer (PageAnswer rules.now rules.now.mode_names markup)
+        (PagePart rules.now rules.now.mode_names markup)
         name.now)) console.old e console.new) }
 {
-    let end = write_page(alloc, &rules.lexer, markup, reader, console)?;
-    tell_end(alloc, &rules.modes, name, &end, console)
+    let end = write_page(alloc, rules, markup, reader, console)?;
+    tell_end(alloc, rules.mode_names(), name, &end, console)
 }
 
 // ---- files

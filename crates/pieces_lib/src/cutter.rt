@@ -3,7 +3,7 @@ ghost use Rattle.std.specs.Prelude.{◌≡◌, ◌≢◌, ◌+◌, ◌⊎◌, �
 ghost use Rattle.std.specs.Borrow.{Bor};
 ghost use Rattle.bajofeki.specs.Begun.{IsBegun};
 ghost use Rattle.bajofeki.specs.Chunked.{nothing_come, GivesFinal, BeginsFault, MayMatch};
-ghost use Rattle.bajofeki.specs.Given.{item_of};
+ghost use Rattle.bajofeki.specs.Given.{piece_of};
 ghost use Rattle.bajofeki_rules.specs.Position.{byte_place, moved};
 ghost use Rattle.lexdfa_lib.specs.Streams.{Reading, Reads};
 ghost use Rattle.pieces_lib.specs.CutEnds.{IsFound, IsFoundNext};
@@ -169,7 +169,7 @@ impl<'rules> Cutter<'rules> {
             × GivesFinal self.old.incoming.chunks None self.new.incoming.chunks)) }
         ensures gives { IfOk result (λ found. IfSome found (λ cut.
             (slice : Bor (List ℕ)) → slice.now ≡ self.new.incoming.chunks.last
-            → GivesCut self.old (item_of cut.piece slice) cut.place cut.mode self.new)) }
+            → GivesCut self.old (piece_of cut.piece slice) cut.place cut.mode self.new)) }
     {
         let mode = self.incoming.chunks.mode();
         let place = self.here;

@@ -1,8 +1,8 @@
 //! The pieces of a text, written as they come.
 ghost use Rattle.std.specs.Prelude.{◌≡◌, ◌++◌, ℕ, List, [], true, IfOk, IfErr, OnOk};
 ghost use Rattle.bajofeki.specs.Chunked.{Chunked};
-ghost use Rattle.bajofeki.specs.Given.{item_of};
-ghost use Rattle.lalrpop_rules.specs.declared.item.Item.{Item as ItemValue};
+ghost use Rattle.bajofeki.specs.Given.{piece_of};
+ghost use Rattle.lalrpop_rules.specs.declared.piece.Piece.{Piece as PieceValue};
 ghost use Rattle.lexdfa_lib.specs.Streams.{Reading, Reads};
 ghost use Rattle.pieces_lib.specs.Console.{Console as ConsoleValue, Writes, WritesPart};
 ghost use Rattle.pieces_lib.specs.Internal.CutTexts.{goes_on, markup_of, piece_shown, shown, IsGiven, IsGivenInPart, GivesAll};
@@ -58,14 +58,14 @@ fn put_markup<O: Sink, E: Sink>(
 ) -> Result<(), RunError>
     ensures put { OnOk result ((sent : List ℕ) × (Writes console.old sent console.new
         × (sheet.old.waiting.items ++ markup_of sheet.old.form sheet.old.lexer.now.names
-        (item_of piece.now text.entry) ≡ sent ++ sheet.new.waiting.items))) }
+        (piece_of piece.now text.entry) ≡ sent ++ sheet.new.waiting.items))) }
     ensures form { OnOk result (sheet.new.form ≡ sheet.old.form) }
     ensures lexer { OnOk result (sheet.new.lexer ≡ sheet.old.lexer) }
     ensures part { IfErr result (λ e. WritesPart console.old
         (sheet.old.waiting.items ++ markup_of sheet.old.form sheet.old.lexer.now.names
-        (item_of piece.now text.entry)) e console.new) }
+        (piece_of piece.now text.entry)) e console.new) }
 {
-    let item = piece.item(text);
+    let item = piece.with_slice(text);
     sheet.push_markup(&item)?;
     pass_on(&mut sheet.waiting, console)
 }
@@ -81,13 +81,13 @@ fn put_piece<O: Sink, E: Sink>(
 ) -> Result<(), RunError>
     ensures put { OnOk result ((sent : List ℕ) × (Writes console.old sent console.new
         × (sheet.old.waiting.items ++ piece_shown sheet.old.form sheet.old.lexer.now.names
-        cut.now.place cut.now.mode (item_of cut.now.piece slice.entry)
+        cut.now.place cut.now.mode (piece_of cut.now.piece slice.entry)
         ≡ sent ++ sheet.new.waiting.items))) }
     ensures form { OnOk result (sheet.new.form ≡ sheet.old.form) }
     ensures lexer { OnOk result (sheet.new.lexer ≡ sheet.old.lexer) }
     ensures part { IfErr result (λ e. WritesPart console.old
         (sheet.old.waiting.items ++ piece_shown sheet.old.form sheet.old.lexer.now.names
-        cut.now.place cut.now.mode (item_of cut.now.piece slice.entry)) e console.new) }
+        cut.now.place cut.now.mode (piece_of cut.now.piece slice.entry)) e console.new) }
 {
     if sheet.has_lines() {
         sheet.push_line(alloc, cut, slice)?;
@@ -108,17 +108,17 @@ fn give_pieces<O: Sink, E: Sink>(
     console: &mut Console<O, E>,
 ) -> Result<Option<CutEnd>, RunError>
     ensures given { IfOk result (λ ended.
-        (begun : ConsoleValue) (text : List ℕ) (xs : List ItemValue)
+        (begun : ConsoleValue) (text : List ℕ) (xs : List PieceValue)
         → IsGiven sheet.old.form sheet.old.lexer.now text xs cutter.old sheet.old.waiting.items
         begun console.old
         → GivesAll sheet.old.form sheet.old.lexer.now text cutter.old cutter.new
         sheet.new.waiting.items begun console.new ended) }
     ensures form { OnOk result (sheet.new.form ≡ sheet.old.form) }
     ensures lexer { OnOk result (sheet.new.lexer ≡ sheet.old.lexer) }
-    ensures part { IfErr result (λ e. (begun : ConsoleValue) (text : List ℕ) (xs : List ItemValue)
+    ensures part { IfErr result (λ e. (begun : ConsoleValue) (text : List ℕ) (xs : List PieceValue)
         → IsGiven sheet.old.form sheet.old.lexer.now text xs cutter.old sheet.old.waiting.items
         begun console.old
-        → (ys : List ItemValue) × ((c : Chunked)
+        → (ys : List PieceValue) × ((c : Chunked)
         × (IsGivenInPart sheet.old.form sheet.old.lexer.now text ys c begun e console.new
         × (c.is_ended ≡ cutter.old.incoming.chunks.is_ended)))) }
 {
@@ -143,7 +143,7 @@ fn give<O: Sink, E: Sink>(
     console: &mut Console<O, E>,
 ) -> Result<Option<CutEnd>, RunError>
     ensures given { IfOk result (λ ended.
-        (begun : ConsoleValue) (text : List ℕ) (xs : List ItemValue)
+        (begun : ConsoleValue) (text : List ℕ) (xs : List PieceValue)
         → IsGiven sheet.old.form sheet.old.lexer.now text xs cutter.old sheet.old.waiting.items
         begun console.old
         → GivesAll sheet.old.form sheet.old.lexer.now text cutter.old cutter.new
@@ -151,10 +151,10 @@ fn give<O: Sink, E: Sink>(
     ensures none { OnOk result (sheet.new.waiting.items ≡ []) }
     ensures form { OnOk result (sheet.new.form ≡ sheet.old.form) }
     ensures lexer { OnOk result (sheet.new.lexer ≡ sheet.old.lexer) }
-    ensures part { IfErr result (λ e. (begun : ConsoleValue) (text : List ℕ) (xs : List ItemValue)
+    ensures part { IfErr result (λ e. (begun : ConsoleValue) (text : List ℕ) (xs : List PieceValue)
         → IsGiven sheet.old.form sheet.old.lexer.now text xs cutter.old sheet.old.waiting.items
         begun console.old
-        → (ys : List ItemValue) × ((c : Chunked)
+        → (ys : List PieceValue) × ((c : Chunked)
         × (IsGivenInPart sheet.old.form sheet.old.lexer.now text ys c begun e console.new
         × (c.is_ended ≡ cutter.old.incoming.chunks.is_ended)))) }
 {

@@ -1,14 +1,14 @@
 //! What is written for the pieces of a text.
 ghost use Rattle.std.specs.Prelude.{◌≡◌, ◌++◌, ◌+◌, ◌≤◌, ℕ, List, [], true, length, map, option_map, string_bytes, OnOk};
-ghost use Rattle.bajofeki.specs.Given.{item_of};
-ghost use Rattle.reports_lib.specs.ItemLines.{line_in, mode_named as mode_named_of};
+ghost use Rattle.bajofeki.specs.Given.{piece_of};
+ghost use Rattle.reports_lib.specs.PieceLines.{line_in, mode_named as mode_named_of};
 ghost use Rattle.pieces_lib.specs.Internal.CutTexts.{goes_on, has_lines, line_here, markup_of, piece_shown};
 
 use crate::cutter::Cut;
 use bajofeki::{Painter, push_html};
 use lalrpop_lexer::Position;
 use lalrpop_lexer::lexer::dfa::NfaIndex;
-use lalrpop_rules::{Item, RuleLexer};
+use lalrpop_rules::{Piece, RuleLexer};
 use reports_lib::{Layout, LineForm, Shown, mode_named, name_of, push_json, push_plain};
 use std::alloc::{AllocError, Global};
 
@@ -53,7 +53,7 @@ fn push_line(
 }
 
 // The line of a piece, if it has one.
-fn push_item(
+fn push_shown(
     alloc: Global,
     lines: &mut Vec<u8>,
     lexer: &RuleLexer,
@@ -66,7 +66,7 @@ fn push_item(
         ++ line_here layout.now.form layout.now.recovers
         (option_map (λ f. f.now) layout.now.file) lexer.now.names
         (mode_named_of (map string_bytes layout.now.modes.now) cut.now.mode) cut.now.place
-        (item_of cut.now.piece slice.entry)) }
+        (piece_of cut.now.piece slice.entry)) }
 {
     let name = match cut.piece.rule {
         Some(_) if cut.piece.is_skipped => return Ok(()),
@@ -133,7 +133,7 @@ impl<'rules, 'file, 'modes> Sheet<'rules, 'file, 'modes> {
         ensures shown { OnOk result (has_lines self.old.form ≡ true
             → self.new.waiting.items ≡ self.old.waiting.items
             ++ piece_shown self.old.form self.old.lexer.now.names cut.now.place cut.now.mode
-            (item_of cut.now.piece slice.entry)) }
+            (piece_of cut.now.piece slice.entry)) }
         ensures form { OnOk result (self.new.form ≡ self.old.form) }
         ensures lexer { OnOk result (self.new.lexer ≡ self.old.lexer) }
     {
@@ -142,7 +142,7 @@ impl<'rules, 'file, 'modes> Sheet<'rules, 'file, 'modes> {
         };
         match &self.form {
             Form::Lines(layout) => {
-                push_item(alloc, &mut self.waiting, self.lexer, layout, cut, slice)
+                push_shown(alloc, &mut self.waiting, self.lexer, layout, cut, slice)
             }
             Form::Html | Form::Ansi(_) => Ok(()),
         }
@@ -153,7 +153,7 @@ impl<'rules, 'file, 'modes> Sheet<'rules, 'file, 'modes> {
     /// # Errors
     ///
     /// `AllocError` if a request for memory was refused.
-    pub(crate) fn push_markup(&mut self, item: &Item<'_>) -> Result<(), AllocError>
+    pub(crate) fn push_markup(&mut self, item: &Piece<'_>) -> Result<(), AllocError>
         ensures shown { OnOk result (self.new.waiting.items ≡ self.old.waiting.items
             ++ markup_of self.old.form self.old.lexer.now.names item.now) }
         ensures form { OnOk result (self.new.form ≡ self.old.form) }

@@ -8,7 +8,7 @@ use std::io;
 use std::io::{Read, Write};
 use tokens_lib::{
     Console, CutEnd, Found, Layout, LineForm, Markup, OpenMode, Reader, RuleLexer, Watched,
-    write_items, write_page,
+    write_lines, write_page,
 };
 
 /// More bytes than any text here has.
@@ -185,7 +185,7 @@ fn write_shape(
                 file,
                 modes: &[],
             };
-            end_of(&write_items(alloc, lexer, &layout, reader, console))
+            end_of(&write_lines(alloc, lexer, &layout, reader, console))
         }
         Shape::Page(markup) => end_of(&write_page(alloc, lexer, markup, reader, console)),
     }

@@ -1,7 +1,7 @@
 -- Small cases of the definitions in specs/: Cases/X.antt has those of specs/X.antt.
 mod Answer
 mod FileRules
-mod ItemLines
+mod PieceLines
 mod ModePlace
 mod NamedRules
 mod Reasons

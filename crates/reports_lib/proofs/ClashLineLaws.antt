@@ -8,7 +8,7 @@ use Rattle.lalrpop_rules.specs.ModeSet.{rules_of}
 use Rattle.bajofeki_rules.specs.declared.mode_rule.ModeRule.{ModeRule}
 use Rattle.lalrpop_rules.specs.RuleSet.{names_of}
 use Rattle.bajofeki_rules.specs.declared.rule.Rule.{Rule}
-use Rattle.reports_lib.specs.ItemLines.{mode_named, name_at}
+use Rattle.reports_lib.specs.PieceLines.{mode_named, name_at}
 use Rattle.reports_lib.specs.RuleClashes.{named_line, clash_lines}
 
 -- the names of the rules

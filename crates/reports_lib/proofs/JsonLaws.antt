@@ -10,7 +10,7 @@ use Rattle.std.proofs.lemmas.List.{length-drop, take_all}
 use Rattle.std.proofs.lemmas.Str.{chars-IsAscii, encode_ascii, encodes-append, encodes-chars, IsUtf8-from_ascii, utf8_lossy-IsUtf8}
 use Rattle.bajofeki_rules.specs.Quoted.{is_unseen}
 use Rattle.reports_lib.specs.Internal.SeenBytes.{is_seen_in_ascii}
-use Rattle.reports_lib.specs.ItemLines.{escaped, json_told}
+use Rattle.reports_lib.specs.PieceLines.{escaped, json_told}
 use Rattle.reports_lib.proofs.SafeLaws.{ascii_is_seen}
 
 -- what an index to the end cuts out

@@ -12,7 +12,7 @@ use Rattle.std.proofs.lemmas.List.{length-drop, take_all}
 use Rattle.std.proofs.lemmas.Str.{scalars-chars, IsUtf8-nil, IsUtf8-append, IsUtf8-from_is_utf8, utf8_valid_len_le}
 use Rattle.json.specs.Token.{Token}
 use Rattle.bajofeki_rules.specs.Quoted.{is_unseen}
-use Rattle.reports_lib.specs.ItemLines.{escaped, json_told, object_line, unit_told}
+use Rattle.reports_lib.specs.PieceLines.{escaped, json_told, object_line, unit_told}
 use Rattle.reports_lib.specs.Safe.{IsSafe}
 use Rattle.reports_lib.proofs.SafeLaws.{is_printed, plain_is_safe, safe_append, safe_char, safe_nil, seen_steers_not}
 use Rattle.reports_lib.proofs.SafeMessages.{each_is_safe}

@@ -17,7 +17,7 @@ use Rattle.bajofeki_rules.proofs.ByteRuns.{EachPlain, quoted_as_is}
 use Rattle.bajofeki_rules.proofs.Quotes.{quoted_is_seen}
 use Rattle.lalrpop_rule_file.specs.RuleFile.{without_return}
 use Rattle.lalrpop_rule_file.proofs.Returns.{return_parts}
-use Rattle.reports_lib.specs.ItemLines.{byte_told, slice_told}
+use Rattle.reports_lib.specs.PieceLines.{byte_told, slice_told}
 use Rattle.reports_lib.specs.Safe.{IsSafe, can_steer}
 use Rattle.reports_lib.specs.ShownLine.{sign, signs_of, signs_at, dots, shown, first_shown, pointed, numbered}
 

@@ -20,7 +20,7 @@ use Rattle.lalrpop_rules.specs.RuleSet.{names_of}
 use Rattle.lalrpop_rules.specs.declared.error.RulesError.{RulesError}
 use Rattle.lalrpop_rules.specs.declared.error.RulesError.TheVariants as rules_errors
 use Rattle.reports_lib.specs.Answer.{headed}
-use Rattle.reports_lib.specs.ItemLines.{file_text, plain_line, mode_named, name_at}
+use Rattle.reports_lib.specs.PieceLines.{file_text, plain_line, mode_named, name_at}
 use Rattle.reports_lib.specs.Reasons.{SaysBadLine, SaysRules, bad_end_text, clash_advice, clash_text, mode_said, place_at, placed, refusal_text, syntax_text, text_at}
 use Rattle.reports_lib.specs.RuleClashes.{clash_lines, mode_text, named_line}
 use Rattle.reports_lib.specs.Safe.{IsSafe}

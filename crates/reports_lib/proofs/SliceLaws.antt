@@ -4,7 +4,7 @@ use Rattle.std.specs.Prelude.{if◌then◌else◌}
 use Rattle.std.specs.Str.{is_utf8}
 use Rattle.std.proofs.lemmas.Str.{IsUtf8-from_is_utf8, is_utf8-from_IsUtf8}
 use Rattle.bajofeki_rules.specs.Quoted.{quoted}
-use Rattle.reports_lib.specs.ItemLines.{byte_told, slice_told}
+use Rattle.reports_lib.specs.PieceLines.{byte_told, slice_told}
 
 pub text_told : (slice : List ℕ) → IsUtf8 slice → slice_told slice ≡ quoted slice
 text_told slice utf8 = ap (λ (t : Bool). if t then quoted slice else (codes "\"" ++ (flat_map byte_told slice ++ codes "\""))) (is_utf8-from_IsUtf8 slice utf8)

@@ -1,6 +1,6 @@
 pub mod Answer
 pub mod FileRules
-pub mod ItemLines
+pub mod PieceLines
 pub mod ModePlace
 pub mod NamedRules
 pub mod Reasons

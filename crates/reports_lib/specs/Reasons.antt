@@ -19,7 +19,7 @@ use Rattle.bajofeki_rules.specs.declared.rule.Rule.{Rule}
 use Rattle.lalrpop_rule_file.specs.declared.error.RuleFileError.{RuleFileError}
 use Rattle.lalrpop_rule_file.specs.declared.error.RuleFileError.TheVariants as file_errors
 use Rattle.bajofeki_rules.specs.Quoted.{quoted_word}
-use Rattle.reports_lib.specs.ItemLines.{mode_named, name_at}
+use Rattle.reports_lib.specs.PieceLines.{mode_named, name_at}
 use Rattle.reports_lib.specs.ShownLine.{numbered, pointed, signs_at}
 
 -- ---- in words

@@ -3,7 +3,7 @@
 use Rattle.std.specs.Prelude.{ℕ, ◌+◌, List, [], ◌∷◌, ◌++◌, Option, Some, None, codes, flat_map}
 use Rattle.lalrpop_hir.specs.Clashes.{Entry}
 use Rattle.bajofeki_rules.specs.Quoted.{quoted_word}
-use Rattle.reports_lib.specs.ItemLines.{mode_named, name_at}
+use Rattle.reports_lib.specs.PieceLines.{mode_named, name_at}
 
 -- the mode, if it is named
 abbrev pub mode_text : Option (List ℕ) → List ℕ

@@ -10,7 +10,7 @@ use Rattle.lalrpop_rule_file.specs.declared.part_line.PartLine.{PartLine}
 use Rattle.lalrpop_rule_file.specs.declared.warning.Warning.{Warning}
 use Rattle.lalrpop_rule_file.specs.declared.warning.Warning.TheVariants.{NoRules, PartUnused, ModeNotEntered, ModeNotLeft, TextGoesOn, ClassOutside, EndPassed}
 use Rattle.reports_lib.specs.Answer.{about, headed}
-use Rattle.reports_lib.specs.ItemLines.{name_at, number_member, string_member, kind_member, object_line}
+use Rattle.reports_lib.specs.PieceLines.{name_at, number_member, string_member, kind_member, object_line}
 use Rattle.reports_lib.specs.ModePlace.{TellsSections}
 use Rattle.reports_lib.specs.Reasons.{place_at}
 use Rattle.lexdfa_lib.specs.declared.layout.LineForm.{LineForm}

@@ -11,7 +11,6 @@ ghost use Rattle.lexdfa_lib.specs.declared.layout.LineForm.TheVariants.{Plain};
 ghost use Rattle.reports_lib.specs.NamedRules.{BytesAnswer, StandAt, IsSetOf, AreRulesOf, LinesAnswer, RulesOf, RulesRefused, rules_status, NameOnly};
 ghost use Rattle.reports_lib.specs.WarningsSaid.{Warned, SaysIfAsked};
 
-use crate::file_lexer::{FileLexer, with_names};
 use crate::messages::{about, headed};
 use crate::mode_file::ModeFile;
 use crate::reply::Reply;
@@ -44,8 +43,8 @@ const REFUSED: u8 = 2;
 /// ```
 #[derive(Drop)]
 pub struct WarnedLexer {
-    /// The lexer, and the names of its modes.
-    pub lexer: FileLexer,
+    /// The lexer.
+    pub lexer: RuleLexer,
     /// The warnings, as they are said.
     pub said: String,
 }
@@ -141,20 +140,20 @@ fn lexer_of_file(
     name: &str,
     bytes: &[u8],
     file: &ModeFile<'_>,
-) -> Result<Result<FileLexer, Reply>, AllocError>
+) -> Result<Result<RuleLexer, Reply>, AllocError>
     requires places { StandAt (lines bytes.now) file.now.rules.items file.now.places.items }
     requires some { 0 < length file.now.modes.items }
     requires within { NameOnly file.now.rules.items (length file.now.modes.items) }
     ensures lexer { IfOk result (λ found. IfOk found (λ f.
-        IsSetOf file.now.rules.items (map (λ m. m.now) file.now.modes.items) f.lexer)) }
+        IsSetOf file.now.rules.items (map (λ m. m.now) file.now.modes.items) f)) }
     ensures names { IfOk result (λ found. IfOk found (λ f.
-        map string_bytes f.modes.items ≡ map (λ m. m.now) file.now.modes.items)) }
+        f.mode_names ≡ map (λ m. m.now) file.now.modes.items)) }
     ensures refused { IfOk result (λ found. IfErr found
         (RulesRefused name.now (lines bytes.now) (map (λ m. m.now) file.now.modes.items)
         file.now.rules.items)) }
 {
-    match RuleLexer::from_rules(alloc, &file.rules, file.modes.len()) {
-        Ok(lexer) => Ok(Ok(with_names(alloc, lexer, &file.modes)?)),
+    match RuleLexer::with_modes(alloc, &file.rules, &file.modes) {
+        Ok(lexer) => Ok(Ok(lexer)),
         Err(error) => Ok(Err(rules_refused(alloc, name, bytes, file, &error)?)),
     }
 }
@@ -165,7 +164,7 @@ fn lexer_of_rules(
     name: &str,
     bytes: &[u8],
     file: &RuleFile<'_>,
-) -> Result<Result<FileLexer, Reply>, AllocError>
+) -> Result<Result<RuleLexer, Reply>, AllocError>
     requires rules { AreRules (lines (without_mark_of bytes.now))
         (map (λ m. m.now) file.now.modes.items) file.now.rules.items }
     requires parts { AreFileParts (lines (without_mark_of bytes.now)) file.now.parts.items }
@@ -175,7 +174,7 @@ fn lexer_of_rules(
         → slice_get file.now.rules.items i ≡ Some r → NamesMode r m
         → m < length file.now.modes.items }
     ensures lexer { IfOk result (λ found. IfOk found (λ f.
-        AreRulesOf bytes.now f.lexer (map string_bytes f.modes.items))) }
+        AreRulesOf bytes.now f f.mode_names)) }
     ensures refused { IfOk result (λ found. IfErr found
         (LinesAnswer RulesRefused name.now (lines (without_mark_of bytes.now)))) }
 {
@@ -185,7 +184,7 @@ fn lexer_of_rules(
 
 // The lexer of the rules of the file that these bytes are, with the warnings that are said; or what is answered after them.
 fn warned_lexer(
-    found: Result<FileLexer, Reply>,
+    found: Result<RuleLexer, Reply>,
     said: String,
 ) -> Result<Result<WarnedLexer, Reply>, AllocError>
     ensures lexer { IfOk result (λ all. IfOk all (λ w.
@@ -211,7 +210,7 @@ pub fn lexer_of_bytes(
     bytes: &[u8],
 ) -> Result<Result<WarnedLexer, Reply>, AllocError>
     ensures lexer { IfOk result (λ found. IfOk found (λ f.
-        AreRulesOf bytes.now f.lexer.lexer (map string_bytes f.lexer.modes.items))) }
+        AreRulesOf bytes.now f.lexer f.lexer.mode_names)) }
     ensures warned { IfOk result (λ found. IfOk found (λ f.
         Warned Plain verbosity name.now (lines (without_mark_of bytes.now))
         (string_bytes f.said))) }
@@ -240,7 +239,7 @@ pub fn lexer_by_name<F: Files>(
 ) -> Result<Result<WarnedLexer, Reply>, AllocError>
     ensures lexer { IfOk result (λ found. IfOk found (λ f. (bytes : List ℕ)
         × (GivesWhole (F.gives files.now) name.now (Ok bytes)
-        × (AreRulesOf bytes f.lexer.lexer (map string_bytes f.lexer.modes.items)
+        × (AreRulesOf bytes f.lexer f.lexer.mode_names
         × Warned Plain verbosity name.now (lines (without_mark_of bytes))
         (string_bytes f.said))))) }
     ensures refused { IfOk result (λ found. IfErr found

@@ -3,7 +3,7 @@ ghost use Rattle.std.specs.Prelude.{◌≡◌, ◌<◌, ◌≤◌, ◌++◌, tru
 ghost use Rattle.std.specs.Char.Escape.{hex_digit_at};
 ghost use Rattle.std.specs.List.{list_all};
 ghost use Rattle.reports_lib.specs.Internal.SeenBytes.{is_seen_in_ascii};
-ghost use Rattle.reports_lib.specs.ItemLines.{escaped, json_told, unit_told};
+ghost use Rattle.reports_lib.specs.PieceLines.{escaped, json_told, unit_told};
 
 use bajofeki_rules::is_unseen;
 use std::alloc::{AllocError, Global};

@@ -3,7 +3,7 @@ ghost use Rattle.std.specs.Prelude.{◌≡◌, ◌+◌, ◌≤◌, ◌∷◌, []
 ghost use Rattle.std.specs.Str.Lossy.{utf8_lossy};
 ghost use Rattle.json.specs.Print.{print};
 ghost use Rattle.json.specs.Token.{begin_object, end_object, key, string};
-ghost use Rattle.reports_lib.specs.ItemLines.{number_member, string_member, file_member, rule_member, mode_member, object_of, json_line, escaped};
+ghost use Rattle.reports_lib.specs.PieceLines.{number_member, string_member, file_member, rule_member, mode_member, object_of, json_line, escaped};
 
 use crate::escaped::escape_from;
 use crate::shown::Shown;

@@ -68,14 +68,14 @@ pub fn bad_line_message(
 /// its line; of a clash both lines, the word, and what can be done. It ends with a line feed.
 ///
 /// The bytes are those that `lalrpop_rule_file::read_rules` was given, the file is what it read, and the error is one of
-/// `RuleLexer::from_rules` or `mode_clashes` for its rules. Any other error is only said not to be one of these rules.
+/// `RuleLexer::with_modes` or `mode_clashes` for its rules. Any other error is only said not to be one of these rules.
 ///
 /// ```
 /// use tokens_lib::{ModeFile, RuleLexer, read_rules, rules_message};
 ///
 /// let read = read_rules(alloc, bytes)?;
 /// let file = ModeFile::of(alloc, &read)?;
-/// if let Err(error) = RuleLexer::from_rules(alloc, &file.rules, file.modes.len()) {
+/// if let Err(error) = RuleLexer::with_modes(alloc, &file.rules, &file.modes) {
 ///     let message = rules_message(alloc, "c.rules", bytes, &file, &error)?; // "tokens: c.rules:2: B clashes with A ..\n"
 /// }
 /// ```

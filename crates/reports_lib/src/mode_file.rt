@@ -7,14 +7,14 @@ use lalrpop_rule_file::{FileRule, RuleFile};
 use lalrpop_rules::ModeRule;
 use std::alloc::{AllocError, Global};
 
-/// The rules of a file as `RuleLexer::from_rules` takes them, their modes, and where their texts begin.
+/// The rules of a file as `RuleLexer::with_modes` takes them, their modes, and where their texts begin.
 ///
 /// ```
 /// use tokens_lib::{ModeFile, RuleLexer, read_rules};
 ///
 /// let read = read_rules(alloc, b"IF = 'if'\nNAME = 1 /[a-z]+/\n")?;
 /// let file = ModeFile::of(alloc, &read)?;
-/// let lexer = RuleLexer::from_rules(alloc, &file.rules, file.modes.len())?;
+/// let lexer = RuleLexer::with_modes(alloc, &file.rules, &file.modes)?;
 /// ```
 #[derive(Debug, Drop)]
 pub struct ModeFile<'text> {

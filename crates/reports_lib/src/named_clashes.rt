@@ -2,7 +2,7 @@
 ghost use Rattle.std.specs.Prelude.{◌≡◌, ◌≢◌, ◌++◌, List, map, flat_map, option_map, false, true, string_bytes, IfOk, OnOk, OnErr, IfErr};
 ghost use Rattle.lalrpop_rules.specs.ModeSet.{rules_of};
 ghost use Rattle.lalrpop_rules.specs.RuleSet.{names_of};
-ghost use Rattle.reports_lib.specs.ItemLines.{mode_named as mode_named_of, name_at};
+ghost use Rattle.reports_lib.specs.PieceLines.{mode_named as mode_named_of, name_at};
 ghost use Rattle.reports_lib.specs.Internal.RuleNames.{name_found as name_found_in};
 ghost use Rattle.reports_lib.specs.RuleClashes.{clash_lines as lines_of_clashes, mode_text, named_line};
 

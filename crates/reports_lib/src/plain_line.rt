@@ -1,6 +1,6 @@
 //! The line of a piece in plain text.
 ghost use Rattle.std.specs.Prelude.{◌≡◌, ◌++◌, codes, flat_map, option_map, string_bytes, unwrap_or, OnOk};
-ghost use Rattle.reports_lib.specs.ItemLines.{byte_told, file_text, plain_line, slice_told};
+ghost use Rattle.reports_lib.specs.PieceLines.{byte_told, file_text, plain_line, slice_told};
 
 use crate::numbers::push_numbers;
 use crate::shown::Shown;

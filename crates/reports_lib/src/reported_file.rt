@@ -50,7 +50,7 @@ impl<'text> Model for ReportedFile<'text> {
 }
 
 impl<'text> ReportedFile<'text> {
-    ghost use Rattle.reports_lib.specs.ItemLines.{mode_named as mode_named_of, name_at};
+    ghost use Rattle.reports_lib.specs.PieceLines.{mode_named as mode_named_of, name_at};
     ghost use Rattle.reports_lib.specs.Reasons.{place_at};
 
     /// The file with this name.

@@ -5,7 +5,7 @@ ghost use Rattle.lalrpop_rules.specs.ModeSet.{rules_of};
 ghost use Rattle.lalrpop_rules.specs.RuleSet.{names_of};
 ghost use Rattle.bajofeki_rules.specs.Quoted.{quoted_word};
 ghost use Rattle.lalrpop_rule_file.specs.RuleFault.{reason_of};
-ghost use Rattle.reports_lib.specs.ItemLines.{mode_named as mode_named_of, name_at};
+ghost use Rattle.reports_lib.specs.PieceLines.{mode_named as mode_named_of, name_at};
 ghost use Rattle.reports_lib.specs.ShownLine.{numbered};
 ghost use Rattle.reports_lib.specs.Reasons.{CanBeSaid, SaysBadLine, SaysRules, clash_advice, clash_text, mode_said, parsed_text as what_is_parsed, place_at, placed, syntax_text, text_at};
 

@@ -2,7 +2,7 @@
 ghost use Rattle.std.specs.Prelude.{◌≡◌, ◌++◌, codes, map, IfOk, OnOk};
 ghost use Rattle.bajofeki_rules.specs.Lines.{lines};
 ghost use Rattle.lalrpop_rule_file.specs.RuleFile.{without_mark as without_mark_of};
-ghost use Rattle.reports_lib.specs.ItemLines.{name_at, string_member, object_line};
+ghost use Rattle.reports_lib.specs.PieceLines.{name_at, string_member, object_line};
 ghost use Rattle.reports_lib.specs.Warned.{SaysWarnings, rule_name as rule_name_of, text_place as text_place_of, warned_members, warning_members};
 ghost use Rattle.reports_lib.specs.Internal.ModePlaces.{section_at};
 ghost use Rattle.lexdfa_lib.specs.declared.layout.LineForm.TheVariants.{Json};

@@ -2,7 +2,7 @@
 ghost use Rattle.std.specs.Prelude.{◌≡◌, map, string_bytes, IfOk};
 ghost use Rattle.bajofeki_rules.specs.Lines.{lines};
 ghost use Rattle.lalrpop_rule_file.specs.RuleFile.{without_mark as without_mark_of};
-ghost use Rattle.reports_lib.specs.ItemLines.{name_at};
+ghost use Rattle.reports_lib.specs.PieceLines.{name_at};
 ghost use Rattle.reports_lib.specs.Reasons.{place_at};
 ghost use Rattle.reports_lib.specs.Warned.{SaysWarnings, text_place as text_place_of, warned_at, warned_of, warning_line};
 ghost use Rattle.reports_lib.specs.Internal.ModePlaces.{section_at};

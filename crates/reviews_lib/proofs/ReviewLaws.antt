@@ -2,7 +2,7 @@
 use Rattle.std.proofs.Common.{◌≡◌, ℕ, suc, ◌+◌, ◌<◌, List, [], ◌∷◌, ◌++◌, length, map, take, get_or, sym, ap, ◌∙◌, append_assoc, arith}
 use Rattle.std.specs.Prelude.{Option}
 use Rattle.std.proofs.lemmas.List.{append-nil, take_more, map-append, length-map, length-take-le}
-use Rattle.reports_lib.specs.ItemLines.{mode_named}
+use Rattle.reports_lib.specs.PieceLines.{mode_named}
 use Rattle.reviews_lib.specs.ReviewLines.{by_mode}
 
 -- one mode more

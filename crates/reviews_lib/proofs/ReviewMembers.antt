@@ -5,7 +5,7 @@ use Rattle.std.specs.Fmt.{digits}
 use Rattle.json.specs.Print.{IsNumber}
 use Rattle.json.specs.Token.{Token, key, number}
 use Rattle.json.specs.Word.{after_number}
-use Rattle.reports_lib.specs.ItemLines.{number_member}
+use Rattle.reports_lib.specs.PieceLines.{number_member}
 use Rattle.reports_lib.proofs.Steps.{where_ok, four_steps}
 
 -- ---- steps, of which the last may fail

@@ -11,7 +11,7 @@ use Rattle.lalrpop_verdicts.specs.Differences.{Answers}
 use Rattle.lexdfa_lib.specs.Streams.{Given}
 use Rattle.lexdfa_lib.specs.declared.command.Verbosity.{Verbosity}
 use Rattle.reports_lib.specs.Answer.{Answer}
-use Rattle.reports_lib.specs.ItemLines.{mode_named, name_at}
+use Rattle.reports_lib.specs.PieceLines.{mode_named, name_at}
 use Rattle.reports_lib.specs.NamedRules.{BytesAnswer, LexerOf, RulesOf}
 
 -- ---- what differs

@@ -12,7 +12,7 @@ use Rattle.lalrpop_verdicts.specs.Picture.{dot}
 use Rattle.lalrpop_verdicts.specs.Smallest.{IsCanonical, IsSmallest}
 use Rattle.reports_lib.specs.Answer.{Answer, refusal, about}
 use Rattle.reviews_lib.specs.Compared.{token_text}
-use Rattle.reports_lib.specs.ItemLines.{mode_named, name_at}
+use Rattle.reports_lib.specs.PieceLines.{mode_named, name_at}
 use Rattle.reports_lib.specs.NamedRules.{LexerOf, RulesOf}
 use Rattle.lexdfa_lib.specs.Command.{has}
 use Rattle.lexdfa_lib.specs.declared.command.Verbosity.{Verbosity}

@@ -10,7 +10,7 @@ use Rattle.lalrpop_review.specs.declared.look.Look.{Look}
 use Rattle.lalrpop_review.specs.declared.look.Look.TheVariants.{AtMost, Unbounded}
 use Rattle.lalrpop_review.specs.declared.mode.ModeReview.{ModeReview}
 use Rattle.lalrpop_verdicts.specs.WonWord.{WonWord}
-use Rattle.reports_lib.specs.ItemLines.{number_member, string_member, mode_member, kind_member, name_at}
+use Rattle.reports_lib.specs.PieceLines.{number_member, string_member, mode_member, kind_member, name_at}
 use Rattle.reports_lib.specs.Reasons.{place_at}
 use Rattle.reports_lib.specs.ReportedFile.{ReportedFile}
 

@@ -12,7 +12,7 @@ use Rattle.lalrpop_review.specs.declared.look.Look.TheVariants.{AtMost, Unbounde
 use Rattle.lalrpop_review.specs.declared.mode.ModeReview.{ModeReview}
 use Rattle.lalrpop_review.specs.declared.whole.Review.{Review}
 use Rattle.lalrpop_verdicts.specs.WonWord.{WonWord}
-use Rattle.reports_lib.specs.ItemLines.{mode_named, name_at, object_line}
+use Rattle.reports_lib.specs.PieceLines.{mode_named, name_at, object_line}
 use Rattle.reports_lib.specs.Reasons.{place_at, mode_said}
 use Rattle.reports_lib.specs.ReportedFile.{ReportedFile}
 use Rattle.reviews_lib.specs.ReviewJson.{empty_members, idle_members, automaton_members, clash_members}

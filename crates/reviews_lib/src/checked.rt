@@ -156,7 +156,7 @@ fn told_of(
     ensures fault { IfErr result (IsModesFault file.now.rules.items
         (length (map (λ m. m.now) file.now.modes.items))) }
 {
-    let lexer = match RuleLexer::from_rules(alloc, &file.rules, file.modes.len()) {
+    let lexer = match RuleLexer::with_modes(alloc, &file.rules, &file.modes) {
         Ok(lexer) => lexer,
         Err(error) => return told_instead(alloc, form, name, file, error),
     };

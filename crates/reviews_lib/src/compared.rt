@@ -3,24 +3,14 @@ ghost use Rattle.std.specs.Prelude.{◌≡◌, ◌≢◌, ◌<◌, ◌++◌, ◌
 ghost use Rattle.lalrpop_review.specs.Apart.{told};
 ghost use Rattle.lalrpop_verdicts.specs.Differences.{Answers};
 ghost use Rattle.reviews_lib.specs.Compared.{DifferenceAnswer, IsDifference, IsDifferenceText, action_text, difference_line, modes_line as modes_line_of, modes_text, place_text, skip_text, spaced, text_status, token_text};
-ghost use Rattle.reports_lib.specs.ItemLines.{mode_named, name_at};
+ghost use Rattle.reports_lib.specs.PieceLines.{mode_named, name_at};
 
 use lalrpop_lexer::ShownWord;
 use lalrpop_lexer::lexer::dfa::NfaIndex;
 use lalrpop_review::{Difference, difference_in};
 use lalrpop_rules::{Action, RuleLexer};
-use reports_lib::{FileLexer, Reply};
+use reports_lib::{Reply, mode_name};
 use std::alloc::{AllocError, Global};
-
-// The name of the mode with this number, or the empty string if no mode has it.
-fn mode_name(modes: &[String], mode: usize) -> &str
-    ensures { result.now ≡ name_at (map string_bytes modes.now) mode }
-{
-    match modes.get(mode) {
-        Some(name) => name.as_str(),
-        None => "",
-    }
-}
 
 // An action as files of rules write it.
 fn push_action(text: &mut String, modes: &[String], action: Action) -> Result<(), AllocError>
@@ -107,21 +97,21 @@ fn push_place(text: &mut String, modes: &[String], mode: usize) -> Result<(), Al
 fn push_difference(
     text: &mut String,
     old_name: &str,
-    old: &FileLexer,
+    old: &RuleLexer,
     new_name: &str,
-    new: &FileLexer,
+    new: &RuleLexer,
     mode: usize,
     found: &Difference,
 ) -> Result<(), AllocError>
     ensures { OnOk result (string_bytes text.new ≡ string_bytes text.old ++ difference_line
-        old_name.now old.now.lexer (map string_bytes old.now.modes.items)
-        new_name.now new.now.lexer (map string_bytes new.now.modes.items) mode (Some found.now)) }
+        old_name.now old.now old.now.mode_names
+        new_name.now new.now new.now.mode_names mode (Some found.now)) }
 {
-    push_place(text, &old.modes, mode)?;
+    push_place(text, old.mode_names(), mode)?;
     write!(text, "{} is ", ShownWord(&found.word))?;
-    push_token(text, &old.modes, &old.lexer, found.left)?;
+    push_token(text, old.mode_names(), old, found.left)?;
     write!(text, " in {old_name}, and ")?;
-    push_token(text, &new.modes, &new.lexer, found.right)?;
+    push_token(text, new.mode_names(), new, found.right)?;
     write!(text, " in {new_name}\n")
 }
 
@@ -130,20 +120,20 @@ fn push_mode(
     alloc: Global,
     text: &mut String,
     old_name: &str,
-    old: &FileLexer,
+    old: &RuleLexer,
     new_name: &str,
-    new: &FileLexer,
+    new: &RuleLexer,
     mode: usize,
 ) -> Result<(), AllocError>
-    requires in_old { mode < old.now.lexer.modes }
-    requires in_new { mode < new.now.lexer.modes }
+    requires in_old { mode < old.now.modes }
+    requires in_new { mode < new.now.modes }
     ensures { OnOk result ((f : Option Answers)
-        × (IsDifference old.now.lexer new.now.lexer mode f
+        × (IsDifference old.now new.now mode f
         × (string_bytes text.new ≡ string_bytes text.old ++ difference_line
-        old_name.now old.now.lexer (map string_bytes old.now.modes.items)
-        new_name.now new.now.lexer (map string_bytes new.now.modes.items) mode f))) }
+        old_name.now old.now old.now.mode_names
+        new_name.now new.now new.now.mode_names mode f))) }
 {
-    match difference_in(alloc, &old.lexer, &new.lexer, mode)? {
+    match difference_in(alloc, old, new, mode)? {
         Some(found) => push_difference(text, old_name, old, new_name, new, mode, &found),
         None => Ok(()),
     }
@@ -206,19 +196,25 @@ fn are_same(names: &[String], others: &[String]) -> bool
 fn difference_text(
     alloc: Global,
     old_name: &str,
-    old: &FileLexer,
+    old: &RuleLexer,
     new_name: &str,
-    new: &FileLexer,
+    new: &RuleLexer,
 ) -> Result<String, AllocError>
     ensures { IfOk result (λ text. IsDifferenceText
-        old_name.now old.now.lexer (map string_bytes old.now.modes.items)
-        new_name.now new.now.lexer (map string_bytes new.now.modes.items) (string_bytes text)) }
+        old_name.now old.now old.now.mode_names
+        new_name.now new.now new.now.mode_names (string_bytes text)) }
 {
-    if !are_same(&old.modes, &new.modes) {
-        return modes_line(alloc, old_name, &old.modes, new_name, &new.modes);
+    if !are_same(old.mode_names(), new.mode_names()) {
+        return modes_line(
+            alloc,
+            old_name,
+            old.mode_names(),
+            new_name,
+            new.mode_names(),
+        );
     }
     let mut text = String::new(alloc);
-    for mode in 0..old.lexer.modes().min(new.lexer.modes()) {
+    for mode in 0..old.modes().min(new.modes()) {
         push_mode(alloc, &mut text, old_name, old, new_name, new, mode)?;
     }
     Ok(text)
@@ -246,13 +242,13 @@ fn status_of(text: &str) -> u8
 pub fn difference_reply(
     alloc: Global,
     old_name: &str,
-    old: &FileLexer,
+    old: &RuleLexer,
     new_name: &str,
-    new: &FileLexer,
+    new: &RuleLexer,
 ) -> Result<Reply, AllocError>
     ensures answer { IfOk result (DifferenceAnswer
-        old_name.now old.now.lexer (map string_bytes old.now.modes.items)
-        new_name.now new.now.lexer (map string_bytes new.now.modes.items)) }
+        old_name.now old.now old.now.mode_names
+        new_name.now new.now new.now.mode_names) }
 {
     let text = difference_text(alloc, old_name, old, new_name, new)?;
     let status = status_of(&text);

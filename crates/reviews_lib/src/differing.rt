@@ -1,12 +1,13 @@
 //! One file of rules compared with another.
-ghost use Rattle.std.specs.Prelude.{◌≡◌, map, string_bytes, IfOk};
+ghost use Rattle.std.specs.Prelude.{◌≡◌, map, IfOk};
 ghost use Rattle.lexdfa_lib.specs.Streams.{GivesWhole};
 ghost use Rattle.reports_lib.specs.NamedRules.{ByLexer};
 ghost use Rattle.reviews_lib.specs.Compared.{BytesCompared, ComparedAnswer, OtherAnswer, other_of};
 
 use crate::compared::difference_reply;
+use lalrpop_rules::RuleLexer;
 use lexdfa_lib::{Files, Verbosity, bytes_of};
-use reports_lib::{FileLexer, Reply, lexer_by_name, lexer_of_bytes, unread};
+use reports_lib::{Reply, lexer_by_name, lexer_of_bytes, unread};
 use std::alloc::{AllocError, Global};
 
 // The name of the other file of rules: the first name after RULES, or the empty string if there is none.
@@ -24,12 +25,12 @@ fn compare_bytes(
     alloc: Global,
     verbosity: Verbosity,
     name: &str,
-    rules: &FileLexer,
+    rules: &RuleLexer,
     other: &str,
     bytes: &[u8],
 ) -> Result<Reply, AllocError>
-    ensures answer { IfOk result (OtherAnswer verbosity name.now rules.now.lexer
-        (map string_bytes rules.now.modes.items) other.now bytes.now) }
+    ensures answer { IfOk result (OtherAnswer verbosity name.now rules.now
+        rules.now.mode_names other.now bytes.now) }
 {
     match lexer_of_bytes(alloc, verbosity, other, bytes)? {
         Ok(found) => {
@@ -77,11 +78,11 @@ fn compare_with<F: Files>(
     verbosity: Verbosity,
     files: &F,
     name: &str,
-    rules: &FileLexer,
+    rules: &RuleLexer,
     other: &str,
 ) -> Result<Reply, AllocError>
     ensures answer { IfOk result (ComparedAnswer (GivesWhole (F.gives files.now)) verbosity
-        name.now rules.now.lexer (map string_bytes rules.now.modes.items) other.now) }
+        name.now rules.now rules.now.mode_names other.now) }
 {
     match bytes_of(alloc, files, other)? {
         Ok(bytes) => compare_bytes(alloc, verbosity, name, rules, other, &bytes),

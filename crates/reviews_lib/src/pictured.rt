@@ -6,7 +6,7 @@ ghost use Rattle.lalrpop_rules.specs.Modes.{trees_in};
 ghost use Rattle.lalrpop_verdicts.specs.Picture.{dot};
 ghost use Rattle.lexdfa_lib.specs.Streams.{GivesWhole};
 ghost use Rattle.reports_lib.specs.Answer.{about, refusal};
-ghost use Rattle.reports_lib.specs.ItemLines.{mode_named};
+ghost use Rattle.reports_lib.specs.PieceLines.{mode_named};
 ghost use Rattle.lexdfa_lib.specs.Command.{has};
 ghost use Rattle.reports_lib.specs.NamedRules.{ByLexer};
 ghost use Rattle.reviews_lib.specs.Pictured.{ArePictures, BytesPictured, IsDrawn, IsMissing, IsModePicture, IsRulePicture, IsSmallestIn, IsSmallestOf, PictureAnswer, label, labels, no_rule, rules_named};
@@ -18,7 +18,7 @@ use lalrpop_lexer::lexer::re::Regex;
 use lalrpop_rules::RuleLexer;
 use lalrpop_verdicts::{dot, minimized};
 use lexdfa_lib::{Files, Verbosity, WRONG_ARGUMENTS, bytes_of};
-use reports_lib::{FileLexer, Reply, about, lexer_of_bytes, mode_named, name_of, unread};
+use reports_lib::{Reply, about, lexer_of_bytes, mode_named, name_of, unread};
 use std::alloc::{AllocError, Global};
 use std::slice;
 
@@ -31,22 +31,22 @@ fn automaton(lexer: &RuleLexer, mode: usize) -> &Dfa
 }
 
 // What stands at a state that accepts a rule: its token, and what it does, as files of rules write it.
-fn label(alloc: Global, rules: &FileLexer, rule: NfaIndex) -> Result<String, AllocError>
+fn label(alloc: Global, rules: &RuleLexer, rule: NfaIndex) -> Result<String, AllocError>
     ensures { IfOk result (λ text. string_bytes text
-        ≡ label rules.now.lexer (map string_bytes rules.now.modes.items) rule) }
+        ≡ label rules.now rules.now.mode_names rule) }
 {
     let mut text = String::new(alloc);
-    push_token(&mut text, &rules.modes, &rules.lexer, Some(rule))?;
+    push_token(&mut text, rules.mode_names(), rules, Some(rule))?;
     Ok(text)
 }
 
 // The label of each rule.
-fn labels(alloc: Global, rules: &FileLexer) -> Result<Vec<String>, AllocError>
+fn labels(alloc: Global, rules: &RuleLexer) -> Result<Vec<String>, AllocError>
     ensures { IfOk result (λ all. map string_bytes all.items
-        ≡ labels rules.now.lexer (map string_bytes rules.now.modes.items)) }
+        ≡ labels rules.now rules.now.mode_names) }
 {
     let mut all = Vec::new(alloc);
-    for rule in 0..rules.lexer.names().len() {
+    for rule in 0..rules.names().len() {
         let text = label(alloc, rules, NfaIndex::new(rule))?;
         all.push(text)?;
     }
@@ -56,29 +56,29 @@ fn labels(alloc: Global, rules: &FileLexer) -> Result<Vec<String>, AllocError>
 // The picture of the smallest automaton of a mode, with its name, if there are several.
 fn mode_picture(
     alloc: Global,
-    rules: &FileLexer,
+    rules: &RuleLexer,
     labels: &[String],
     mode: usize,
 ) -> Result<String, AllocError>
-    requires there { mode < rules.now.lexer.modes }
+    requires there { mode < rules.now.modes }
     ensures { IfOk result (λ text. (least : List Row)
-        × (IsSmallestIn rules.now.lexer mode least
-        × (string_bytes text ≡ dot (mode_named (map string_bytes rules.now.modes.items) mode)
+        × (IsSmallestIn rules.now mode least
+        × (string_bytes text ≡ dot (mode_named rules.now.mode_names mode)
         (map string_bytes labels.now) least))) }
 {
-    let least = minimized(alloc, automaton(&rules.lexer, mode))?;
-    dot(alloc, mode_named(&rules.modes, mode), &least, labels)
+    let least = minimized(alloc, automaton(rules, mode))?;
+    dot(alloc, mode_named(rules.mode_names(), mode), &least, labels)
 }
 
 // The pictures of all modes, one after the other.
-fn mode_pictures(alloc: Global, rules: &FileLexer) -> Result<String, AllocError>
+fn mode_pictures(alloc: Global, rules: &RuleLexer) -> Result<String, AllocError>
     ensures { IfOk result (λ text. ArePictures
-        (IsModePicture rules.now.lexer (map string_bytes rules.now.modes.items))
-        (range_with_len 0 rules.now.lexer.modes) (string_bytes text)) }
+        (IsModePicture rules.now rules.now.mode_names)
+        (range_with_len 0 rules.now.modes) (string_bytes text)) }
 {
     let labels = labels(alloc, rules)?;
     let mut text = String::new(alloc);
-    for mode in 0..rules.lexer.modes() {
+    for mode in 0..rules.modes() {
         let one = mode_picture(alloc, rules, &labels, mode)?;
         text.push_str(&one)?;
     }
@@ -101,15 +101,15 @@ fn rule_picture(alloc: Global, label: &String, tree: &Regex) -> Result<String, A
 }
 
 // The pictures of the rules with this name, one after the other.
-fn rule_pictures(alloc: Global, rules: &FileLexer, name: &str) -> Result<String, AllocError>
+fn rule_pictures(alloc: Global, rules: &RuleLexer, name: &str) -> Result<String, AllocError>
     ensures { IfOk result (λ text. ArePictures
-        (IsRulePicture rules.now.lexer (map string_bytes rules.now.modes.items))
-        (rules_named rules.now.lexer name.now) (string_bytes text)) }
+        (IsRulePicture rules.now rules.now.mode_names)
+        (rules_named rules.now name.now) (string_bytes text)) }
 {
     let mut text = String::new(alloc);
-    for (index, tree) in rules.lexer.regexs().iter().enumerate() {
+    for (index, tree) in rules.regexs().iter().enumerate() {
         let rule = NfaIndex::new(index);
-        if name_of(&rules.lexer, rule) == name {
+        if name_of(rules, rule) == name {
             let label = label(alloc, rules, rule)?;
             let one = rule_picture(alloc, &label, tree)?;
             text.push_str(&one)?;
@@ -145,10 +145,10 @@ fn missing<'name>(lexer: &RuleLexer, given: Option<&'name str>) -> Option<&'name
 }
 
 // What is drawn: each mode; or, if a name is given, the rules that have it.
-fn drawing(alloc: Global, rules: &FileLexer, given: Option<&str>) -> Result<String, AllocError>
-    requires there { IfSome given (λ name. has rules.now.lexer.names name.now ≡ true) }
+fn drawing(alloc: Global, rules: &RuleLexer, given: Option<&str>) -> Result<String, AllocError>
+    requires there { IfSome given (λ name. has rules.now.names name.now ≡ true) }
     ensures drawn { IfOk result (λ text.
-        IsDrawn rules.now.lexer (map string_bytes rules.now.modes.items)
+        IsDrawn rules.now rules.now.mode_names
         (option_map (λ n. n.now) given.entry) (string_bytes text)) }
 {
     match given {
@@ -187,13 +187,13 @@ fn first<'name>(names: &[&'name str]) -> Option<&'name str>
 fn picture_reply(
     alloc: Global,
     file: &str,
-    rules: &FileLexer,
+    rules: &RuleLexer,
     given: Option<&str>,
 ) -> Result<Reply, AllocError>
     ensures answer { IfOk result (PictureAnswer file.now (option_map (λ n. n.now) given.entry)
-        rules.now.lexer (map string_bytes rules.now.modes.items)) }
+        rules.now rules.now.mode_names) }
 {
-    if let Some(name) = missing(&rules.lexer, given) {
+    if let Some(name) = missing(rules, given) {
         return refused(alloc, file, name);
     }
     let text = drawing(alloc, rules, given)?;

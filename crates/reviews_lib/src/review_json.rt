@@ -1,6 +1,6 @@
 //! What a review says, as JSON objects.
 ghost use Rattle.std.specs.Prelude.{◌≡◌, ◌+◌, ◌++◌, codes, option_map, string_bytes, IfOk, OnOk};
-ghost use Rattle.reports_lib.specs.ItemLines.{number_member, string_member, object_line};
+ghost use Rattle.reports_lib.specs.PieceLines.{number_member, string_member, object_line};
 ghost use Rattle.reviews_lib.specs.ReviewJson.{after_members, automaton_members, clash_members, empty_members, idle_members, look_members, place_members, rule_member, unbounded_members, winner_object, winners_member, witness_members, word_text};
 
 use json::Writer;

@@ -3,16 +3,16 @@
 use crate::calls::{Call, expect, number};
 use crate::emit::count;
 use crate::rules::{Asked, Lines};
-use lalrpop_rules::{Item, RuleItems, RuleLexer};
+use lalrpop_rules::{Piece, Pieces, RuleLexer};
 use std::alloc::{AllocError, Global};
 
-fn counts_of(alloc: Global, items: RuleItems<'_>) -> Result<String, AllocError> {
+fn counts_of(alloc: Global, pieces: Pieces<'_>) -> Result<String, AllocError> {
     let (mut tokens, mut faults) = (0usize, 0usize);
-    for item in items {
-        match item {
-            Ok(Item::Token(_)) => tokens = tokens.wrapping_add(1),
-            Ok(Item::Fault { .. }) => faults = faults.wrapping_add(1),
-            Ok(Item::Skipped(_)) => {}
+    for piece in pieces {
+        match piece {
+            Ok(Piece::Token(_)) => tokens = tokens.wrapping_add(1),
+            Ok(Piece::Fault { .. }) => faults = faults.wrapping_add(1),
+            Ok(Piece::Skipped(_)) => {}
             Err(error) => return Err(error),
         }
     }
@@ -22,7 +22,7 @@ fn counts_of(alloc: Global, items: RuleItems<'_>) -> Result<String, AllocError> 
 /// How many tokens and faults a text of 40,000 parts has.
 pub(crate) fn counts(alloc: Global, lexer: &RuleLexer, part: &str) -> Result<String, AllocError> {
     let text = part.repeat(alloc, 40_000)?;
-    counts_of(alloc, lexer.items(alloc, &text)?)
+    counts_of(alloc, lexer.pieces(alloc, &text)?)
 }
 
 /// How many pieces as many signs have, and whether the modes weren't too deep for more.

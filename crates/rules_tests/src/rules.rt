@@ -4,7 +4,7 @@ use crate::calls::{Call, expect, expect_lines, halves};
 use crate::{emit, great, texts};
 use bajofeki::{ansi, html};
 use lalrpop_rule_file::RuleFileError;
-use lalrpop_rules::{Action, FileError, Item, ModeRule, Rule, RuleItems, RuleLexer, RulesError};
+use lalrpop_rules::{Action, FileError, ModeRule, Piece, Pieces, Rule, RuleLexer, RulesError};
 use std::alloc::{AllocError, Global};
 use std::fmt::Write;
 
@@ -137,33 +137,33 @@ impl Lines {
 }
 
 /// Adds a piece: the number of its rule, in parentheses if it is skipped, or `!`, what it is and where it begins.
-pub(crate) fn add_piece(line: &mut String, item: &Item) -> Result<(), AllocError> {
-    let (slice, start) = (item.slice(), item.start());
-    match item {
-        Item::Token(token) => write!(line, "{} {slice:?} {start}, ", token.index.index()),
-        Item::Skipped(token) => write!(line, "({} {slice:?} {start}), ", token.index.index()),
-        Item::Fault { .. } => write!(line, "! {slice:?} {start}, "),
+pub(crate) fn add_piece(line: &mut String, piece: &Piece) -> Result<(), AllocError> {
+    let (slice, start) = (piece.slice(), piece.start());
+    match piece {
+        Piece::Token(token) => write!(line, "{} {slice:?} {start}, ", token.index.index()),
+        Piece::Skipped(token) => write!(line, "({} {slice:?} {start}), ", token.index.index()),
+        Piece::Fault { .. } => write!(line, "! {slice:?} {start}, "),
     }
 }
 
 // Pieces up to the end or an error, after which a loop gives nothing more.
-fn add_pieces(items: &mut RuleItems<'_>, line: &mut String) -> Result<(), AllocError> {
+fn add_pieces(pieces: &mut Pieces<'_>, line: &mut String) -> Result<(), AllocError> {
     let mut is_refused = false;
-    for item in items.by_ref() {
-        match item {
+    for piece in pieces.by_ref() {
+        match piece {
             Ok(_) if is_refused => return line.push_str("a piece after an error"),
-            Ok(item) => add_piece(line, &item)?,
+            Ok(piece) => add_piece(line, &piece)?,
             Err(AllocError) => is_refused = true,
         }
     }
     Ok(())
 }
 
-// The pieces that are left after an error, which `next_item` gives, beginning with the one that was refused. A piece has one byte at least.
-fn add_rest(items: &mut RuleItems<'_>, line: &mut String, most: usize) -> Result<(), AllocError> {
+// The pieces that are left after an error, which `next_piece` gives, beginning with the one that was refused. A piece has one byte at least.
+fn add_rest(pieces: &mut Pieces<'_>, line: &mut String, most: usize) -> Result<(), AllocError> {
     for _ in 0..=most {
-        match items.next_item() {
-            Ok(Some(item)) => add_piece(line, &item)?,
+        match pieces.next_piece() {
+            Ok(Some(piece)) => add_piece(line, &piece)?,
             Ok(None) => return Ok(()),
             Err(AllocError) => return Err(AllocError),
         }
@@ -177,9 +177,9 @@ fn pieces<'text>(
     text: &'text str,
 ) -> Result<String, AllocError> {
     let mut line = String::new(alloc);
-    let mut items = lexer.items(alloc, text)?;
-    add_pieces(&mut items, &mut line)?;
-    add_rest(&mut items, &mut line, text.len())?;
+    let mut pieces = lexer.pieces(alloc, text)?;
+    add_pieces(&mut pieces, &mut line)?;
+    add_rest(&mut pieces, &mut line, text.len())?;
     Ok(line)
 }
 
@@ -268,7 +268,7 @@ fn lexer_of(alloc: Global, rows: &str) -> Result<RuleLexer, RulesError> {
     for row in rows.split(" / ") {
         rules.push(rule_of(row))?;
     }
-    RuleLexer::of_one_mode(alloc, &rules)
+    RuleLexer::from_rules(alloc, &rules)
 }
 
 fn asked_if_made(
@@ -312,7 +312,7 @@ pub(crate) fn in_modes(alloc: Global, given: &[u8]) -> Result<String, AllocError
     asked_if_made(
         alloc,
         Asked::Pieces,
-        RuleLexer::from_rules(alloc, &rules, 2),
+        RuleLexer::with_modes(alloc, &rules, &["CODE", "COMMENT"]),
         given,
     )
 }

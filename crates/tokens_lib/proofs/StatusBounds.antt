@@ -27,7 +27,7 @@ use Rattle.lexdfa_lib.specs.declared.command.Language.{Language}
 use Rattle.lexdfa_lib.specs.declared.command.Markup.{Markup}
 use Rattle.pieces_lib.specs.declared.cut_end.CutEnd.{CutEnd}
 use Rattle.pieces_lib.specs.declared.cut_end.CutEnd.TheVariants.{Whole, Stopped, Unread}
-use Rattle.lalrpop_rules.specs.declared.item.Item.{Item}
+use Rattle.lalrpop_rules.specs.declared.piece.Piece.{Piece}
 use Rattle.lexdfa_lib.specs.declared.command.Action.{Action}
 use Rattle.lexdfa_lib.specs.declared.command.Action.TheVariants.{Cut, Show, Clashes, Emit, Picture, Check, Difference}
 use Rattle.lexdfa_lib.specs.declared.command.Command.TheVariants.{Help, Version, Run}
@@ -135,7 +135,7 @@ check_low form file ls modes rs answer (inl (error, (is, (places, (are, (said, (
 check_low form file ls modes rs answer (inr (places, (stand, inl (have, (r, (css, (are, (clashes, e)))))))) = low answer _ e (omega arith)
 check_low form file ls modes rs answer (inr (places, (stand, inr (r, (review, (is, (reviews, e))))))) = low answer _ e (one_low (has_findings review))
 
-cut_low : (set : ModeRules) (modes : List (List ℕ)) (recovers : Bool) (out : List ℕ → List Item → List ℕ) (name : List ℕ) (reading : Reading) (answer : Answer)
+cut_low : (set : ModeRules) (modes : List (List ℕ)) (recovers : Bool) (out : List ℕ → List Piece → List ℕ) (name : List ℕ) (reading : Reading) (answer : Answer)
     → CutAnswer set modes recovers out name reading answer → IsLow answer
 cut_low set modes recovers out name reading answer (xs, (ended, (cut, e))) = low answer _ e (cut_status_low ended)
 

@@ -14,7 +14,7 @@ pub use Rattle.pieces_lib.specs.TextAnswer
 pub use Rattle.pieces_lib.specs.Written
 pub use Rattle.reports_lib.specs.Answer
 pub use Rattle.reports_lib.specs.FileRules
-pub use Rattle.reports_lib.specs.ItemLines
+pub use Rattle.reports_lib.specs.PieceLines
 pub use Rattle.reports_lib.specs.ModePlace
 pub use Rattle.reports_lib.specs.NamedRules
 pub use Rattle.reports_lib.specs.Reasons

@@ -120,9 +120,7 @@ pub(crate) fn emit<F: Files>(
         (λ r _. SourceAnswer language.entry rules.now r) rules.now) }
 {
     match lexer_by_name(alloc, verbosity, files, rules)? {
-        Ok(found) => {
-            source_reply(alloc, rules, &found.lexer.lexer, language)?.after(0, found.said)
-        }
+        Ok(found) => { source_reply(alloc, rules, &found.lexer, language)?.after(0, found.said) }
         Err(reply) => Ok(reply),
     }
 }

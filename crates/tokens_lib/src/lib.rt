@@ -12,7 +12,7 @@ pub use lexdfa_lib::{
     Action, ArgumentsError, Command, Files, Language, Markup, NoBytes, Reader, Sink, Source,
     Verbosity, Watched, command_of,
 };
-pub use pieces_lib::{Console, CutEnd, Found, OpenMode, write_items, write_page};
+pub use pieces_lib::{Console, CutEnd, Found, OpenMode, write_lines, write_page};
 pub use program::{run, run_program};
 pub use reports_lib::{
     Layout, LineForm, ModeFile, Reply, bad_line_message, clash_lines, rules_message, warnings_json,

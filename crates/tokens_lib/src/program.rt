@@ -197,7 +197,7 @@ fn arguments_refused(alloc: Global, error: &ArgumentsError<'_>) -> Result<Reply,
 }
 
 /// Does what the arguments say (`command_of`): writes what was asked of the program itself; cuts the files, or standard input
-/// if none is named, by the file of rules that is named first, and writes the lines of `write_items`, or the markup of each
+/// if none is named, by the file of rules that is named first, and writes the lines of `write_lines`, or the markup of each
 /// text, to `out`; or lists all clashes of the rules (`write_rule_clashes`); or writes the lexer of the rules in C or Rust
 /// (`lalrpop_emit`), or pictures of their automata (`lalrpop_verdicts`). A file `-` is standard input: it is read where it
 /// stands, and a later `-` reads what is left. After a read that failed it isn't read again. A text is read and answered as it

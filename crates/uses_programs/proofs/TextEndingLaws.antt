@@ -23,14 +23,14 @@ use Rattle.bajofeki.proofs.Chunking.{ArePiecesTo, begin_all}
 use Rattle.lalrpop_rule_file.specs.RuleFile.{without_mark}
 use Rattle.lalrpop_rules.specs.Modes.{ModeRules, ArePiecesFrom, after, trees_in}
 use Rattle.lalrpop_rules.specs.Pieces.{AreSame, IsSame, joined, slice_of, start_of}
-use Rattle.lalrpop_rules.specs.declared.item.Item.{Item}
-use Rattle.lalrpop_rules.specs.declared.item.Item.TheVariants.{Token, Skipped, Fault}
+use Rattle.lalrpop_rules.specs.declared.piece.Piece.{Piece}
+use Rattle.lalrpop_rules.specs.declared.piece.Piece.TheVariants.{Token, Skipped, Fault}
 use Rattle.lalrpop_rules.proofs.ModePieces.{pieces-from-unique, same_after}
 use Rattle.lalrpop_rules.proofs.PieceLaws.{is_front, utf8_behind}
 use Rattle.lalrpop_rules.proofs.CallerLaws.{starts_at}
 use Rattle.lexdfa_lib.specs.Streams.{AtEnd, EndsReading, ReadEnd, Reading, Reads, Stream, opened}
 use Rattle.reports_lib.specs.Answer.{Answer}
-use Rattle.reports_lib.specs.ItemLines.{fault_line, line_at, line_in, mode_named, name_at, piece_line, piece_lines}
+use Rattle.reports_lib.specs.PieceLines.{fault_line, line_at, line_in, mode_named, name_at, piece_line, piece_lines}
 use Rattle.lexdfa_lib.specs.declared.layout.LineForm.{LineForm}
 use Rattle.pieces_lib.specs.CutEnds.{AreGiven, IsCutTo, IsFound, IsFoundNext, first_fault}
 use Rattle.pieces_lib.specs.OpenModes.{open_after, open_behind, open_mode}
@@ -45,7 +45,7 @@ use Rattle.uses_programs.specs.Endings.{AreAllPieces, TextEnds, Way, cut_answer,
 
 -- ---- pieces that are the same
 
-same_fault : (xs ys : List Item) → AreSame xs ys → first_fault xs ≡ first_fault ys
+same_fault : (xs ys : List Piece) → AreSame xs ys → first_fault xs ≡ first_fault ys
 same_fault [] [] same = refl
 same_fault (Token a ∷ xs) (Token b ∷ ys) same = same_fault xs ys same.1
 same_fault (Skipped a ∷ xs) (Skipped b ∷ ys) same = same_fault xs ys same.1
@@ -53,7 +53,7 @@ same_fault (Fault at slice ∷ xs) (Fault to piece ∷ ys) same = ap Some same.0
 same_fault (x ∷ xs) (y ∷ ys) same = absurd same.0
 same_fault xs ys same = absurd same
 
-same_opened : (actions : List (List Action)) (x y : Item) (begins : List ℕ) → IsSame x y → open_after actions x begins ≡ open_after actions y begins
+same_opened : (actions : List (List Action)) (x y : Piece) (begins : List ℕ) → IsSame x y → open_after actions x begins ≡ open_after actions y begins
 same_opened actions (Token a) (Token b) begins same =
     ap (λ (i : ℕ). open_after actions (Token (record a { index = i })) begins) same.0 ∙ ap (λ (n : ℕ). open_after actions (Token (record b { start = n })) begins) same.1
 same_opened actions (Skipped a) (Skipped b) begins same =
@@ -61,14 +61,14 @@ same_opened actions (Skipped a) (Skipped b) begins same =
 same_opened actions (Fault at slice) (Fault to piece) begins same = refl
 same_opened actions x y begins same = absurd same
 
-same_open : (actions : List (List Action)) (xs ys : List Item) (begins : List ℕ) → AreSame xs ys → open_behind actions xs begins ≡ open_behind actions ys begins
+same_open : (actions : List (List Action)) (xs ys : List Piece) (begins : List ℕ) → AreSame xs ys → open_behind actions xs begins ≡ open_behind actions ys begins
 same_open actions [] [] begins same = refl
 same_open actions (x ∷ xs) (y ∷ ys) begins same =
     same_open actions xs ys (open_after actions x begins) same.1 ∙ ap (λ (l : List ℕ). open_behind actions ys l) (same_opened actions x y begins same.0)
 same_open actions xs ys begins same = absurd same
 
 module _ (form : LineForm) (recovers : Bool) (file : Option (List ℕ)) (modes : List (List ℕ)) (r : ModeRules) (text : List ℕ) where
-  same_line : (mode : Option (List ℕ)) (x y : Item) → IsSame x y → piece_line form recovers file r.names mode text x ≡ piece_line form recovers file r.names mode text y
+  same_line : (mode : Option (List ℕ)) (x y : Piece) → IsSame x y → piece_line form recovers file r.names mode text x ≡ piece_line form recovers file r.names mode text y
   same_line mode (Token a) (Token b) same =
       let of : ℕ → ℕ → List ℕ → List ℕ = λ i n slice. line_at form file text n (Some (name_at r.names i)) mode slice in
       ap (λ (i : ℕ). of i a.start a.slice.now) same.0 ∙ ap (λ (n : ℕ). of b.index n a.slice.now) same.1 ∙ ap (of b.index b.start) same.2
@@ -77,7 +77,7 @@ module _ (form : LineForm) (recovers : Bool) (file : Option (List ℕ)) (modes :
       let of : ℕ → List ℕ → List ℕ = λ n bytes. fault_line recovers form file text n mode bytes in ap (λ (n : ℕ). of n slice.now) same.0 ∙ ap (of to) same.1
   same_line mode x y same = absurd same
 
-  same_lines : (s : Stack) (xs ys : List Item) → AreSame xs ys → piece_lines form recovers file modes r text s xs ≡ piece_lines form recovers file modes r text s ys
+  same_lines : (s : Stack) (xs ys : List Piece) → AreSame xs ys → piece_lines form recovers file modes r text s xs ≡ piece_lines form recovers file modes r text s ys
   same_lines s [] [] same = refl
   same_lines s (x ∷ xs) (y ∷ ys) same =
       let line = same_line (mode_named modes s.mode) x y same.0 in
@@ -87,7 +87,7 @@ module _ (form : LineForm) (recovers : Bool) (file : Option (List ℕ)) (modes :
   same_lines s xs ys same = absurd same
 
 module _ (form : LineForm) (file : Option (List ℕ)) (modes : List (List ℕ)) (r : ModeRules) (text more : List ℕ) where
-  line_stays : (recovers : Bool) (mode : Option (List ℕ)) (x : Item) → start_of x ≤ length text
+  line_stays : (recovers : Bool) (mode : Option (List ℕ)) (x : Piece) → start_of x ≤ length text
       → piece_line form recovers file r.names mode (text ++ more) x ≡ piece_line form recovers file r.names mode text x
   line_stays recovers mode (Token token) le = ap (λ (p : Position). line_in form file p token.start (Some (name_at r.names token.index)) mode token.slice.now) (place_stays text more token.start le)
   line_stays recovers mode (Skipped token) le = refl
@@ -95,7 +95,7 @@ module _ (form : LineForm) (file : Option (List ℕ)) (modes : List (List ℕ)) 
   line_stays false mode (Fault at slice) le = refl
 
   -- what comes changes no line before a fault that begins in the text
-  lines_stay : (recovers : Bool) (k : ℕ) (s : Stack) (xs ys : List Item) (at : ℕ) (slice : Bor (List ℕ)) (end : Stack) → ArePiecesFrom r (text ++ more) k s (xs ++ Fault at slice ∷ ys) end
+  lines_stay : (recovers : Bool) (k : ℕ) (s : Stack) (xs ys : List Piece) (at : ℕ) (slice : Bor (List ℕ)) (end : Stack) → ArePiecesFrom r (text ++ more) k s (xs ++ Fault at slice ∷ ys) end
       → at ≤ length text → (k ≤ at) × (piece_lines form recovers file modes r (text ++ more) s xs ≡ piece_lines form recovers file modes r text s xs)
   lines_stay recovers k s [] ys at slice end pieces le =
       let here : at ≡ k = pieces.0.0 in (omega (arith, here), refl)
@@ -189,7 +189,7 @@ utf8_of_mark : IsUtf8 mark
 utf8_of_mark = subst IsUtf8 mark_is (IsUtf8-encode 65279 refl)
 
 -- pieces of a text are text
-joined_utf8 : (r : ModeRules) (text : List ℕ) (at : ℕ) (s : Stack) (xs : List Item) (to : ℕ) (t : Stack) → IsUtf8 (drop at text) → ArePiecesTo r text at s xs to t
+joined_utf8 : (r : ModeRules) (text : List ℕ) (at : ℕ) (s : Stack) (xs : List Piece) (to : ℕ) (t : Stack) → IsUtf8 (drop at text) → ArePiecesTo r text at s xs to t
     → IsUtf8 (joined xs)
 joined_utf8 r text at s [] to t utf8 are = IsUtf8-nil
 joined_utf8 r text at s (x ∷ xs) to t utf8 are =
@@ -198,7 +198,7 @@ joined_utf8 r text at s (x ∷ xs) to t utf8 are =
     (joined_utf8 r text (at + length (slice_of x)) (after r.actions x s) xs to t (utf8_behind text at (slice_of x) utf8 front) are.1)
 
 -- what stops in the bytes that were read begins no byte order mark
-module _ (r : ModeRules) (bytes : List ℕ) (xs : List Item) (k : Chunked) (found : Found) (came : Came r bytes xs k) (goes : k.is_ended ≡ false) (some : k.rest ≢ [])
+module _ (r : ModeRules) (bytes : List ℕ) (xs : List Piece) (k : Chunked) (found : Found) (came : Came r bytes xs k) (goes : k.is_ended ≡ false) (some : k.rest ≢ [])
     (next : IsFoundNext k found) where
   may : (more : List ℕ) → k.is_ended ≡ true → more ≡ []
   may more over = absurd (let e : true ≡ false = sym over ∙ goes in cc (e))
@@ -254,13 +254,13 @@ some_read : (all bytes : List ℕ) (left : Option (List ℕ)) → Consumes (Some
 some_read all bytes None read = absurd read
 some_read all bytes (Some ys) read = (ys, (read, λ end. end))
 
-no_fault_behind : (x : Item) (xs : List Item) → first_fault (x ∷ xs) ≡ None → first_fault xs ≡ None
+no_fault_behind : (x : Piece) (xs : List Piece) → first_fault (x ∷ xs) ≡ None → first_fault xs ≡ None
 no_fault_behind (Token token) xs none = none
 no_fault_behind (Skipped token) xs none = none
 no_fault_behind (Fault at slice) xs none = absurd (cc (none))
 
 -- pieces without a fault, after which one stands, are those before the first fault
-first_there : (xs ys zs : List Item) (at to : ℕ) (slice piece : Bor (List ℕ)) → first_fault xs ≡ None → first_fault zs ≡ None → AreSame zs (take (length zs) (xs ++ Fault at slice ∷ ys))
+first_there : (xs ys zs : List Piece) (at to : ℕ) (slice piece : Bor (List ℕ)) → first_fault xs ≡ None → first_fault zs ≡ None → AreSame zs (take (length zs) (xs ++ Fault at slice ∷ ys))
     → slice_get (xs ++ Fault at slice ∷ ys) (length zs) ≡ Some (Fault to piece) → AreSame zs xs × (at ≡ to)
 first_there [] ys [] at to slice piece none its same is = (tt, cc (is))
 first_there (Token token ∷ xs) ys [] at to slice piece none its same is = absurd (cc (is))
@@ -276,7 +276,7 @@ empty_back : (front back : List ℕ) → front ++ back ≡ [] → (front ≡ [])
 empty_back [] back none = (refl, none)
 empty_back (x ∷ front) back none = absurd (cc (none))
 
-fault_at : (ys : List Item) (k at : ℕ) (slice : Bor (List ℕ)) → slice_get ys k ≡ Some (Fault at slice) → first_fault ys ≢ None
+fault_at : (ys : List Piece) (k at : ℕ) (slice : Bor (List ℕ)) → slice_get ys k ≡ Some (Fault at slice) → first_fault ys ≢ None
 fault_at [] k at slice is none = absurd (cc (is))
 fault_at (Fault to piece ∷ ys) k at slice is none = cc (none)
 fault_at (Token token ∷ ys) zero at slice is none = absurd (cc (is))
@@ -284,7 +284,7 @@ fault_at (Token token ∷ ys) (suc k) at slice is none = fault_at ys k at slice 
 fault_at (Skipped token ∷ ys) zero at slice is none = absurd (cc (is))
 fault_at (Skipped token ∷ ys) (suc k) at slice is none = fault_at ys k at slice is none
 
-fault_among : (xs ys : List Item) (at : ℕ) (slice : Bor (List ℕ)) → first_fault (xs ++ Fault at slice ∷ ys) ≢ None
+fault_among : (xs ys : List Piece) (at : ℕ) (slice : Bor (List ℕ)) → first_fault (xs ++ Fault at slice ∷ ys) ≢ None
 fault_among [] ys at slice none = cc (none)
 fault_among (x ∷ xs) ys at slice none = fault_among xs ys at slice (no_fault_behind x (xs ++ Fault at slice ∷ ys) none)
 
@@ -299,13 +299,13 @@ abbrev pub CutsMemory : List ℕ → Way → ModeRules → List (List ℕ) → A
 CutsMemory text way r modes answer =
     (left : Stream) × ((reading : Reading) × (Reads (opened (Some text) false) left reading × PiecesAnswer r modes way.form way.recovers way.several way.file reading answer))
 
-clean_end : (r : ModeRules) (modes : List (List ℕ)) (way : Way) (text : List ℕ) (xs : List Item) (end : Stack) → first_fault xs ≡ None → open_behind r.actions xs [] ≡ []
+clean_end : (r : ModeRules) (modes : List (List ℕ)) (way : Way) (text : List ℕ) (xs : List Piece) (end : Stack) → first_fault xs ≡ None → open_behind r.actions xs [] ≡ []
     → cut_answer r modes way (without_mark text) xs (whole_end r text xs end) ≡ cut_answer r modes way (without_mark text) xs (Whole false None)
 clean_end r modes way text xs end no_fault closed =
     let of : Option ℕ → List ℕ → Answer = λ o l. cut_answer r modes way (without_mark text) xs (Whole (is_some o) (open_mode (without_mark text) end.mode l)) in
     ap (λ (o : Option ℕ). of o (open_behind r.actions xs [])) no_fault ∙ ap (of None) closed
 
-module _ (r : ModeRules) (modes : List (List ℕ)) (way : Way) (text : List ℕ) (left : Stream) (reading : Reading) (xs : List Item)
+module _ (r : ModeRules) (modes : List (List ℕ)) (way : Way) (text : List ℕ) (left : Stream) (reading : Reading) (xs : List Piece)
     (reads : Reads (opened (Some text) false) left reading) where
   abbrev front : List ℕ
   front = without_mark reading.bytes
@@ -323,7 +323,7 @@ module _ (r : ModeRules) (modes : List (List ℕ)) (way : Way) (text : List ℕ)
   whole_text ends = ap without_mark (unread.1.0 ∙ ap (λ (l : List ℕ). reading.bytes ++ l) (unread.1.1 ends) ∙ append-nil reading.bytes)
 
   -- by all its pieces, where it is cut whole
-  is_whole : (has : Bool) (inside : Option OpenMode) → IsCutTo r way.recovers reading front xs (Whole has inside) → (ys : List Item) (end : Stack) → AreAllPieces r text ys end
+  is_whole : (has : Bool) (inside : Option OpenMode) → IsCutTo r way.recovers reading front xs (Whole has inside) → (ys : List Piece) (end : Stack) → AreAllPieces r text ys end
       → (has ≡ is_some (first_fault ys)) × (cut_answer r modes way front xs (Whole has inside) ≡ cut_answer r modes way (without_mark text) ys (whole_end r text ys end))
   is_whole has inside (ends, (last, (pieces, (has_is, (past, inside_is))))) ys end all =
       let own = whole_text ends in
@@ -360,12 +360,12 @@ module _ (r : ModeRules) (modes : List (List ℕ)) (way : Way) (text : List ℕ)
             (λ not_so. ap (λ (b : Bool). cond b (drop 3 reading.bytes) reading.bytes) not_so) in
             begins_no_mark r reading.bytes xs k found (subst (λ (t : List ℕ). Came r t xs k) plain given.came) goes begin.0 next tail whole short
 
-    fault_there : (ys : List Item) (end : Stack) → AreAllPieces r text ys end → (slice : Bor (List ℕ)) × (slice_get ys (length xs) ≡ Some (Fault k.at slice))
+    fault_there : (ys : List Piece) (end : Stack) → AreAllPieces r text ys end → (slice : Bor (List ℕ)) × (slice_get ys (length xs) ≡ Some (Fault k.at slice))
     fault_there ys end all =
         fault_follows r front xs k given.came begin more may_come ys end (subst (λ (t : List ℕ). ArePiecesFrom r t 0 start ys end) goes_on all)
 
     -- which is the first one
-    stops_at : (stops : way.recovers ≡ false) (ys zs : List Item) (at : ℕ) (slice : Bor (List ℕ)) (other : Found) (end : Stack)
+    stops_at : (stops : way.recovers ≡ false) (ys zs : List Piece) (at : ℕ) (slice : Bor (List ℕ)) (other : Found) (end : Stack)
         → AreAllPieces r text (ys ++ Fault at slice ∷ zs) end → first_fault ys ≡ None → IsFound (drop at (without_mark text)) other
         → cut_answer r modes way front xs (Stopped (byte_place_of front k.at) found)
         ≡ cut_answer r modes way (without_mark text) ys (Stopped (byte_place_of (without_mark text) at) other)
@@ -400,7 +400,7 @@ module _ (r : ModeRules) (modes : List (List ℕ)) (way : Way) (text : List ℕ)
         absurd (fault_among ys zs at slice (none_found (first_fault (ys ++ Fault at slice ∷ zs)) (sym found ∙ cut.1.1.1.1.0 stops)));
   }
   ends_of own (Stopped place found) (stops, (k, (given, (begin, (place_is, next))))) is =
-      let fails : (ys : List Item) (end : Stack) → AreAllPieces r text ys end → first_fault ys ≢ None = λ ys end all.
+      let fails : (ys : List Piece) (end : Stack) → AreAllPieces r text ys end → first_fault ys ≢ None = λ ys end all.
       let fault = fault_there k found given begin next ys end all in fault_at ys (length xs) k.at fault.0 fault.1 in
       let own_is : own ≡ cut_answer r modes way front xs (Stopped (byte_place_of front k.at) found) =
       is ∙ ap (λ (p : Position). cut_answer r modes way front xs (Stopped p found)) place_is in record {

@@ -15,8 +15,8 @@ use Rattle.lalrpop_rules.specs.ModeSet.{IsRulesError, rules_of}
 use Rattle.lalrpop_rules.specs.Modes.{ModeRules, ArePiecesFrom}
 use Rattle.lalrpop_rules.specs.declared.error.RulesError.{RulesError}
 use Rattle.lalrpop_rules.specs.declared.error.RulesError.TheVariants as errors
-use Rattle.lalrpop_rules.specs.declared.item.Item.{Item}
-use Rattle.lalrpop_rules.specs.declared.item.Item.TheVariants.{Fault}
+use Rattle.lalrpop_rules.specs.declared.piece.Piece.{Piece}
+use Rattle.lalrpop_rules.specs.declared.piece.Piece.TheVariants.{Fault}
 use Rattle.reports_lib.specs.Answer.{Answer, followed, headed, refusal}
 use Rattle.reports_lib.specs.Reasons.{SaysRules, placed, syntax_text}
 use Rattle.lexdfa_lib.specs.declared.layout.LineForm.{LineForm}
@@ -87,15 +87,15 @@ pub record Way : Type 0 where
   pub file : List ℕ
 
 -- these are all pieces of the text
-abbrev pub AreAllPieces : ModeRules → List ℕ → List Item → Stack → Type 0
+abbrev pub AreAllPieces : ModeRules → List ℕ → List Piece → Stack → Type 0
 AreAllPieces r text xs end = ArePiecesFrom r (without_mark text) 0 start xs end
 
 -- how a text ends that is cut whole: whether it has a fault, and where the mode at its end was entered, if it has one below it
-abbrev pub whole_end : ModeRules → List ℕ → List Item → Stack → CutEnd
+abbrev pub whole_end : ModeRules → List ℕ → List Piece → Stack → CutEnd
 whole_end r text xs end = Whole (is_some (first_fault xs)) (open_mode (without_mark text) end.mode (open_behind r.actions xs []))
 
 -- the lines of pieces, and what is said of the end
-abbrev pub cut_answer : ModeRules → List (List ℕ) → Way → List ℕ → List Item → CutEnd → Answer
+abbrev pub cut_answer : ModeRules → List (List ℕ) → Way → List ℕ → List Piece → CutEnd → Answer
 cut_answer r modes way text xs ended = record {
   status = cut_status ended;
   out = lines_of r modes way.form way.recovers way.several way.file text xs;
@@ -105,13 +105,13 @@ cut_answer r modes way text xs ended = record {
 -- what the text is tells the answer
 pub record TextEnds (r : ModeRules) (modes : List (List ℕ)) (way : Way) (text : List ℕ) (answer : Answer) : Type 0 where
   -- no fault, and no mode below the one at the end: all lines are written, and nothing is said
-  pub clean : (xs : List Item) (end : Stack) → AreAllPieces r text xs end → first_fault xs ≡ None → open_behind r.actions xs [] ≡ []
+  pub clean : (xs : List Piece) (end : Stack) → AreAllPieces r text xs end → first_fault xs ≡ None → open_behind r.actions xs [] ≡ []
       → answer ≡ record { status = 0; out = lines_of r modes way.form way.recovers way.several way.file (without_mark text) xs; err = [] }
   -- no fault, or --recover: all lines are written, and an open mode is said; a fault or an open mode makes the status 1
-  pub whole : (xs : List Item) (end : Stack) → AreAllPieces r text xs end → (way.recovers ≡ false → first_fault xs ≡ None)
+  pub whole : (xs : List Piece) (end : Stack) → AreAllPieces r text xs end → (way.recovers ≡ false → first_fault xs ≡ None)
       → answer ≡ cut_answer r modes way (without_mark text) xs (whole_end r text xs end)
   -- without --recover cutting stops at the first fault: the lines before it are written, and its place is said, with what is found there
-  pub faulty : (xs ys : List Item) (at : ℕ) (slice : Bor (List ℕ)) (found : Found) (end : Stack) → AreAllPieces r text (xs ++ Fault at slice ∷ ys) end
+  pub faulty : (xs ys : List Piece) (at : ℕ) (slice : Bor (List ℕ)) (found : Found) (end : Stack) → AreAllPieces r text (xs ++ Fault at slice ∷ ys) end
       → first_fault xs ≡ None → IsFound (drop at (without_mark text)) found → way.recovers ≡ false → answer ≡ record {
         status = 1;
         out = lines_of r modes way.form way.recovers way.several way.file (without_mark text) xs;

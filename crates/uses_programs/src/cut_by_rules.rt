@@ -4,7 +4,7 @@ ghost use Rattle.lalrpop_rules.specs.ModeSet.{rules_of};
 ghost use Rattle.lalrpop_rules.specs.RuleSet.{names_of};
 ghost use Rattle.lexdfa_lib.specs.Streams.{Reading, Reads, Stream, opened};
 ghost use Rattle.pieces_lib.specs.Console.{Console as ConsoleValue};
-ghost use Rattle.tokens_lib.specs.ItemLines.{item_lines};
+ghost use Rattle.tokens_lib.specs.PieceLines.{layout_lines};
 ghost use Rattle.tokens_lib.specs.RuleClashes.{clash_lines as lines_of_clashes};
 ghost use Rattle.pieces_lib.specs.TextAnswer.{page_of};
 ghost use Rattle.pieces_lib.specs.Written.{WritesCut, WritesCutPart};
@@ -14,11 +14,11 @@ use lalrpop_rules::{ModeRule, RuleLexer};
 use lexdfa_lib::RunError;
 use std::alloc::{AllocError, Global};
 use tokens_lib::{
-    Console, CutEnd, Layout, Markup, Reader, Sink, Source, clash_lines, write_items, write_page,
+    Console, CutEnd, Layout, Markup, Reader, Sink, Source, clash_lines, write_lines, write_page,
 };
 
 // The lines of two texts, one after the other, and how cutting each ends.
-// Needs tokens_lib::write_items: written.
+// Needs tokens_lib::write_lines: written.
 pub fn both_texts<S: Source, O: Sink, E: Sink>(
     alloc: Global,
     lexer: &RuleLexer,
@@ -30,18 +30,18 @@ pub fn both_texts<S: Source, O: Sink, E: Sink>(
     ensures written { IfOk result (λ both. (between : ConsoleValue)
         × ((one : Reading) × ((two : Reading)
         × (Reads first.old first.new one × (Reads second.old second.new two
-        × (WritesCut lexer.now layout.now.recovers (item_lines layout.now lexer.now) one
+        × (WritesCut lexer.now layout.now.recovers (layout_lines layout.now lexer.now) one
         console.old between both.0
-        × WritesCut lexer.now layout.now.recovers (item_lines layout.now lexer.now) two
+        × WritesCut lexer.now layout.now.recovers (layout_lines layout.now lexer.now) two
         between console.new both.1)))))) }
 {
-    let one = write_items(alloc, lexer, layout, first, console)?;
-    let two = write_items(alloc, lexer, layout, second, console)?;
+    let one = write_lines(alloc, lexer, layout, first, console)?;
+    let two = write_lines(alloc, lexer, layout, second, console)?;
     Ok((one, two))
 }
 
 // Whether writing lines into memory fails: only for want of memory.
-// Needs tokens_lib::write_items: part.
+// Needs tokens_lib::write_lines: part.
 pub fn fails_for_memory(
     alloc: Global,
     lexer: &RuleLexer,
@@ -52,7 +52,7 @@ pub fn fails_for_memory(
 {
     let mut reader = Reader::new(text);
     let mut console = Console::new(Vec::new(alloc), Vec::new(alloc));
-    write_items(alloc, lexer, layout, &mut reader, &mut console)
+    write_lines(alloc, lexer, layout, &mut reader, &mut console)
 }
 
 // The page of a text, and how cutting ends.

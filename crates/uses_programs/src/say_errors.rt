@@ -5,7 +5,7 @@ ghost use Rattle.lalrpop_rule_file.specs.FileModes.{Said};
 ghost use Rattle.lalrpop_rule_file.specs.RuleFile.{LinesSay, without_mark};
 ghost use Rattle.lalrpop_rule_file.specs.declared.warning.Warning.TheVariants.{ModeNotEntered};
 ghost use Rattle.tokens_lib.specs.ModePlace.{section_place};
-ghost use Rattle.tokens_lib.specs.ItemLines.{object_line};
+ghost use Rattle.tokens_lib.specs.PieceLines.{object_line};
 ghost use Rattle.tokens_lib.specs.Warned.{AreWarnings, warning_members};
 
 use std::alloc::{AllocError, Global};

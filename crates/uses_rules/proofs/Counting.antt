@@ -7,7 +7,7 @@ use Rattle.std.proofs.iter.Next.{Yields-more}
 use Rattle.std.proofs.lemmas.List.{map-append}
 use Rattle.std.proofs.lemmas.Str.{encodes-chars, length-le-encodes}
 
--- one item more
+-- one piece more
 pub item_more : {S A : Type 0} (gives : S → Option A → S → Type 0) (s r t u : S) (xs : List A) (o : Option A) (x : A) → r ≡ s → Yields gives r xs t → o ≡ Some x
     → gives t o u → Yields gives s (xs ++ x ∷ []) u
 item_more {S} {A} gives s r t u xs o x same y is g =

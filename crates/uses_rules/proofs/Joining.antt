@@ -4,9 +4,9 @@ use Rattle.std.specs.Prelude.{Option, Some, None, slice_get}
 use Rattle.std.specs.Borrow.{Bor}
 use Rattle.std.proofs.lemmas.List.{append-nil}
 use Rattle.lalrpop_rules.specs.Pieces.{AreSame, joined, slice_of}
-use Rattle.lalrpop_rules.specs.declared.item.Item.{Item}
-use Rattle.lalrpop_rules.specs.declared.item.Item.TheVariants.{Fault}
-use Rattle.bajofeki.specs.Given.{item_by, item_of}
+use Rattle.lalrpop_rules.specs.declared.piece.Piece.{Piece}
+use Rattle.lalrpop_rules.specs.declared.piece.Piece.TheVariants.{Fault}
+use Rattle.bajofeki.specs.Given.{item_by, piece_of}
 use Rattle.bajofeki.specs.declared.given_piece.GivenPiece.{GivenPiece}
 use Rattle.lalrpop_rules.proofs.UniquePieces.{same_slice}
 use Rattle.bajofeki_rules.specs.Stack.{Stack, start}
@@ -19,16 +19,16 @@ slice_by None skipped at slice = refl
 slice_by (Some i) true at slice = refl
 slice_by (Some i) false at slice = refl
 
-joined_more : (xs : List Item) (x : Item) → joined (xs ++ x ∷ []) ≡ joined xs ++ slice_of x
+joined_more : (xs : List Piece) (x : Piece) → joined (xs ++ x ∷ []) ≡ joined xs ++ slice_of x
 joined_more [] x = append-nil (slice_of x)
 joined_more (y ∷ xs) x = ap (λ (t : List ℕ). slice_of y ++ t) (joined_more xs x) ∙ sym (append_assoc (slice_of y) (joined xs) (slice_of x))
 
 -- one piece more, by its slice
-pub bytes_on : (xs : List Item) (p : GivenPiece) (slice : Bor (List ℕ)) (old new : List ℕ) → old ≡ joined xs → new ≡ old ++ slice.now
-    → new ≡ joined (xs ++ item_of p slice ∷ [])
+pub bytes_on : (xs : List Piece) (p : GivenPiece) (slice : Bor (List ℕ)) (old new : List ℕ) → old ≡ joined xs → new ≡ old ++ slice.now
+    → new ≡ joined (xs ++ piece_of p slice ∷ [])
 bytes_on xs p slice old new so_far is =
     is ∙ ap (λ (t : List ℕ). t ++ slice.now) so_far
-    ∙ ap (λ (t : List ℕ). joined xs ++ t) (sym (slice_by p.rule p.is_skipped p.start slice)) ∙ sym (joined_more xs (item_of p slice))
+    ∙ ap (λ (t : List ℕ). joined xs ++ t) (sym (slice_by p.rule p.is_skipped p.start slice)) ∙ sym (joined_more xs (piece_of p slice))
 
 -- the first chunk
 module _ (r : ModeRules) (c d : Chunked) (front : List ℕ) (none : c ≡ nothing_come r) (fed : d ≡ record c { last = []; rest = c.rest ++ front }) where
@@ -39,7 +39,7 @@ module _ (r : ModeRules) (c d : Chunked) (front : List ℕ) (none : c ≡ nothin
   came_front = came_more r [] [] c d (came_nothing r c none) front (ap (λ (e : Chunked). e.is_ended) none) fed
 
 -- all that was given, once the text has ended and none is held back
-pub whole_of : (r : ModeRules) (text bytes : List ℕ) (xs : List Item) (c : Chunked) → Came r text xs c → c.is_ended ≡ true → IsHeldBack c → bytes ≡ joined xs
+pub whole_of : (r : ModeRules) (text bytes : List ℕ) (xs : List Piece) (c : Chunked) → Came r text xs c → c.is_ended ≡ true → IsHeldBack c → bytes ≡ joined xs
     → (bytes ≡ text) × ArePiecesFrom r text 0 start xs c.stack
 whole_of r text bytes xs c came over held is =
     let none : c.rest ≡ [] = held.0 over in
@@ -48,7 +48,7 @@ whole_of r text bytes xs c came over held is =
       came_pieces r text xs c came over none,
     )
 
-pub same_joined : (xs ys : List Item) → AreSame xs ys → joined xs ≡ joined ys
+pub same_joined : (xs ys : List Piece) → AreSame xs ys → joined xs ≡ joined ys
 same_joined [] [] are = refl
 same_joined [] (y ∷ ys) are = absurd are
 same_joined (x ∷ xs) [] are = absurd are
@@ -56,8 +56,8 @@ same_joined (x ∷ xs) (y ∷ ys) are =
     ap (λ (p : List ℕ). p ++ joined xs) (same_slice x y are.0) ∙ ap (λ (t : List ℕ). slice_of y ++ t) (same_joined xs ys are.1)
 
 -- a fault that begins after what was given is there in the whole text
-pub fault_at : (r : ModeRules) (text bytes : List ℕ) (xs : List Item) (c : Chunked) (at : ℕ) → Came r text xs c → c.is_ended ≡ false → BeginsFault c → bytes ≡ joined xs
-    → at ≡ length bytes → (back : List ℕ) (ys : List Item) (end : Stack) → ArePiecesFrom r (text ++ back) 0 start ys end
+pub fault_at : (r : ModeRules) (text bytes : List ℕ) (xs : List Piece) (c : Chunked) (at : ℕ) → Came r text xs c → c.is_ended ≡ false → BeginsFault c → bytes ≡ joined xs
+    → at ≡ length bytes → (back : List ℕ) (ys : List Piece) (end : Stack) → ArePiecesFrom r (text ++ back) 0 start ys end
     → (n : ℕ) × ((slice : Bor (List ℕ)) × (slice_get ys n ≡ Some (Fault at slice)))
 fault_at r text bytes xs c at came goes begins so_far size back ys end all =
     let fault = fault_follows r text xs c came begins back (λ over. absurd (no_bool (sym goes ∙ over))) ys end all in

@@ -13,7 +13,7 @@ ghost use Rattle.lalrpop_emit.specs.NumberedRules.{AreNumbersOf, AreSameInFile, 
 ghost use Rattle.lalrpop_emit.specs.declared.numbered_piece.NumberedPiece.{NumberedPiece};
 ghost use Rattle.lalrpop_rules.specs.Modes.{ArePiecesFrom, ModeRules};
 ghost use Rattle.bajofeki_rules.specs.Stack.{Stack, start};
-ghost use Rattle.lalrpop_rules.specs.declared.item.Item.{Item};
+ghost use Rattle.lalrpop_rules.specs.declared.piece.Piece.{Piece};
 
 use lalrpop_emit::{
     ByteCutter, BytePieces, BytePosition, EmitError, LexerNumbers, NumberedPiece, TooDeep,
@@ -22,7 +22,7 @@ use lalrpop_emit::{
 use lalrpop_rules::RuleLexer;
 use std::alloc::{AllocError, Global};
 
-// Needs lalrpop_emit::LexerNumbers::new: numbers, exact; lalrpop_emit::LexerNumbers::pieces: items, whole.
+// Needs lalrpop_emit::LexerNumbers::new: numbers, exact; lalrpop_emit::LexerNumbers::pieces: of_rules, whole.
 /// The pieces of a text by the numbers of a lexer. If there are all, they are those of the text by the rules. There are none if the
 /// automaton of some mode is too large for a table.
 pub fn pieces_by_numbers(
@@ -30,9 +30,9 @@ pub fn pieces_by_numbers(
     rules: &RuleLexer,
     text: &str,
 ) -> Result<BytePieces, EmitError>
-    ensures same { IfOk result (λ all. all.is_whole ≡ true → (items : List Item) (end : Stack)
-        → ArePiecesFrom rules.now text.now 0 start items end
-        → all.pieces.items ≡ map (numbered (kinds_of rules.now.names)) items) }
+    ensures same { IfOk result (λ all. all.is_whole ≡ true → (xs : List Piece) (end : Stack)
+        → ArePiecesFrom rules.now text.now 0 start xs end
+        → all.pieces.items ≡ map (numbered (kinds_of rules.now.names)) xs) }
     ensures small { OnOk result (¬ HasTooLarge rules.now) }
 {
     let numbers = LexerNumbers::new(alloc, rules)?;

@@ -1,5 +1,5 @@
 //! A text is cut by rules, with modes or without.
-ghost use Rattle.std.specs.Prelude.{◌≡◌, ◌≤◌, ◌<◌, ◌+◌, ◌*◌, ◌++◌, [], ℕ, List, Bool, length, Option, true, IfOk, IfErr, IfSome, option_map, slice_get};
+ghost use Rattle.std.specs.Prelude.{◌≡◌, ◌≤◌, ◌<◌, ◌+◌, ◌*◌, ◌++◌, [], ℕ, List, Bool, length, map, Option, Some, true, IfOk, IfErr, IfSome, option_map, slice_get};
 ghost use Rattle.std.specs.Str.{chars};
 ghost use Rattle.lalrpop_lexer.specs.Rules.{Rules};
 ghost use Rattle.bajofeki_rules.specs.EnteredModes.{OneLeadsInto};
@@ -11,13 +11,13 @@ ghost use Rattle.lalrpop_rules.specs.ModeSet.{AreInOneMode, AreModeRules, IsRule
 ghost use Rattle.lalrpop_rules.specs.Modes.{ArePiecesFrom, ModeRules, NoModeClash};
 ghost use Rattle.lalrpop_rules.specs.Pieces.{AreApart, IsPiece, joined};
 ghost use Rattle.lalrpop_rules.specs.RuleSet.{names_of};
-ghost use Rattle.lalrpop_rules.specs.declared.item.Item.{Item as ItemValue};
+ghost use Rattle.lalrpop_rules.specs.declared.piece.Piece.{Piece as PieceValue};
 
 use lalrpop_lexer::lexer::dfa::NfaIndex;
-use lalrpop_rules::{Action, Item, ModeRule, Rule, RuleItems, RuleLexer, RulesError, mode_clashes};
+use lalrpop_rules::{Action, ModeRule, Piece, Pieces, Rule, RuleLexer, RulesError, mode_clashes};
 use std::alloc::{AllocError, Global};
 
-// Needs lalrpop_rules::RuleLexer::of_one_mode: rules, no_clash, error.
+// Needs lalrpop_rules::RuleLexer::from_rules: rules, no_clash, error.
 /// The lexer of rules without modes. It has one mode, and no rule clashes with another.
 ///
 /// # Errors
@@ -30,12 +30,12 @@ pub fn lexer_of(alloc: Global, rules: &[Rule]) -> Result<RuleLexer, RulesError>
     ensures error { IfErr result (λ e. (qs : List RuleValue)
         × (AreInOneMode rules.now qs × IsRulesError qs 1 e)) }
 {
-    RuleLexer::of_one_mode(alloc, rules)
+    RuleLexer::from_rules(alloc, rules)
 }
 
-// Needs lalrpop_rules::RuleLexer::items: start.
-// Needs lalrpop_rules::RuleItems::next_item: gives.
-// Needs lalrpop_rules::RuleItems::stack: stack.
+// Needs lalrpop_rules::RuleLexer::pieces: start.
+// Needs lalrpop_rules::Pieces::next_piece: gives.
+// Needs lalrpop_rules::Pieces::stack: stack.
 /// The mode in which a text is read after its first piece.
 ///
 /// # Errors
@@ -46,23 +46,23 @@ pub fn mode_after_the_first<'text>(
     alloc: Global,
     text: &'text str,
 ) -> Result<usize, AllocError>
-    ensures mode { IfOk result (λ mode. (most : ℕ) × ((item : Option ItemValue) × ((cut : ModeCut)
-        × (GivesModePiece (uncut lexer.now text.now most) item cut
+    ensures mode { IfOk result (λ mode. (most : ℕ) × ((piece : Option PieceValue) × ((cut : ModeCut)
+        × (GivesModePiece (uncut lexer.now text.now most) piece cut
         × (mode ≡ cut.stack.mode))))) }
 {
-    match lexer.items(alloc, text) {
-        Ok(mut items) => match items.next_item() {
-            Ok(_) => Ok(items.stack().top()),
+    match lexer.pieces(alloc, text) {
+        Ok(mut pieces) => match pieces.next_piece() {
+            Ok(_) => Ok(pieces.stack().top()),
             Err(error) => Err(error),
         },
         Err(error) => Err(error),
     }
 }
 
-// Needs lalrpop_rules::RuleLexer::items: parts.
-// Needs lalrpop_rules::RuleItems::next_item: gives.
-// Needs lalrpop_rules::RuleItems::rest: rest.
-// Needs lalrpop_rules::Item::slice: slice.
+// Needs lalrpop_rules::RuleLexer::pieces: parts.
+// Needs lalrpop_rules::Pieces::next_piece: gives.
+// Needs lalrpop_rules::Pieces::rest: rest.
+// Needs lalrpop_rules::Piece::slice: slice.
 /// The first piece's slice and what follows it.
 ///
 /// # Errors
@@ -75,24 +75,24 @@ pub fn cut_once<'text>(
 ) -> Result<Option<(&'text str, &'text str)>, AllocError>
     ensures parts { IfOk result (λ found. IfSome found (λ m. text.now ≡ m.0.now ++ m.1.now)) }
 {
-    let mut items = lexer.items(alloc, text)?;
-    match items.next_item() {
-        Ok(Some(item)) => Ok(Some((item.slice(), items.rest()))),
+    let mut pieces = lexer.pieces(alloc, text)?;
+    match pieces.next_piece() {
+        Ok(Some(piece)) => Ok(Some((piece.slice(), pieces.rest()))),
         Ok(None) => Ok(None),
         Err(error) => Err(error),
     }
 }
 
-// Needs lalrpop_rules::Item::start: start.
+// Needs lalrpop_rules::Piece::start: start.
 /// The place of a piece is the one at which it was cut.
-pub fn place(piece: &Item) -> usize
+pub fn place(piece: &Piece) -> usize
     ensures at { (lexer : Rules) (skips : List Bool) (text : List ℕ) (at : ℕ)
         → IsPiece lexer.trees lexer.precedences skips text at piece.now → result ≡ at }
 {
     piece.start()
 }
 
-// Needs lalrpop_rules::RuleLexer::items: start, cost, exist, no_clash.
+// Needs lalrpop_rules::RuleLexer::pieces: start, cost, exist, no_clash.
 /// The text before its first piece. All steps that are counted are within the bound for the whole text. Any text has pieces, whether
 /// there is memory for them or not, and no rule clashes with another.
 ///
@@ -103,24 +103,24 @@ pub fn begin<'text>(
     lexer: &'text RuleLexer,
     alloc: Global,
     text: &'text str,
-) -> Result<RuleItems<'text>, AllocError>
+) -> Result<Pieces<'text>, AllocError>
     ensures rules { IfOk result (λ s. s.rules ≡ lexer.now) }
     ensures cost { IfOk result (λ s. s.steps ≤ 65 * length (chars text.now)
         + (lexer.now.modes * (length (chars text.now) + length text.now)
         + open_in_all lexer.now * (length text.now + 64))) }
-    ensures exist { (xs : List ItemValue) × ((end : Stack)
+    ensures exist { (xs : List PieceValue) × ((end : Stack)
         × ArePiecesFrom lexer.now text.now 0 start xs end) }
     ensures no_clash { NoModeClash lexer.now }
 {
-    lexer.items(alloc, text)
+    lexer.pieces(alloc, text)
 }
 
-// Needs lalrpop_rules::RuleItems::next_item: refused.
+// Needs lalrpop_rules::Pieces::next_piece: refused.
 /// Whether the next piece was refused memory. Then the text is as it was, and the piece can be asked for again.
-pub fn was_refused(items: &mut RuleItems<'_>) -> bool
-    ensures same { result ≡ true → items.new ≡ items.old }
+pub fn was_refused(pieces: &mut Pieces<'_>) -> bool
+    ensures same { result ≡ true → pieces.new ≡ pieces.old }
 {
-    items.next_item().is_err()
+    pieces.next_piece().is_err()
 }
 
 // Needs lalrpop_rules::RuleLexer::modes: count, some, within.
@@ -152,8 +152,8 @@ pub fn what_it_does(lexer: &RuleLexer, index: NfaIndex) -> (Option<&str>, &[Acti
     (lexer.name(index), lexer.actions(index))
 }
 
-// Needs lalrpop_rules::RuleLexer::items: items, whole, apart, next, count.
-// Needs lalrpop_rules::RuleItems::next: ghost next_gives, ghost remaining.
+// Needs lalrpop_rules::RuleLexer::pieces: pieces, whole, apart, next, count.
+// Needs lalrpop_rules::Pieces::next: ghost next_gives, ghost remaining.
 /// How many pieces a text is.
 ///
 /// # Errors
@@ -164,13 +164,13 @@ pub fn piece_count<'text>(
     alloc: Global,
     text: &'text str,
 ) -> Result<usize, AllocError>
-    ensures all { IfOk result (λ n. (xs : List ItemValue) × ((end : Stack)
+    ensures all { IfOk result (λ n. (xs : List PieceValue) × ((end : Stack)
         × (ArePiecesFrom lexer.now text.now 0 start xs end
         × (joined xs ≡ text.now) × AreApart xs × (n ≡ length xs)))) }
 {
     let mut count = 0;
-    for item in lexer.items(alloc, text)? {
-        match item {
+    for piece in lexer.pieces(alloc, text)? {
+        match piece {
             Ok(_) => count += 1,
             Err(error) => return Err(error),
         }
@@ -178,19 +178,33 @@ pub fn piece_count<'text>(
     Ok(count)
 }
 
-// Needs lalrpop_rules::RuleLexer::from_rules: rules, no_clash, error.
-/// The lexer of rules, none of which clashes with another in a mode. It has as many modes as were asked for.
+// Needs lalrpop_rules::RuleLexer::with_modes: rules, modes, no_clash, error.
+/// The lexer of rules, none of which clashes with another in a mode. It has the modes that were asked for.
 ///
 /// # Errors
 ///
 /// What is wrong with the rules.
-pub fn clear_lexer(alloc: Global, rules: &[ModeRule], modes: usize) -> Result<RuleLexer, RulesError>
-    requires some { 0 < modes }
-    ensures count { IfOk result (λ lexer. lexer.modes ≡ modes) }
+pub fn clear_lexer(
+    alloc: Global,
+    rules: &[ModeRule],
+    modes: &[&str],
+) -> Result<RuleLexer, RulesError>
+    requires some { 0 < length modes.now }
+    ensures count { IfOk result (λ lexer. lexer.modes ≡ length modes.now) }
+    ensures names { IfOk result (λ lexer. lexer.mode_names ≡ map (λ m. m.now) modes.now) }
     ensures no_clash { IfOk result NoModeClash }
-    ensures error { IfErr result (IsRulesError rules.now modes) }
+    ensures error { IfErr result (IsRulesError rules.now (length modes.now)) }
 {
-    RuleLexer::from_rules(alloc, rules, modes)
+    RuleLexer::with_modes(alloc, rules, modes)
+}
+
+// Needs lalrpop_rules::RuleLexer::mode_names: names, count.
+/// The name of a mode.
+pub fn name_of_mode(lexer: &RuleLexer, mode: usize) -> &str
+    requires there { mode < lexer.now.modes }
+    ensures name { slice_get lexer.now.mode_names mode ≡ Some result.now }
+{
+    lexer.mode_names()[mode].as_str()
 }
 
 // Needs lalrpop_rules::mode_clashes: clashes, error.

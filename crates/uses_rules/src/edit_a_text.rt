@@ -4,10 +4,10 @@ ghost use Rattle.std.specs.Str.{IsCharBoundary};
 ghost use Rattle.bajofeki.specs.Lexed.{ArePiecesOf, MeetAt, ReadsTo, holds_byte};
 ghost use Rattle.lalrpop_rules.specs.Modes.{trees_in};
 ghost use Rattle.lalrpop_rules.specs.Pieces.{AreSame, slice_of, start_of};
-ghost use Rattle.lalrpop_rules.specs.declared.item.Item.{Item as ItemValue};
+ghost use Rattle.lalrpop_rules.specs.declared.piece.Piece.{Piece as PieceValue};
 
 use bajofeki::{Change, Document, EditError};
-use lalrpop_rules::{Item, RuleLexer};
+use lalrpop_rules::{Piece, RuleLexer};
 use std::alloc::{AllocError, Global};
 use std::ops::Range;
 
@@ -62,17 +62,17 @@ pub fn cut_no_further(
     range: Range<usize>,
     new: &str,
 ) -> Result<Change, EditError>
-    ensures kept { IfOk result (λ c. (xs ys : List ItemValue) → ArePiecesOf lexed.old xs
+    ensures kept { IfOk result (λ c. (xs ys : List PieceValue) → ArePiecesOf lexed.old xs
         → ArePiecesOf lexed.new ys → AreSame (take c.first xs) (take c.first ys)) }
-    ensures count { IfOk result (λ c. (xs ys : List ItemValue) → ArePiecesOf lexed.old xs
+    ensures count { IfOk result (λ c. (xs ys : List PieceValue) → ArePiecesOf lexed.old xs
         → ArePiecesOf lexed.new ys → length ys + c.removed ≡ length xs + c.inserted) }
-    ensures none { IfOk result (λ c. (xs ys : List ItemValue) → ArePiecesOf lexed.old xs
+    ensures none { IfOk result (λ c. (xs ys : List PieceValue) → ArePiecesOf lexed.old xs
         → ArePiecesOf lexed.new ys
         → MeetAt lexed.old.rules.actions range.start range.end (length new.now) xs ys
         c.first c.first
         → (c.removed ≡ 0) × (c.inserted ≡ 0)) }
-    ensures word { IfOk result (λ c. (xs : List ItemValue) → ArePiecesOf lexed.old xs
-        → (x : ItemValue) → slice_get xs c.first ≡ Some x
+    ensures word { IfOk result (λ c. (xs : List PieceValue) → ArePiecesOf lexed.old xs
+        → (x : PieceValue) → slice_get xs c.first ≡ Some x
         → start_of x + length (slice_of x) < range.start
         → (mode at : ℕ) × ((start_of x ≤ at) × (at ≤ start_of x + length (slice_of x))
         × ReadsTo (trees_in lexed.old.rules mode) lexed.old.text at range.start)) }
@@ -119,7 +119,7 @@ pub fn count_between(
     lexed: &Document<'_>,
     range: Range<usize>,
 ) -> Result<usize, AllocError>
-    ensures count { IfOk result (λ n. (xs : List ItemValue) × (ArePiecesOf lexed.now xs
+    ensures count { IfOk result (λ n. (xs : List PieceValue) × (ArePiecesOf lexed.now xs
         × (count_by (holds_byte range.start range.end) xs ≡ n))) }
 {
     let pieces = lexed.pieces(alloc, range)?;
@@ -135,9 +135,9 @@ pub fn count_between(
 pub fn piece_list<'text>(
     alloc: Global,
     lexed: &'text Document<'_>,
-) -> Result<Vec<Item<'text>>, AllocError>
+) -> Result<Vec<Piece<'text>>, AllocError>
     ensures all { IfOk result (λ pieces. ArePiecesOf lexed.now pieces.items) }
-    ensures exist { (xs : List ItemValue) × ArePiecesOf lexed.now xs }
+    ensures exist { (xs : List PieceValue) × ArePiecesOf lexed.now xs }
 {
     lexed.pieces(alloc, 0..lexed.text().len())
 }

@@ -6,11 +6,11 @@ ghost use Rattle.lalrpop_rules.specs.Modes.{ArePiecesFrom, ModeRules, trees_in};
 ghost use Rattle.lalrpop_rules.specs.Found.{MatchesAt};
 ghost use Rattle.bajofeki_rules.specs.Stack.{Stack, start};
 ghost use Rattle.lalrpop_rules.specs.Pieces.{joined};
-ghost use Rattle.lalrpop_rules.specs.declared.item.Item.{Item as ItemValue};
-ghost use Rattle.lalrpop_rules.specs.declared.item.Item.TheVariants.{Fault};
+ghost use Rattle.lalrpop_rules.specs.declared.piece.Piece.{Piece as PieceValue};
+ghost use Rattle.lalrpop_rules.specs.declared.piece.Piece.TheVariants.{Fault};
 
 use bajofeki::{EditError, GivenPiece, Stream};
-use lalrpop_rules::{Item, RuleLexer};
+use lalrpop_rules::{Piece, RuleLexer};
 use std::alloc::Global;
 
 // Needs bajofeki::Stream::is_ended: ended; bajofeki::Stream::feed: fed, refused.
@@ -29,9 +29,9 @@ pub fn feed_if_open(chunks: &mut Stream<'_>, chunk: &[u8]) -> bool
 // Needs bajofeki::Stream::next_piece: gives; bajofeki::Stream::slice: slice.
 // Appends the pieces that no later chunk can change.
 fn take_pieces(chunks: &mut Stream<'_>, whole: &mut Vec<u8>) -> Result<(), EditError>
-    ensures taken { OnOk result ((r : ModeRules) (text : List ℕ) (xs : List ItemValue)
+    ensures taken { OnOk result ((r : ModeRules) (text : List ℕ) (xs : List PieceValue)
         → Came r text xs chunks.old → whole.old.items ≡ joined xs
-        → (ys : List ItemValue) × (Came r text ys chunks.new
+        → (ys : List PieceValue) × (Came r text ys chunks.new
         × (whole.new.items ≡ joined ys))) }
     ensures held { OnOk result (IsHeldBack chunks.new) }
     ensures ended { OnOk result (chunks.new.is_ended ≡ chunks.old.is_ended) }
@@ -58,15 +58,15 @@ pub fn skipped_next(chunks: &mut Stream<'_>) -> Result<Option<usize>, EditError>
     }
 }
 
-// Needs bajofeki::GivenPiece::item: item.
+// Needs bajofeki::GivenPiece::with_slice: piece.
 /// Where a piece begins that was given, and how many bytes its slice has.
 pub fn place_of(piece: &GivenPiece, slice: &str) -> (usize, usize)
     ensures place { result.0 ≡ piece.now.start }
     ensures size { result.1 ≡ length slice.now }
 {
-    match piece.item(slice) {
-        Item::Token(token) | Item::Skipped(token) => (token.start, token.slice.len()),
-        Item::Fault { start, slice } => (start, slice.len()),
+    match piece.with_slice(slice) {
+        Piece::Token(token) | Piece::Skipped(token) => (token.start, token.slice.len()),
+        Piece::Fault { start, slice } => (start, slice.len()),
     }
 }
 
@@ -99,7 +99,7 @@ pub fn put_together(
     back: &[u8],
 ) -> Result<Vec<u8>, EditError>
     ensures whole { IfOk result (λ whole. whole.items ≡ front.now ++ back.now) }
-    ensures pieces { IfOk result (λ whole. (xs : List ItemValue) × ((end : Stack)
+    ensures pieces { IfOk result (λ whole. (xs : List PieceValue) × ((end : Stack)
         × (ArePiecesFrom lexer.now (front.now ++ back.now) 0 start xs end
         × (whole.items ≡ joined xs)))) }
 {
@@ -125,11 +125,11 @@ pub fn first_pieces(
     lexer: &RuleLexer,
     front: &[u8],
 ) -> Result<(Vec<u8>, bool), EditError>
-    ensures begins { IfOk result (λ first. (back : List ℕ) (ys : List ItemValue) (end : Stack)
+    ensures begins { IfOk result (λ first. (back : List ℕ) (ys : List PieceValue) (end : Stack)
         → ArePiecesFrom lexer.now (front.now ++ back) 0 start ys end
         → (n : ℕ) × (first.0.items ≡ joined (take n ys))) }
     ensures fault { IfOk result (λ first. first.1 ≡ true
-        → (back : List ℕ) (ys : List ItemValue) (end : Stack)
+        → (back : List ℕ) (ys : List PieceValue) (end : Stack)
         → ArePiecesFrom lexer.now (front.now ++ back) 0 start ys end
         → (n : ℕ) × ((slice : Bor (List ℕ))
         × (slice_get ys n ≡ Some (Fault (length first.0.items) slice)))) }

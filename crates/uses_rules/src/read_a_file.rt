@@ -106,7 +106,7 @@ pub fn lexer_of_file(alloc: Global, bytes: &[u8]) -> Result<Option<RuleLexer>, R
     match read_rules(alloc, bytes) {
         Ok(file) => {
             let rules = file.mode_rules(alloc)?;
-            match RuleLexer::from_rules(alloc, &rules, file.modes.len()) {
+            match RuleLexer::with_modes(alloc, &rules, &file.modes) {
                 Ok(lexer) => Ok(Some(lexer)),
                 Err(error) => Err(error),
             }

@@ -1,11 +1,11 @@
 //! A text as HTML, and in colours for a terminal.
 ghost use Rattle.std.specs.Prelude.{◌≡◌, ◌++◌, List, false, flat_map, map, string_bytes, IfOk};
-ghost use Rattle.lalrpop_rules.specs.declared.item.Item.{Item as ItemValue};
+ghost use Rattle.lalrpop_rules.specs.declared.piece.Piece.{Piece as PieceValue};
 ghost use Rattle.bajofeki.specs.Markup.{marked, outside};
 ghost use Rattle.bajofeki.specs.Terminal.{painted, unpainted};
 
 use bajofeki::{Painter, ansi, html, push_html};
-use lalrpop_rules::{Item, RuleLexer};
+use lalrpop_rules::{Piece, RuleLexer};
 use std::alloc::{AllocError, Global};
 
 // Needs bajofeki::html: text, pieces.
@@ -16,7 +16,7 @@ use std::alloc::{AllocError, Global};
 /// `AllocError` if a request for memory was refused.
 pub fn page_of(alloc: Global, lexer: &RuleLexer, text: &str) -> Result<String, AllocError>
     ensures read { IfOk result (λ page. outside (string_bytes page) ≡ text.now) }
-    ensures marked { IfOk result (λ page. (xs : List ItemValue)
+    ensures marked { IfOk result (λ page. (xs : List PieceValue)
         × (string_bytes page ≡ flat_map (marked lexer.now.names) xs)) }
 {
     html(alloc, lexer, text)
@@ -30,7 +30,7 @@ pub fn page_of(alloc: Global, lexer: &RuleLexer, text: &str) -> Result<String, A
 /// `AllocError` if a request for memory was refused.
 pub fn in_colours(alloc: Global, lexer: &RuleLexer, text: &str) -> Result<String, AllocError>
     ensures read { IfOk result (λ page. unpainted (string_bytes page) ≡ text.now) }
-    ensures painted { IfOk result (λ page. (xs : List ItemValue)
+    ensures painted { IfOk result (λ page. (xs : List PieceValue)
         × (string_bytes page ≡ flat_map (painted lexer.now.names) xs)) }
 {
     ansi(alloc, lexer, text)
@@ -83,8 +83,8 @@ pub fn clears_the_screen(alloc: Global, lexer: &RuleLexer, text: &str) -> Result
 pub fn two_marked(
     alloc: Global,
     names: &[String],
-    one: &Item<'_>,
-    two: &Item<'_>,
+    one: &Piece<'_>,
+    two: &Piece<'_>,
 ) -> Result<String, AllocError>
     ensures marked { IfOk result (λ page. string_bytes page
         ≡ marked (map string_bytes names.now) one.now ++ marked (map string_bytes names.now)
@@ -106,8 +106,8 @@ pub fn two_marked(
 pub fn two_painted(
     alloc: Global,
     names: &[String],
-    one: &Item<'_>,
-    two: &Item<'_>,
+    one: &Piece<'_>,
+    two: &Piece<'_>,
 ) -> Result<String, AllocError>
     ensures painted { IfOk result (λ page. string_bytes page
         ≡ painted (map string_bytes names.now) one.now ++ painted (map string_bytes names.now)

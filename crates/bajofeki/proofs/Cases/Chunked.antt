@@ -7,8 +7,8 @@ use Rattle.lalrpop_hir.specs.Tree.{Tree}
 use Rattle.lalrpop_hir.specs.Winners.{Matched}
 use Rattle.lalrpop_rules.specs.Found.{MatchesAt, NoMatchBefore}
 use Rattle.lalrpop_rules.specs.Pieces.{IsFault, IsPiece, slice_of}
-use Rattle.lalrpop_rules.specs.declared.item.Item.{Item}
-use Rattle.lalrpop_rules.specs.declared.item.Item.TheVariants.{Fault}
+use Rattle.lalrpop_rules.specs.declared.piece.Piece.{Piece}
+use Rattle.lalrpop_rules.specs.declared.piece.Piece.TheVariants.{Fault}
 use Rattle.lalrpop_rules.specs.Modes.{ModeRules, trees_in}
 use Rattle.bajofeki.specs.Internal.Reach.{IsSettledBy}
 use Rattle.bajofeki.specs.Lexed.{placed}
@@ -66,7 +66,7 @@ fault_may_go_on r slice one none final =
     ]
 
 -- where nothing more comes, the piece of what has come is final
-last_piece_is_final : (r : ModeRules) (rest : List ℕ) (x : Item) → IsPiece (trees_in r 0) r.precedences r.skips (rest ++ []) 0 (placed 0 x)
+last_piece_is_final : (r : ModeRules) (rest : List ℕ) (x : Piece) → IsPiece (trees_in r 0) r.precedences r.skips (rest ++ []) 0 (placed 0 x)
     → IsFinal (whole r rest) x
 last_piece_is_final r rest x is more none = subst (λ (t : List ℕ). IsPiece (trees_in r 0) r.precedences r.skips (rest ++ t) 0 (placed 0 x)) (sym (none refl)) is
 
@@ -236,7 +236,7 @@ came_in_two_chunks r = ended (fed (codes "b") refl (fed (codes "a") refl nothing
 chunk_lost : (r : ModeRules) → ¬ Came r (codes "a") [] (nothing_come r)
 chunk_lost r came = absurd (cc ((came_rest r (codes "a") [] (nothing_come r) came).0))
 
-piece_of_what_never_came : (r : ModeRules) (c : Chunked) (x : Item) → slice_of x ≡ codes "a" → ¬ Came r [] (x ∷ []) c
+piece_of_what_never_came : (r : ModeRules) (c : Chunked) (x : Piece) → slice_of x ≡ codes "a" → ¬ Came r [] (x ∷ []) c
 piece_of_what_never_came r c x one came =
     let split = (came_rest r [] (x ∷ []) c came).0 in
     omega (arith, ap length split, ap length one, length-append (slice_of x ++ []) c.rest, length-append (slice_of x) [])

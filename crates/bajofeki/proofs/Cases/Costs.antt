@@ -19,7 +19,7 @@ three_states =
     ∷ []
 
 abbrev no_rules : ModeRules
-no_rules = record { names = []; trees = []; precedences = []; skips = []; actions = []; members = []; kinds = []; modes = 1; automata = [] }
+no_rules = record { names = []; trees = []; precedences = []; skips = []; actions = []; members = []; kinds = []; modes = 1; mode_names = []; automata = [] }
 
 abbrev two_rules : ModeRules
 two_rules = record {
@@ -31,6 +31,7 @@ two_rules = record {
   members = (0 ∷ []) ∷ (0 ∷ []) ∷ [];
   kinds = 0 ∷ 1 ∷ [];
   modes = 1;
+  mode_names = [];
   automata = three_states ∷ [];
 }
 

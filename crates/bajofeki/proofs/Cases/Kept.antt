@@ -28,6 +28,7 @@ two t u = record {
   members = (0 ∷ []) ∷ (0 ∷ 1 ∷ []) ∷ [];
   kinds = 0 ∷ 1 ∷ [];
   modes = 2;
+  mode_names = [];
   automata = [];
 }
 

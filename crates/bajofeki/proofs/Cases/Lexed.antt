@@ -8,8 +8,8 @@ use Rattle.std.proofs.lemmas.Str.{chars-nil}
 use Rattle.lalrpop_hir.specs.Tree.{Tree, literal}
 use Rattle.lalrpop_hir.specs.Winners.{Matched}
 use Rattle.lalrpop_rules.specs.Pieces.{slice_of, start_of}
-use Rattle.lalrpop_rules.specs.declared.item.Item.{Item}
-use Rattle.lalrpop_rules.specs.declared.item.Item.TheVariants.{Token, Skipped, Fault}
+use Rattle.lalrpop_rules.specs.declared.piece.Piece.{Piece}
+use Rattle.lalrpop_rules.specs.declared.piece.Piece.TheVariants.{Token, Skipped, Fault}
 use Rattle.lalrpop_rules.proofs.UniquePieces.{no_piece_left}
 use Rattle.bajofeki_rules.specs.declared.action.Action.TheVariants.{Push}
 use Rattle.bajofeki_rules.specs.Stack.{Stack, start}
@@ -20,7 +20,7 @@ use Rattle.bajofeki.specs.declared.error.EditError.TheVariants.{NoBoundary, TooL
 use Rattle.bajofeki.proofs.Cases.Reach.{a, ab, one_of_two}
 
 abbrev no_rules : ModeRules
-no_rules = record { names = []; trees = []; precedences = []; skips = []; actions = []; members = []; kinds = []; modes = 1; automata = [] }
+no_rules = record { names = []; trees = []; precedences = []; skips = []; actions = []; members = []; kinds = []; modes = 1; mode_names = []; automata = [] }
 
 -- ---- the new text
 
@@ -110,7 +110,7 @@ one_more_told_as_none : (p q : Bor (List ℕ))
 one_more_told_as_none p q c = c.behind
 
 -- more pieces gone than there are
-more_gone_than_there_are : (xs ys : List Item) → length xs ≡ 0 → ¬ IsChangeOf xs ys first_replaced
+more_gone_than_there_are : (xs ys : List Piece) → length xs ≡ 0 → ¬ IsChangeOf xs ys first_replaced
 more_gone_than_there_are xs ys none c = omega (arith, c.removed, none)
 
 -- ---- all pieces
@@ -128,7 +128,7 @@ met_behind : (p p2 : Bor (List ℕ)) → p.now ≡ codes "ab" → p2.now ≡ cod
 met_behind p p2 e f = record { behind = rw e (omega arith); same = rw e (rw f refl); stack = refl }
 
 -- not in front of what was replaced
-met_in_front : (xs ys : List Item) → ¬ MeetAt [] 2 2 1 xs ys 0 0
+met_in_front : (xs ys : List Piece) → ¬ MeetAt [] 2 2 1 xs ys 0 0
 met_in_front xs ys m = omega (arith, m.behind)
 
 -- nor in other modes
@@ -226,11 +226,12 @@ two_rules = record {
   members = (0 ∷ []) ∷ (0 ∷ []) ∷ [];
   kinds = 0 ∷ 1 ∷ [];
   modes = 1;
+  mode_names = [];
   automata = [];
 }
 
 -- the first `a` of `aab` ends before the last byte, and no word begins with `aa`: so it may not be cut anew for that byte
-cut_further_back_than_needed : (p : Bor (List ℕ)) (xs : List Item) → p.now ≡ codes "a"
+cut_further_back_than_needed : (p : Bor (List ℕ)) (xs : List Piece) → p.now ≡ codes "a"
     → ArePiecesOf (record { rules = two_rules; text = codes "aab" }) (Token (record { index = 0; slice = p; start = 0 }) ∷ xs)
     → ¬ FirstReaches (record { rules = two_rules; text = codes "aab" }) 2 first_replaced
 unfolding chars
@@ -244,13 +245,13 @@ cut_further_back_than_needed p xs e are first =
 -- ---- pieces that hold a byte of a range
 
 -- some byte of the range is one of the piece
-byte_held : (from to : ℕ) (x : Item) → holds_byte from to x ≡ true
+byte_held : (from to : ℕ) (x : Piece) → holds_byte from to x ≡ true
     → (n : ℕ) × ((from ≤ n) × (n < to) × (start_of x ≤ n) × (n < start_of x + length (slice_of x)))
 byte_held from to x holds =
     let lt = ltb-true (max from (start_of x)) (min to (start_of x + length (slice_of x))) holds in
     (max from (start_of x), (omega arith, omega (arith, lt), omega arith, omega (arith, lt)))
 
-held_by_a_byte : (from to n : ℕ) (x : Item) → from ≤ n → n < to → start_of x ≤ n → n < start_of x + length (slice_of x) → holds_byte from to x ≡ true
+held_by_a_byte : (from to n : ℕ) (x : Piece) → from ≤ n → n < to → start_of x ≤ n → n < start_of x + length (slice_of x) → holds_byte from to x ≡ true
 held_by_a_byte from to n x above below behind before = lt-ltb (max from (start_of x)) (min to (start_of x + length (slice_of x))) (omega arith)
 
 -- of `ab` and `c`
@@ -273,6 +274,6 @@ module _ (p q : Bor (List ℕ)) (ab_is : p.now ≡ codes "ab") (c_is : q.now ≡
 none_in_the_empty_text : (r : ModeRules) (from to : ℕ) → ArePiecesIn (record { rules = r; text = [] }) from to []
 none_in_the_empty_text r from to = ([], (no_piece_of_the_empty_text r, refl))
 
-some_in_the_empty_text : (r : ModeRules) (from to : ℕ) (y : Item) (ys : List Item) → ¬ ArePiecesIn (record { rules = r; text = [] }) from to (y ∷ ys)
+some_in_the_empty_text : (r : ModeRules) (from to : ℕ) (y : Piece) (ys : List Piece) → ¬ ArePiecesIn (record { rules = r; text = [] }) from to (y ∷ ys)
 some_in_the_empty_text r from to y ys ([], are) = absurd (cc (are.1))
 some_in_the_empty_text r from to y ys (x ∷ xs, are) = no_piece_left (trees_in r 0) r.precedences r.skips [] 0 x are.0.1.0 refl

@@ -8,7 +8,7 @@ use Rattle.lalrpop_rules.specs.Modes.{ModeRules}
 use Rattle.bajofeki.specs.declared.found_ahead.FoundAhead.{FoundAhead}
 use Rattle.bajofeki.specs.declared.kept.Kept.{Kept}
 use Rattle.bajofeki.specs.declared.parts.Part.{Part}
-use Rattle.bajofeki.specs.declared.parts.Piece.{Piece}
+use Rattle.bajofeki.specs.declared.parts.FrontPiece.{FrontPiece}
 use Rattle.bajofeki.specs.Internal.Kept.{reach_of, rule_of}
 use Rattle.bajofeki.specs.Internal.Parts.{text_in}
 
@@ -17,11 +17,11 @@ abbrev pub LeadOn : List Row → List ℕ → FoundAhead → Type 0
 LeadOn d text a = (whole : List ℕ) × ((drop a.at whole ≡ text) × AreAhead d whole a.at a.ends)
 
 -- the piece is the first of them, and the others lead on after it
-abbrev pub IsFirst : List Row → List ℕ → Piece → FoundAhead → Type 0
+abbrev pub IsFirst : List Row → List ℕ → FrontPiece → FoundAhead → Type 0
 IsFirst d text f a = (i : ℕ) × ((f.rule ≡ Some i) × IsEnd d text 0 i f.size × LeadOn d (drop f.size text) a)
 
 -- this is kept of the piece, which depends on the character after it, and on no more
-pub record IsKeptOf (text : List ℕ) (f : Piece) (k : Kept) : Type 0 where
+pub record IsKeptOf (text : List ℕ) (f : FrontPiece) (k : Kept) : Type 0 where
   pub rule : rule_of k ≡ f.rule
   pub size : k.size ≡ f.size
   pub next : ℕ

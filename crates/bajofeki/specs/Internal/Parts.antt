@@ -8,7 +8,7 @@ use Rattle.bajofeki.specs.Begun.{NoCharacter, IsBegun, IsBad}
 use Rattle.bajofeki.specs.Chunked.{IsOpen, IsOpenIn}
 use Rattle.bajofeki.specs.Internal.Kept.{IsFront}
 use Rattle.bajofeki.specs.declared.parts.Part.{Part}
-use Rattle.bajofeki.specs.declared.parts.Piece.{Piece}
+use Rattle.bajofeki.specs.declared.parts.FrontPiece.{FrontPiece}
 use Rattle.bajofeki.specs.declared.parts.Told.{Told}
 use Rattle.bajofeki.specs.declared.parts.Told.TheVariants.{Whole, Nothing, Open}
 use Rattle.bajofeki.specs.declared.parts.Turn.{Turn}
@@ -55,7 +55,7 @@ size_in_fault None size = size
 size_in_fault (Some i) size = 0
 
 -- whatever comes, if anything may, this is the piece at the front of the bytes. It ends in the part, where a character begins, or after it
-pub record IsGiven (ts : List Tree) (ps bytes : List ℕ) (is_ended : Bool) (p : Part) (f : Piece) : Type 0 where
+pub record IsGiven (ts : List Tree) (ps bytes : List ℕ) (is_ended : Bool) (p : Part) (f : FrontPiece) : Type 0 where
   pub settled : (more : List ℕ) → (is_ended ≡ true → more ≡ []) → IsFront ts ps (bytes ++ more) f.rule (take f.size bytes)
   pub from : p.from ≤ f.size
   pub within : f.size ≤ length bytes

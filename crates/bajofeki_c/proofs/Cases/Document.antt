@@ -2,7 +2,7 @@
 use Rattle.std.proofs.Common.{◌≡◌, ◌≢◌, ℕ, List, [], ◌∷◌, length, refl, ap, arith}
 use Rattle.std.specs.Prelude.{Err}
 use Rattle.std.specs.Borrow.{Bor}
-use Rattle.lalrpop_rules.specs.declared.item.Item.TheVariants.{Token, Skipped, Fault}
+use Rattle.lalrpop_rules.specs.declared.piece.Piece.TheVariants.{Token, Skipped, Fault}
 use Rattle.bajofeki_c.specs.Document.{ArePiecesTold, IsDocumentBegun, IsEdited, IsOffset, IsPlace, count_told, no_edit, nowhere, text_of, told}
 use Rattle.bajofeki_c.specs.declared.cut.Piece.{Piece}
 use Rattle.bajofeki_c.specs.declared.document.Document.{Document}

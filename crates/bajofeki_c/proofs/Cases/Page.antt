@@ -6,8 +6,8 @@ use Rattle.std.specs.Str.{IsUtf8, chars}
 use Rattle.lalrpop_rules.specs.Modes.{ModeRules, ArePiecesFrom}
 use Rattle.bajofeki_rules.specs.Stack.{Stack, start as first_stack}
 use Rattle.lalrpop_rules.proofs.UniquePieces.{no_piece_left}
-use Rattle.lalrpop_rules.specs.declared.item.Item.{Item}
-use Rattle.lalrpop_rules.specs.declared.item.Item.TheVariants.{Fault}
+use Rattle.lalrpop_rules.specs.declared.piece.Piece.{Piece}
+use Rattle.lalrpop_rules.specs.declared.piece.Piece.TheVariants.{Fault}
 use Rattle.bajofeki_c.specs.Page.{IsNone, IsPageOf, IsShown, piece_in}
 use Rattle.bajofeki_c.specs.declared.held.BuildError.TheVariants.{Freed}
 use Rattle.bajofeki_c.specs.declared.held.BuiltLexer.{BuiltLexer}
@@ -27,9 +27,9 @@ fault_on_red names slice is = rw is refl
 
 -- the page of an empty text is empty
 page_of_nothing : (r : ModeRules) → IsPageOf r Html [] []
-page_of_nothing r = record { items = []; end = first_stack; pieces = (refl, refl); page = refl }
+page_of_nothing r = record { all = []; end = first_stack; pieces = (refl, refl); page = refl }
 
-no_piece_of_nothing : (r : ModeRules) (xs : List Item) (end : Stack) (page : List ℕ) → ArePiecesFrom r [] 0 first_stack xs end → xs ≢ [] → ⊥
+no_piece_of_nothing : (r : ModeRules) (xs : List Piece) (end : Stack) (page : List ℕ) → ArePiecesFrom r [] 0 first_stack xs end → xs ≢ [] → ⊥
 no_piece_of_nothing r [] end page are some = some refl
 no_piece_of_nothing r (x ∷ xs) end page are some = no_piece_left _ _ _ [] 0 x are.0 refl
 

@@ -23,7 +23,7 @@ nothing_matches : (text : List ℕ) (at : ℕ) → ¬ MatchesAt [] text at
 nothing_matches text at m = let none = m.1.2.1.1.0 in cc
 
 abbrev no_rules : ModeRules
-no_rules = record { names = []; trees = []; precedences = []; skips = []; actions = []; members = []; kinds = []; modes = 1; automata = [] }
+no_rules = record { names = []; trees = []; precedences = []; skips = []; actions = []; members = []; kinds = []; modes = 1; mode_names = []; automata = [] }
 
 -- a fault up to the end of a text
 abbrev fault : ℕ → ℕ → NumberedPiece
@@ -77,6 +77,7 @@ brackets a b = record {
   members = (0 ∷ []) ∷ (1 ∷ []) ∷ [];
   kinds = 0 ∷ 1 ∷ [];
   modes = 2;
+  mode_names = [];
   automata = [];
 }
 

@@ -41,7 +41,7 @@ no_token_has_another_kind h = let kind = h.kind_is in cc
 -- ---- pieces in modes
 
 abbrev no_rules : ModeRules
-no_rules = record { names = []; trees = []; precedences = []; skips = []; actions = []; members = []; kinds = []; modes = 1; automata = [] }
+no_rules = record { names = []; trees = []; precedences = []; skips = []; actions = []; members = []; kinds = []; modes = 1; mode_names = []; automata = [] }
 
 one_fault : AreBytePieces no_rules [] 0 (255 ∷ []) (fault 0 1 ∷ []) true
 one_fault = (
@@ -67,6 +67,7 @@ brackets a b = record {
   members = (0 ∷ []) ∷ (1 ∷ []) ∷ [];
   kinds = 0 ∷ 1 ∷ [];
   modes = 2;
+  mode_names = [];
   automata = [];
 }
 

@@ -9,7 +9,7 @@ use Rattle.lalrpop_emit.specs.declared.error.EmitError.TheVariants.{NoRules, Bad
 
 -- rules with these names, none of them skipped, and no actions
 abbrev rules_named : List (List ℕ) → ℕ → ModeRules
-rules_named names modes = record { names = names; trees = []; precedences = []; skips = []; actions = []; members = []; kinds = []; modes = modes; automata = [] }
+rules_named names modes = record { names = names; trees = []; precedences = []; skips = []; actions = []; members = []; kinds = []; modes = modes; mode_names = []; automata = [] }
 
 no_rules : IsNumbersError (rules_named [] 1) NoRules
 no_rules = refl

@@ -34,6 +34,7 @@ two_rules = record {
   members = [];
   kinds = [];
   modes = 1;
+  mode_names = [];
   automata = [];
 }
 

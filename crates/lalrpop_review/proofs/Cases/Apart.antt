@@ -25,6 +25,7 @@ one name skipped acts = record {
   members = (0 ∷ []) ∷ [];
   kinds = 0 ∷ [];
   modes = 1;
+  mode_names = [];
   automata = [];
 }
 

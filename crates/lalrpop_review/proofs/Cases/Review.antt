@@ -60,6 +60,7 @@ two kinds = record {
   members = (0 ∷ []) ∷ (0 ∷ []) ∷ [];
   kinds = kinds;
   modes = 1;
+  mode_names = [];
   automata = [];
 }
 
@@ -291,7 +292,7 @@ no_token_is_open_ever rules look = let can = look.0 0 in no_match can.0 can.2.wo
 -- ---- the whole
 
 abbrev nothing : ModeRules
-nothing = record { names = []; trees = []; precedences = []; skips = []; actions = []; members = []; kinds = []; modes = 0; automata = [] }
+nothing = record { names = []; trees = []; precedences = []; skips = []; actions = []; members = []; kinds = []; modes = 0; mode_names = []; automata = [] }
 
 review_of_nothing : (empty : Vec ℕ Global) (modes : Vec ModeReview Global) → empty.items ≡ [] → modes.items ≡ [] → IsReview nothing (record { empty = empty; modes = modes })
 review_of_nothing empty modes e f = record {

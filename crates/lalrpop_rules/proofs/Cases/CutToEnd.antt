@@ -5,7 +5,7 @@ use Rattle.std.specs.Str.{chars}
 use Rattle.std.specs.Borrow.{Bor}
 use Rattle.lalrpop_lexer.specs.Rules.{Rules}
 use Rattle.lalrpop_rules.specs.Internal.CutToEnd.{CutToEnd, Memo, uncut, left_text, steps_for, IsPaid, GivesPiece, IsSoughtFromRest, IsSoughtAfterPiece, IsSpent, PassesTo}
-use Rattle.lalrpop_rules.specs.declared.item.Item.TheVariants.{Fault}
+use Rattle.lalrpop_rules.specs.declared.piece.Piece.TheVariants.{Fault}
 
 nothing_is_left : (rules : Rules) (skips : List Bool) (m : Memo) → GivesPiece (uncut rules skips [] m) None (uncut rules skips [] m)
 nothing_is_left rules skips m = (refl, refl)

@@ -6,10 +6,10 @@ use Rattle.std.specs.Borrow.{Bor}
 use Rattle.std.specs.Str.{chars}
 use Rattle.lalrpop_lexer.specs.Dfa.{Row}
 use Rattle.lalrpop_lexer.specs.Matching.{open_states}
-use Rattle.lalrpop_rules.specs.declared.item.Item.{Item}
-use Rattle.lalrpop_rules.specs.declared.item.Item.TheVariants.{Fault}
+use Rattle.lalrpop_rules.specs.declared.piece.Piece.{Piece}
+use Rattle.lalrpop_rules.specs.declared.piece.Piece.TheVariants.{Fault}
 use Rattle.lalrpop_rules.specs.Modes.{ModeRules}
-use Rattle.lalrpop_rules.specs.ModeCut.{ModeCut, uncut, left_text, open_in_all, items_left, IsCounted, GivesModePiece, GivesPieceOrError}
+use Rattle.lalrpop_rules.specs.ModeCut.{ModeCut, uncut, left_text, open_in_all, pieces_left, IsCounted, GivesModePiece, GivesPieceOrError}
 
 text_begins_in_mode_0 : (r : ModeRules) (text : List ℕ) (most : ℕ) → (uncut r text most).stack.mode ≡ 0
 text_begins_in_mode_0 r text most = refl
@@ -79,21 +79,21 @@ then_it_is_over r error = (refl, (λ none. cc), refl)
 the_next_is_none : (r : ModeRules) → GivesPieceOrError (over r (codes "a")) None (over r (codes "a"))
 the_next_is_none r = (refl, inl refl)
 
-something_behind_an_error : (old new : ModeCut) (x : Result Item AllocError) → old.is_over ≡ true → ¬ GivesPieceOrError old (Some x) new
-something_behind_an_error old new (Ok item) over g = cc (g.0, over)
+something_behind_an_error : (old new : ModeCut) (x : Result Piece AllocError) → old.is_over ≡ true → ¬ GivesPieceOrError old (Some x) new
+something_behind_an_error old new (Ok piece) over g = cc (g.0, over)
 something_behind_an_error old new (Err error) over g = cc (g.0, over)
 
-none_left_behind_an_error : (r : ModeRules) (text : List ℕ) → items_left (over r text) ≡ 0
+none_left_behind_an_error : (r : ModeRules) (text : List ℕ) → pieces_left (over r text) ≡ 0
 none_left_behind_an_error r text = refl
 
--- one item for each character: these are two, of three bytes
-two_are_left : (r : ModeRules) → items_left (uncut r (195 ∷ 169 ∷ 97 ∷ []) 0) ≡ 2
+-- one piece for each character: these are two, of three bytes
+two_are_left : (r : ModeRules) → pieces_left (uncut r (195 ∷ 169 ∷ 97 ∷ []) 0) ≡ 2
 unfolding chars
 two_are_left r = refl
 
-one_for_each_byte : (r : ModeRules) → ¬ (items_left (uncut r (195 ∷ 169 ∷ 97 ∷ []) 0) ≡ 3)
+one_for_each_byte : (r : ModeRules) → ¬ (pieces_left (uncut r (195 ∷ 169 ∷ 97 ∷ []) 0) ≡ 3)
 one_for_each_byte r three = let two = two_are_left r in omega (arith, two, three)
 
-one_is_left_behind_the_first : (r : ModeRules) → items_left (record (uncut r (195 ∷ 169 ∷ 97 ∷ []) 0) { at = 2 }) ≡ 1
+one_is_left_behind_the_first : (r : ModeRules) → pieces_left (record (uncut r (195 ∷ 169 ∷ 97 ∷ []) 0) { at = 2 }) ≡ 1
 unfolding chars
 one_is_left_behind_the_first r = refl

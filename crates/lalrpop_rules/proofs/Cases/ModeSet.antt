@@ -12,7 +12,7 @@ use Rattle.lalrpop_rules.specs.ModeSet.{rules_of, AllThere, AreInOneMode, AreMod
 rules_in_their_order : (p q : ModeRule) → rules_of (p ∷ q ∷ []) ≡ p.rule ∷ q.rule ∷ []
 rules_in_their_order p q = refl
 
-no_rules_in_one_mode : AreModeRules [] 1 (record { names = []; trees = []; precedences = []; skips = []; actions = []; members = []; kinds = []; modes = 1; automata = [] })
+no_rules_in_one_mode : AreModeRules [] 1 (record { names = []; trees = []; precedences = []; skips = []; actions = []; members = []; kinds = []; modes = 1; mode_names = []; automata = [] })
 no_rules_in_one_mode = record {
   names = refl;
   trees = tt;

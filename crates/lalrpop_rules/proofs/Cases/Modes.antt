@@ -3,7 +3,7 @@ use Rattle.std.proofs.Common.{◌≡◌, ℕ, zero, suc, ◌<◌, true, false, i
 use Rattle.std.specs.Prelude.{Some, None}
 use Rattle.std.specs.Borrow.{Bor}
 use Rattle.lalrpop_hir.specs.Tree.{Tree, alternation, none, also}
-use Rattle.lalrpop_rules.specs.declared.item.Item.TheVariants.{Token, Skipped, Fault}
+use Rattle.lalrpop_rules.specs.declared.piece.Piece.TheVariants.{Token, Skipped, Fault}
 use Rattle.bajofeki_rules.specs.declared.action.Action.{Action}
 use Rattle.bajofeki_rules.specs.declared.action.Action.TheVariants.{Mode, Push, Pop}
 use Rattle.bajofeki_rules.specs.Stack.{Stack, start, actions_of}
@@ -21,6 +21,7 @@ two a b = record {
   members = (0 ∷ []) ∷ (0 ∷ 1 ∷ []) ∷ [];
   kinds = 0 ∷ 1 ∷ [];
   modes = 3;
+  mode_names = [];
   automata = [];
 }
 
@@ -89,7 +90,7 @@ text_left r b s are = absurd (cc (are.0))
 
 -- ---- clashes and modes that are entered
 
-no_mode_no_clash : NoModeClash (record { names = []; trees = []; precedences = []; skips = []; actions = []; members = []; kinds = []; modes = 0; automata = [] })
+no_mode_no_clash : NoModeClash (record { names = []; trees = []; precedences = []; skips = []; actions = []; members = []; kinds = []; modes = 0; mode_names = []; automata = [] })
 no_mode_no_clash m there = omega (arith, there)
 
 clash_of_a_mode_that_is_not_there : (a b : Tree) (w : List ℕ) (i j : ℕ) → ¬ IsModeClash (two a b) 3 w i j

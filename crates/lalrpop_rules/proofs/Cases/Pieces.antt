@@ -6,8 +6,8 @@ use Rattle.lalrpop_hir.specs.Tree.{Tree}
 use Rattle.lalrpop_hir.specs.declared.token.Token.{Token as Cut}
 use Rattle.lalrpop_rules.specs.Found.{MatchesAt}
 use Rattle.lalrpop_rules.specs.Pieces.{IsSkipped, IsFault, IsPiece, ArePieces, AreApart, joined, up_to_fault, first_token}
-use Rattle.lalrpop_rules.specs.declared.item.Item.{Item}
-use Rattle.lalrpop_rules.specs.declared.item.Item.TheVariants.{Token, Skipped, Fault}
+use Rattle.lalrpop_rules.specs.declared.piece.Piece.{Piece}
+use Rattle.lalrpop_rules.specs.declared.piece.Piece.TheVariants.{Token, Skipped, Fault}
 
 -- ---- one fault
 
@@ -83,7 +83,7 @@ text_left_over : (ts : List Tree) (ps : List ℕ) (skips : List Bool) → ¬ Are
 text_left_over ts ps skips h = let e = h in absurd (cc)
 
 -- a piece at the front is lost
-piece_lost : (ts : List Tree) (ps : List ℕ) (skips : List Bool) (b : Cut) (xs : List Item) → b.slice.now ≡ codes "b"
+piece_lost : (ts : List Tree) (ps : List ℕ) (skips : List Bool) (b : Cut) (xs : List Piece) → b.slice.now ≡ codes "b"
     → ¬ ArePieces ts ps skips (codes " b") 0 (Token b ∷ xs)
 piece_lost ts ps skips b xs one are =
     let begins = are.0.0.1.0.0 in
@@ -102,7 +102,7 @@ joined_of_three : (a b : Cut) (c : Bor (List ℕ)) → a.slice.now ≡ codes "a"
     → joined (Token a ∷ Skipped b ∷ Fault 2 c ∷ []) ≡ 97 ∷ 32 ∷ 195 ∷ 169 ∷ []
 joined_of_three a b c e f g = rw (e, f, g) refl
 
-two_faults_side_by_side : (a b : Bor (List ℕ)) (xs : List Item) → ¬ AreApart (Fault 0 a ∷ Fault 1 b ∷ xs)
+two_faults_side_by_side : (a b : Bor (List ℕ)) (xs : List Piece) → ¬ AreApart (Fault 0 a ∷ Fault 1 b ∷ xs)
 two_faults_side_by_side a b xs are = are
 
 faults_round_a_token : (a c : Bor (List ℕ)) (b : Cut) → AreApart (Fault 0 a ∷ Token b ∷ Fault 2 c ∷ [])

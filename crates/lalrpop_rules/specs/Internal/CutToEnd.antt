@@ -4,8 +4,8 @@ use Rattle.std.specs.Prelude.{◌≡◌, ℕ, ◌+◌, ◌*◌, ◌≤◌, Bool,
 use Rattle.std.specs.Str.{chars}
 use Rattle.lalrpop_lexer.specs.Rules.{Rules}
 use Rattle.lalrpop_rules.specs.Pieces.{IsPiece, slice_of}
-use Rattle.lalrpop_rules.specs.declared.item.Item.{Item}
-use Rattle.lalrpop_rules.specs.declared.item.Item.TheVariants.{Token, Skipped, Fault}
+use Rattle.lalrpop_rules.specs.declared.piece.Piece.{Piece}
+use Rattle.lalrpop_rules.specs.declared.piece.Piece.TheVariants.{Token, Skipped, Fault}
 
 -- what a memo has left: how many characters of the text come after the last match that was found, and how many may still be read
 -- besides those of the matches and 64 for each call
@@ -41,11 +41,11 @@ IsPaid before m after n = (before ≤ after) × (after + steps_for n ≤ before 
 
 -- what one call gives: nothing, and nothing changes, if no rest is left; otherwise the piece at the front of the rest, which is paid for,
 -- and the new rest begins after it
-abbrev pub GivesPiece : CutToEnd → Option Item → CutToEnd → Type 0
+abbrev pub GivesPiece : CutToEnd → Option Piece → CutToEnd → Type 0
 GivesPiece old None new = (new ≡ old) × (left_text old ≡ [])
-GivesPiece old (Some item) new =
-    IsPiece old.rules.trees old.rules.precedences old.skips old.text old.at item
-    × (new ≡ record old { at = old.at + length (slice_of item); memo = new.memo; steps = new.steps })
+GivesPiece old (Some piece) new =
+    IsPiece old.rules.trees old.rules.precedences old.skips old.text old.at piece
+    × (new ≡ record old { at = old.at + length (slice_of piece); memo = new.memo; steps = new.steps })
     × IsPaid old.steps old.memo new.steps new.memo
 
 -- matches are sought from the beginning of the rest on: none is found yet
@@ -53,7 +53,7 @@ abbrev pub IsSoughtFromRest : CutToEnd → Type 0
 IsSoughtFromRest s = s.memo.unsought ≡ length (chars (left_text s))
 
 -- so it is after a token; after a fault, the match right after it may be found already
-abbrev pub IsSoughtAfterPiece : Item → CutToEnd → Type 0
+abbrev pub IsSoughtAfterPiece : Piece → CutToEnd → Type 0
 IsSoughtAfterPiece (Token token) s = IsSoughtFromRest s
 IsSoughtAfterPiece (Skipped token) s = IsSoughtFromRest s
 IsSoughtAfterPiece (Fault start slice) s = Unit {0}

@@ -4,8 +4,8 @@ use Rattle.std.specs.Str.{chars, IsUtf8, IsCharBoundary}
 use Rattle.lalrpop_lexer.specs.Matching.{open_states}
 use Rattle.lalrpop_rules.specs.Internal.CutToEnd.{CutToEnd, Memo, IsPaid}
 use Rattle.lalrpop_rules.specs.Pieces.{IsPiece, slice_of}
-use Rattle.lalrpop_rules.specs.declared.item.Item.{Item}
-use Rattle.lalrpop_rules.specs.declared.item.Item.TheVariants.{Token, Skipped, Fault}
+use Rattle.lalrpop_rules.specs.declared.piece.Piece.{Piece}
+use Rattle.lalrpop_rules.specs.declared.piece.Piece.TheVariants.{Token, Skipped, Fault}
 use Rattle.bajofeki_rules.specs.declared.action.Action.{Action}
 use Rattle.bajofeki_rules.specs.Stack.{Stack, actions_of}
 use Rattle.lalrpop_rules.specs.Modes.{ModeRules, trees_in, EachMode, after}
@@ -72,13 +72,13 @@ pub record IsCutting (r : ModeRules) (text : List ℕ) (at mode : ℕ) (cs : Lis
 -- ---- what the calls do
 
 -- the piece at the front of the rest, which is paid for; the new rest begins after it
-pub record CutsPiece (old : Cutting) (item : Item) (new : Cutting) : Type 0 where
+pub record CutsPiece (old : Cutting) (item : Piece) (new : Cutting) : Type 0 where
   pub piece : IsPiece (trees_in old.rules old.mode) old.rules.precedences old.rules.skips old.text old.at item
   pub goes_on : new ≡ record old { at = old.at + length (slice_of item); memo = new.memo; steps = new.steps }
   pub paid : IsPaid old.steps old.memo new.steps new.memo
 
 -- or nothing, and nothing changes, if no rest is left
-abbrev pub CutsNext : Cutting → Option Item → Cutting → Type 0
+abbrev pub CutsNext : Cutting → Option Piece → Cutting → Type 0
 CutsNext old None new = (new ≡ old) × (drop old.at old.text ≡ [])
 CutsNext old (Some item) new = CutsPiece old item new
 
@@ -87,12 +87,12 @@ abbrev pub IsSoughtHere : Cutting → Type 0
 IsSoughtHere s = s.memo.unsought ≡ length (chars (drop s.at s.text))
 
 -- so it is after a token that was cut
-abbrev pub IsSoughtAfter : Item → Cutting → Type 0
+abbrev pub IsSoughtAfter : Piece → Cutting → Type 0
 IsSoughtAfter (Token token) s = IsSoughtHere s
 IsSoughtAfter (Skipped token) s = IsSoughtHere s
 IsSoughtAfter (Fault start slice) s = Unit {0}
 
-abbrev pub IsSoughtNext : Option Item → Cutting → Type 0
+abbrev pub IsSoughtNext : Option Piece → Cutting → Type 0
 IsSoughtNext None s = Unit {0}
 IsSoughtNext (Some item) s = IsSoughtAfter item s
 
@@ -104,13 +104,13 @@ pub record Follows (old : Cutting) (mode : ℕ) (new : Cutting) : Type 0 where
 -- ---- the actions of a piece
 
 -- those of a token's rule; a fault has none
-abbrev pub actions_after : List (List Action) → Item → List Action
+abbrev pub actions_after : List (List Action) → Piece → List Action
 actions_after actions (Token token) = actions_of actions token.index
 actions_after actions (Skipped token) = actions_of actions token.index
 actions_after actions (Fault start slice) = []
 
 -- the stack after the next piece, if there is one
-abbrev pub after_next : List (List Action) → Option Item → Stack → Stack
+abbrev pub after_next : List (List Action) → Option Piece → Stack → Stack
 after_next actions None s = s
 after_next actions (Some item) s = after actions item s
 

@@ -1,5 +1,5 @@
 -- The lexer of a file that was read, or why there is none.
-use Rattle.std.specs.Prelude.{◌≡◌, List, length}
+use Rattle.std.specs.Prelude.{◌≡◌, List, length, map}
 use Rattle.bajofeki_rules.specs.declared.mode_rule.ModeRule.{ModeRule}
 use Rattle.lalrpop_rule_file.specs.RuleFile.{AreModeRules as KnowTheirParts}
 use Rattle.lalrpop_rule_file.specs.declared.error.RuleFileError.TheVariants as read
@@ -10,10 +10,11 @@ use Rattle.lalrpop_rules.specs.ModeSet.{AreModeRules, IsRulesError}
 use Rattle.lalrpop_rules.specs.declared.from_file.FileError.{FileError}
 use Rattle.lalrpop_rules.specs.declared.from_file.FileError.TheVariants.{File, Rules}
 
--- the lexer has the rules of the file
+-- the lexer has the rules and the modes of the file
 abbrev pub IsLexerOfRules : RuleFile → ModeRules → Type 0
 IsLexerOfRules file lexer =
-    (taken : List ModeRule) × (KnowTheirParts file.parts.items file.rules.items taken × AreModeRules taken (length file.modes.items) lexer)
+    (taken : List ModeRule) × (KnowTheirParts file.parts.items file.rules.items taken × AreModeRules taken (length file.modes.items) lexer
+    × (lexer.mode_names ≡ map (λ m. m.now) file.modes.items))
 
 -- the error is right: memory was refused; or the rules make no lexer
 abbrev pub IsRefusalOfRules : RuleFile → FileError → Type 0

@@ -20,13 +20,14 @@ AreLexers r ls = (m : ℕ) (l : Rules) → slice_get ls m ≡ Some l → (l.tree
 abbrev pub LeadWithin : ModeRules → Type 0
 LeadWithin r = (i m : ℕ) → OneLeadsInto (actions_of r.actions i) m → m < r.modes
 
--- there is a mode, in which and in any other no word is ambiguous, each mode that an action names is there, and each rule has a name
+-- there is a mode, in which and in any other no word is ambiguous, each mode that an action names is there, and each rule and each mode has a name
 pub record IsWhole (r : ModeRules) (ls : List Rules) : Type 0 where
   pub lexers : AreLexers r ls
   pub clear : NoModeClash r
   pub within : LeadWithin r
   pub some : 0 < r.modes
   pub named : length r.names ≡ length r.trees
+  pub modes_named : length r.mode_names ≡ r.modes
 
 -- all rules name only modes that are there
 abbrev pub AllNameWithin : List ModeRule → ℕ → Type 0
@@ -35,7 +36,7 @@ AllNameWithin rs modes = (i m : ℕ) (q : ModeRule) → slice_get rs i ≡ Some 
 -- what is seen of rules while their lexers are built
 abbrev pub seen : List Tree → List ℕ → List (List ℕ) → List ℕ → ℕ → ModeRules
 seen ts ps members kinds modes =
-    record { names = []; trees = ts; precedences = ps; skips = []; actions = []; members = members; kinds = kinds; modes = modes; automata = [] }
+    record { names = []; trees = ts; precedences = ps; skips = []; actions = []; members = members; kinds = kinds; modes = modes; mode_names = []; automata = [] }
 
 -- the error for the report of a mode
 abbrev pub in_mode : ℕ → DfaConstructionError → RulesError

@@ -38,12 +38,12 @@ action_code = code_by (Option (ℕ ⊎ ℕ)) (coded_option (coded⊎ coded_ℕ c
 
 abbrev pub modes_code : Coded ModeRules
 modes_code =
-    code_by (List (List ℕ) × (List Tree × (List ℕ × (List Bool × (List (List Action) × (List (List ℕ) × (List ℕ × (ℕ × List (List Row)))))))))
+    code_by (List (List ℕ) × (List Tree × (List ℕ × (List Bool × (List (List Action) × (List (List ℕ) × (List ℕ × (ℕ × (List (List ℕ) × List (List Row))))))))))
     (coded× (coded_list (coded_list coded_ℕ)) (coded× (coded_list tree_code) (coded× (coded_list coded_ℕ) (coded× (coded_list coded_bool)
     (coded× (coded_list (coded_list action_code)) (coded× (coded_list (coded_list coded_ℕ)) (coded× (coded_list coded_ℕ)
-    (coded× coded_ℕ (coded_list (coded_list row_code))))))))))
-    (λ r. (r.names, (r.trees, (r.precedences, (r.skips, (r.actions, (r.members, (r.kinds, (r.modes, r.automata)))))))))
-    (λ p. record { names = p.0; trees = p.1.0; precedences = p.1.1.0; skips = p.1.1.1.0; actions = p.1.1.1.1.0; members = p.1.1.1.1.1.0; kinds = p.1.1.1.1.1.1.0; modes = p.1.1.1.1.1.1.1.0; automata = p.1.1.1.1.1.1.1.1 })
+    (coded× coded_ℕ (coded× (coded_list (coded_list coded_ℕ)) (coded_list (coded_list row_code)))))))))))
+    (λ r. (r.names, (r.trees, (r.precedences, (r.skips, (r.actions, (r.members, (r.kinds, (r.modes, (r.mode_names, r.automata))))))))))
+    (λ p. record { names = p.0; trees = p.1.0; precedences = p.1.1.0; skips = p.1.1.1.0; actions = p.1.1.1.1.0; members = p.1.1.1.1.1.0; kinds = p.1.1.1.1.1.1.0; modes = p.1.1.1.1.1.1.1.0; mode_names = p.1.1.1.1.1.1.1.1.0; automata = p.1.1.1.1.1.1.1.1.1 })
     (λ _. refl)
 
 abbrev pub cut_code : Coded ModeCut

@@ -12,8 +12,8 @@ use Rattle.bajofeki_rules.specs.declared.position.Position.{Position}
 use Rattle.lalrpop_rules.specs.Modes.{ModeRules}
 use Rattle.bajofeki_rules.specs.Stack.{start}
 use Rattle.lalrpop_rules.proofs.UniquePieces.{no_piece_left}
-use Rattle.lalrpop_rules.specs.declared.item.Item.{Item}
-use Rattle.lalrpop_rules.specs.declared.item.Item.TheVariants.{Token, Skipped, Fault}
+use Rattle.lalrpop_rules.specs.declared.piece.Piece.{Piece}
+use Rattle.lalrpop_rules.specs.declared.piece.Piece.TheVariants.{Token, Skipped, Fault}
 use Rattle.lexdfa_lib.specs.Streams.{Reading, AtEnd, Failed, LeftOff}
 use Rattle.pieces_lib.specs.CutEnds.{AreGiven, IsCutTo, IsFound, first_fault}
 use Rattle.pieces_lib.specs.declared.cut_end.CutEnd.TheVariants.{Whole, Stopped, Unread}
@@ -61,22 +61,22 @@ pub empty_text : (rules : ModeRules) (recovers : Bool) → IsCutTo rules recover
 empty_text rules recovers = (refl, (start, ((refl, refl), (refl, ((λ _. refl), refl)))))
 
 -- a fault where cutting ends isn't cut past
-fault_stops : (rules : ModeRules) (reading : Reading) (text : List ℕ) (xs : List Item) (inside : Option OpenMode)
+fault_stops : (rules : ModeRules) (reading : Reading) (text : List ℕ) (xs : List Piece) (inside : Option OpenMode)
     → ¬ IsCutTo rules false reading text xs (Whole true inside)
 fault_stops rules reading text xs inside cut = absurd (cc (cut.1.1.1.1.0 refl))
 
 -- where cutting goes on, it doesn't stop
-never_stops : (rules : ModeRules) (reading : Reading) (text : List ℕ) (xs : List Item) (place : Position) (found : Found)
+never_stops : (rules : ModeRules) (reading : Reading) (text : List ℕ) (xs : List Piece) (place : Position) (found : Found)
     → ¬ IsCutTo rules true reading text xs (Stopped place found)
 never_stops rules reading text xs place found cut = absurd (cc (cut.0))
 
 -- what was left off isn't whole
-left_off : (rules : ModeRules) (recovers : Bool) (bytes text : List ℕ) (xs : List Item) (has_fault : Bool) (inside : Option OpenMode)
+left_off : (rules : ModeRules) (recovers : Bool) (bytes text : List ℕ) (xs : List Piece) (has_fault : Bool) (inside : Option OpenMode)
     → ¬ IsCutTo rules recovers (record { bytes = bytes; end = LeftOff }) text xs (Whole has_fault inside)
 left_off rules recovers bytes text xs has_fault inside cut = absurd (cc (cut.0))
 
 -- and a text that was read to its end isn't unread
-read_to_its_end : (rules : ModeRules) (recovers : Bool) (bytes text : List ℕ) (xs : List Item)
+read_to_its_end : (rules : ModeRules) (recovers : Bool) (bytes text : List ℕ) (xs : List Piece)
     → ¬ IsCutTo rules recovers (record { bytes = bytes; end = AtEnd }) text xs Unread
 read_to_its_end rules recovers bytes text xs cut = absurd (cc (cut.0))
 
@@ -93,7 +93,7 @@ front_of_nothing [] back e = refl
 front_of_nothing (x ∷ front) back e = absurd (cc (e))
 
 -- so nothing is given
-pub nothing_given : (rules : ModeRules) (text left : List ℕ) (xs : List Item) (c : Chunked) (recovers : Bool) → [] ≡ text ++ left
+pub nothing_given : (rules : ModeRules) (text left : List ℕ) (xs : List Piece) (c : Chunked) (recovers : Bool) → [] ≡ text ++ left
     → AreGiven rules recovers nothing_read text xs c → xs ≡ []
 nothing_given rules text left [] c recovers is are = refl
 nothing_given rules text left (x ∷ xs) c recovers is are =

@@ -5,8 +5,8 @@ use Rattle.lalrpop_rules.specs.Modes.{after, after_all}
 use Rattle.bajofeki_rules.specs.Stack.{Stack, act, act_all, actions_of}
 use Rattle.bajofeki_rules.specs.declared.action.Action.{Action}
 use Rattle.bajofeki_rules.specs.declared.action.Action.TheVariants.{Mode, Push, Pop}
-use Rattle.lalrpop_rules.specs.declared.item.Item.{Item}
-use Rattle.lalrpop_rules.specs.declared.item.Item.TheVariants.{Token, Skipped, Fault}
+use Rattle.lalrpop_rules.specs.declared.piece.Piece.{Piece}
+use Rattle.lalrpop_rules.specs.declared.piece.Piece.TheVariants.{Token, Skipped, Fault}
 use Rattle.pieces_lib.specs.OpenModes.{pushed, pushed_all, open_after, open_behind, open_mode}
 
 -- a comment that begins at byte 4, and one in it
@@ -47,13 +47,13 @@ for_actions : (at : ℕ) (acts : List Action) (s : Stack) (begins : List ℕ) �
 for_actions at [] s begins e = e
 for_actions at (a ∷ acts) s begins e = for_actions at acts (act a s) (pushed at a begins) (one_for_each at a s begins e)
 
-for_a_piece : (actions : List (List Action)) (x : Item) (s : Stack) (begins : List ℕ) → length begins ≡ length s.below
+for_a_piece : (actions : List (List Action)) (x : Piece) (s : Stack) (begins : List ℕ) → length begins ≡ length s.below
     → length (open_after actions x begins) ≡ length (after actions x s).below
 for_a_piece actions (Token token) s begins e = for_actions token.start (actions_of actions token.index) s begins e
 for_a_piece actions (Skipped token) s begins e = for_actions token.start (actions_of actions token.index) s begins e
 for_a_piece actions (Fault begin slice) s begins e = e
 
-for_pieces : (actions : List (List Action)) (xs : List Item) (s : Stack) (begins : List ℕ) → length begins ≡ length s.below
+for_pieces : (actions : List (List Action)) (xs : List Piece) (s : Stack) (begins : List ℕ) → length begins ≡ length s.below
     → length (open_behind actions xs begins) ≡ length (after_all actions xs s).below
 for_pieces actions [] s begins e = e
 for_pieces actions (x ∷ xs) s begins e = for_pieces actions xs (after actions x s) (open_after actions x begins) (for_a_piece actions x s begins e)

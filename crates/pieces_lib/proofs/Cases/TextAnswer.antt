@@ -5,7 +5,7 @@ use Rattle.std.specs.Fmt.{digits}
 use Rattle.std.specs.Str.{chars, is_utf8}
 use Rattle.std.specs.Str.Lossy.{utf8_error_len, utf8_lossy, utf8_valid_len}
 use Rattle.bajofeki_rules.specs.Quoted.{told}
-use Rattle.lalrpop_rules.specs.declared.item.Item.TheVariants.{Fault}
+use Rattle.lalrpop_rules.specs.declared.piece.Piece.TheVariants.{Fault}
 use Rattle.lexdfa_lib.specs.declared.command.Markup.TheVariants.{Html, Ansi}
 use Rattle.pieces_lib.specs.TextAnswer.{page_of, fault_text, found_told, open_text, cut_status, cut_text}
 use Rattle.pieces_lib.specs.declared.cut_end.CutEnd.TheVariants.{Whole, Stopped, Unread}

@@ -29,7 +29,7 @@ none_told = refl
 
 -- one rule, which has no modes
 abbrev named : List ℕ → ModeRules
-named name = record { names = name ∷ []; trees = []; precedences = []; skips = false ∷ []; actions = [] ∷ []; members = []; kinds = []; modes = 2; automata = [] }
+named name = record { names = name ∷ []; trees = []; precedences = []; skips = false ∷ []; actions = [] ∷ []; members = []; kinds = []; modes = 2; mode_names = []; automata = [] }
 
 abbrev found : Answers
 found = record { word = 10 ∷ []; left = Some 0; right = None }

@@ -54,6 +54,7 @@ rules t = record {
   members = (0 ∷ []) ∷ (0 ∷ []) ∷ (1 ∷ []) ∷ [];
   kinds = 0 ∷ 1 ∷ 2 ∷ [];
   modes = 2;
+  mode_names = [];
   automata = [];
 }
 

@@ -14,7 +14,7 @@ use Rattle.lalrpop_review.specs.declared.mode.ModeReview.{ModeReview}
 use Rattle.lalrpop_verdicts.specs.WonWord.{WonWord}
 use Rattle.reports_lib.specs.ReportedFile.{ReportedFile}
 use Rattle.reviews_lib.specs.ReviewJson.{shown_value, word_text, rule_member, place_members, empty_members, winner_object, winners_member, idle_members, after_members, witness_members, unbounded_members, look_members, automaton_members, clash_members}
-use Rattle.reports_lib.specs.ItemLines.{kind_member, object_line}
+use Rattle.reports_lib.specs.PieceLines.{kind_member, object_line}
 use Rattle.reports_lib.proofs.JsonLaws.{line_as_is}
 
 -- two rules, IF in line 1 and NAME in line 2

@@ -20,14 +20,14 @@ returns-in_err-piece-clause-none c =
     c.in_ok-block.block.now c.in_ok-block.start c.args.at c.in_ok-block.ensures.found in
     absurd (omega (arith, c.in_err-piece.ensures.none, reaches, ap sizes c.deref.ensures.value))
 
-pub item_of-requires-clause-begins : goal.item_of-requires-clause-begins
-item_of-requires-clause-begins c =
+pub piece_of-requires-clause-begins : goal.piece_of-requires-clause-begins
+piece_of-requires-clause-begins c =
     let piece = subst (λ (ks : List Kept). IsPieceAt ks c.in_ok-block.start c.in_ok-piece.piece c.in_ok-piece.start c.args.at) c.deref.ensures.value c.in_ok-piece.ensures.found in
     (held_bounds c.args.lexer.now c.args.text.now c.args.blocks.now c.requires.blocks.0 c.requires.blocks.1 c.utf8.text
     c.in_ok-block.block.now c.in_ok-block.start c.args.at c.in_ok-block.ensures.found c.in_ok-piece.piece c.in_ok-piece.start piece).0
 
-pub item_of-requires-clause-ends : goal.item_of-requires-clause-ends
-item_of-requires-clause-ends c =
+pub piece_of-requires-clause-ends : goal.piece_of-requires-clause-ends
+piece_of-requires-clause-ends c =
     let piece = subst (λ (ks : List Kept). IsPieceAt ks c.in_ok-block.start c.in_ok-piece.piece c.in_ok-piece.start c.args.at) c.deref.ensures.value c.in_ok-piece.ensures.found in
     (held_bounds c.args.lexer.now c.args.text.now c.args.blocks.now c.requires.blocks.0 c.requires.blocks.1 c.utf8.text
     c.in_ok-block.block.now c.in_ok-block.start c.args.at c.in_ok-block.ensures.found c.in_ok-piece.piece c.in_ok-piece.start piece).1
@@ -36,4 +36,4 @@ pub returns-clause-piece : goal.returns-clause-piece
 returns-clause-piece c =
     let piece = subst (λ (ks : List Kept). IsPieceAt ks c.in_ok-block.start c.in_ok-piece.piece c.in_ok-piece.start c.args.at) c.deref.ensures.value c.in_ok-piece.ensures.found in
     held_piece c.args.lexer.now c.args.text.now c.args.blocks.now c.requires.blocks.0 c.requires.blocks.1 c.utf8.text
-    c.in_ok-block.block.now c.in_ok-block.start c.args.at c.in_ok-block.ensures.found c.in_ok-piece.piece c.in_ok-piece.start piece c.item_of.result c.item_of.ensures.item
+    c.in_ok-block.block.now c.in_ok-block.start c.args.at c.in_ok-block.ensures.found c.in_ok-piece.piece c.in_ok-piece.start piece c.piece_of.result c.piece_of.ensures.piece

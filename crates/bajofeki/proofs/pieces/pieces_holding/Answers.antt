@@ -4,7 +4,7 @@ use Rattle.std.proofs.lemmas.List.{take_all}
 use Rattle.std.proofs.lemmas.Option.{slice_get_read}
 use Rattle.bajofeki.specs.declared.block.Block.{Block}
 use Rattle.bajofeki.specs.Internal.Blocks.{pieces_in, sizes}
-use Rattle.bajofeki.specs.Internal.Items.{AddsHolding, items_from}
+use Rattle.bajofeki.specs.Internal.KeptPieces.{AddsHolding, items_from}
 use Rattle.bajofeki.proofs.Finding.{block_adds, block_bounds, block_bytes, block_ends, block_passed, kept}
 use Rattle.bajofeki.proofs.Holding.{are_in}
 use Rattle.bajofeki.proofs.pieces.pieces_holding.Goals as goal

@@ -1,6 +1,6 @@
 use Rattle.std.proofs.Common.{◌≡◌, [], take}
 use Rattle.bajofeki.specs.Internal.Blocks.{pieces_in, size_in}
-use Rattle.bajofeki.specs.Internal.Items.{AddsHolding, items_from}
+use Rattle.bajofeki.specs.Internal.KeptPieces.{AddsHolding, items_from}
 use Rattle.bajofeki.proofs.pieces.pieces_holding.Given as goal
 
 -- those of the blocks so far are added

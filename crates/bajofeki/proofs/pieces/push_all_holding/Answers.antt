@@ -2,7 +2,7 @@ use Rattle.std.proofs.Common.{◌≡◌, ◌+◌, get_or, List, take, ap, sym, s
 use Rattle.std.specs.Str.{IsCharBoundary}
 use Rattle.bajofeki.specs.declared.kept.Kept.{Kept}
 use Rattle.bajofeki.specs.Internal.Blocks.{sizes}
-use Rattle.bajofeki.specs.Internal.Items.{AddsHolding, items_from}
+use Rattle.bajofeki.specs.Internal.KeptPieces.{AddsHolding, items_from}
 use Rattle.bajofeki.proofs.BlockLaws.{sizes_more}
 use Rattle.bajofeki.proofs.Holding.{adds_next, adds_none, all_within}
 use Rattle.bajofeki.proofs.pieces.push_all_holding.Goals as goal

@@ -1,6 +1,6 @@
 use Rattle.std.proofs.Common.{◌≡◌, ◌+◌, take}
 use Rattle.bajofeki.specs.Internal.Blocks.{sizes}
-use Rattle.bajofeki.specs.Internal.Items.{AddsHolding, items_from}
+use Rattle.bajofeki.specs.Internal.KeptPieces.{AddsHolding, items_from}
 use Rattle.bajofeki.proofs.pieces.push_all_holding.Given as goal
 
 -- those of the pieces so far are added

@@ -7,7 +7,7 @@ abbrev pub invariant-writing : goal.invariant-writing
 invariant-writing l = record {
   within : l.count ≤ l.room;
   size : length l.out ≡ length l.initial.out;
-  front : take l.count l.out ≡ map told (take l.count l.items);
+  front : take l.count l.out ≡ map told (take l.count l.pieces);
   behind : drop l.count l.out ≡ drop l.count l.initial.out;
 }
 

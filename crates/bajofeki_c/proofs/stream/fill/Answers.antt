@@ -2,9 +2,9 @@ use Rattle.std.proofs.Common.{◌+◌, inl, [], ◌∷◌, ◌++◌, map, refl, 
 use Rattle.std.proofs.lemmas.List.{take_more_set, drop-set-lt, map-append}
 use Rattle.std.proofs.lemmas.Grind.{drop_more_same}
 use Rattle.std.specs.Prelude.{Option, Some, None, Ok}
-use Rattle.lalrpop_rules.specs.declared.item.Item.{Item}
+use Rattle.lalrpop_rules.specs.declared.piece.Piece.{Piece}
 use Rattle.bajofeki.specs.Chunked.{Chunked, GivesFinal, GivesOrRefuses, IsHeldBack}
-use Rattle.bajofeki.specs.Given.{item_of}
+use Rattle.bajofeki.specs.Given.{piece_of}
 use Rattle.bajofeki.specs.declared.given_piece.GivenPiece.{GivenPiece}
 use Rattle.bajofeki_c.specs.Document.{told}
 use Rattle.bajofeki_c.specs.Stream.{AreGiven}
@@ -14,17 +14,17 @@ use Rattle.bajofeki_c.proofs.stream.fill.Goals as goal
 pub filling-preserved : goal.filling-preserved
 filling-preserved c =
     let i = c.filling.invariant.given in let new = c.next_piece.new.self in let piece = c.in-Ok-Some.piece in
-    let x : Item = item_of piece c.slice.result in
+    let x : Piece = piece_of piece c.slice.result in
     let gives : GivesOrRefuses c.filling.chunks (Ok (Some piece)) new =
     subst (λ (o : Option GivenPiece). GivesOrRefuses c.filling.chunks (Ok o) new) c.in-Ok-Some.field-0-is c.in-Ok-Some.ensures.gives in
     let final : GivesFinal c.filling.chunks (Some x) new = gives c.slice.result c.slice.ensures.slice in record {
       within = omega (arith, c.filling-test.true, length-set c.filling.out c.filling.count c.told.result);
       given = record {
-        items = i.items ++ x ∷ [];
-        given = gives_more c.args.chunks.now i.items c.filling.chunks x new i.given final;
-        count = omega (arith, i.count, length-append i.items (x ∷ []));
+        pieces = i.pieces ++ x ∷ [];
+        given = gives_more c.args.chunks.now i.pieces c.filling.chunks x new i.given final;
+        count = omega (arith, i.count, length-append i.pieces (x ∷ []));
         front = take_more_set c.filling.out c.filling.count c.told.result c.filling-test.true ∙ ap (λ first. first ++ c.told.result ∷ []) i.front
-            ∙ ap (λ s. map told i.items ++ s ∷ []) c.told.ensures.told ∙ sym (map-append told i.items (x ∷ []));
+            ∙ ap (λ s. map told i.pieces ++ s ∷ []) c.told.ensures.told ∙ sym (map-append told i.pieces (x ∷ []));
         behind = drop-set-lt (c.filling.count + 1) c.filling.out c.filling.count c.told.result (omega arith)
             ∙ drop_more_same c.filling.out _ c.filling.count i.behind;
       };

@@ -43,6 +43,7 @@ returns-clause-clashes c =
       members = map (λ k. k.modes.items) c.in_ok-known.known.items;
       kinds = c.in_ok-kinds.kinds.items;
       modes = c.args.modes;
+      mode_names = [];
       automata = [];
     } in
     let are : AreModeRules c.args.rules.now c.args.modes r = record {

@@ -1,6 +1,6 @@
 use Rattle.std.proofs.Common.{true, refl, ℕ, List}
 use Rattle.lalrpop_rules.proofs.Results.{handed_on}
-use Rattle.lalrpop_rules.specs.declared.item.Item.{Item}
+use Rattle.lalrpop_rules.specs.declared.piece.Piece.{Piece}
 use Rattle.lexdfa_lib.specs.declared.error.RunError.TheVariants.{OutOfMemory}
 use Rattle.pieces_lib.specs.TextAnswer.{page_of}
 use Rattle.pieces_lib.proofs.WrittenLaws.{IsWrittenPart, err_so, none_written, ok_so, page_goes_on, page_so}
@@ -8,7 +8,7 @@ use Rattle.pieces_lib.proofs.page.write_page.Goals as goal
 
 pub returns-in_err-form-clause-part : goal.returns-in_err-form-clause-part
 returns-in_err-form-clause-part g c =
-    let out : List ℕ → List Item → List ℕ = λ text xs. page_of c.args.markup c.args.lexer.now.names xs in
+    let out : List ℕ → List Piece → List ℕ = λ text xs. page_of c.args.markup c.args.lexer.now.names xs in
     handed_on (IsWrittenPart c.args.reader.now c.args.reader.now c.args.console.now c.args.console.now c.args.lexer.now true out)
     c.from_residual.result OutOfMemory c.from_residual.ensures.1
     (none_written c.args.reader.now c.args.console.now c.args.lexer.now true out OutOfMemory refl)

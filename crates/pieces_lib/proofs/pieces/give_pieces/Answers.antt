@@ -2,7 +2,7 @@ use Rattle.std.proofs.Common.{◌≡◌, true, false, List, ℕ, [], ◌∷◌, 
 use Rattle.std.specs.Prelude.{not}
 use Rattle.lexdfa_lib.specs.declared.error.RunError.TheVariants.{OutOfMemory}
 use Rattle.lalrpop_rules.proofs.Results.{handed_on}
-use Rattle.bajofeki.specs.Given.{item_of}
+use Rattle.bajofeki.specs.Given.{piece_of}
 use Rattle.lalrpop_rules.specs.Pieces.{slice_of}
 use Rattle.pieces_lib.specs.Console.{WritesPart}
 use Rattle.pieces_lib.specs.CutEnds.{IsFound}
@@ -24,28 +24,28 @@ pub stopped-requires : goal.stopped-requires
 stopped-requires g c =
     let piece = c.in-Some.cut.piece in
     let slice = c.slice-slice.result in
-    let gives : GivesCut c.giving.cutter (item_of piece slice) c.in-Some.cut.place c.in-Some.cut.mode c.next_piece.new.self =
+    let gives : GivesCut c.giving.cutter (piece_of piece slice) c.in-Some.cut.place c.in-Some.cut.mode c.next_piece.new.self =
     (rw c.in-Some.is at c.in_ok-cut.ensures.gives) slice c.slice-slice.ensures.slice in
     record {
-      some = λ none. some_slice c.giving.cutter c.next_piece.new.self (item_of piece slice) _ _ gives (slice_by piece.rule piece.is_skipped piece.start slice ∙ none);
+      some = λ none. some_slice c.giving.cutter c.next_piece.new.self (piece_of piece slice) _ _ gives (slice_by piece.rule piece.is_skipped piece.start slice ∙ none);
     }
 
 pub returns-then-not-goes_on-clause-given : goal.returns-then-not-goes_on-clause-given
 returns-then-not-goes_on-clause-given g c begun text xs is =
     let piece = c.in-Some.cut.piece in
     let slice = c.slice-slice.result in
-    let gives : GivesCut c.giving.cutter (item_of piece slice) c.in-Some.cut.place c.in-Some.cut.mode c.next_piece.new.self =
+    let gives : GivesCut c.giving.cutter (piece_of piece slice) c.in-Some.cut.place c.in-Some.cut.mode c.next_piece.new.self =
     (rw c.in-Some.is at c.in_ok-cut.ensures.gives) slice c.slice-slice.ensures.slice in
     let ends : goes_on c.args.sheet.now.form ≡ false = ap goes_on (sym c.giving.invariant.form) ∙ sym c.goes_on.ensures.goes ∙ c.if-not-goes_on.true in
-    let fault : is_fault (item_of piece slice) ≡ true = fault_by piece.rule piece.is_skipped piece.start slice ∙ ap not (c.is_none.ensures ∙ ap not c.if-is_none.true) in
-    let shows : IsFound (slice_of (item_of piece slice)) c.stopped.ensures.stopped.0 =
+    let fault : is_fault (piece_of piece slice) ≡ true = fault_by piece.rule piece.is_skipped piece.start slice ∙ ap not (c.is_none.ensures ∙ ap not c.if-is_none.true) in
+    let shows : IsFound (slice_of (piece_of piece slice)) c.stopped.ensures.stopped.0 =
     subst (λ (t : List ℕ). IsFound t c.stopped.ensures.stopped.0) (sym (slice_by piece.rule piece.is_skipped piece.start slice)) c.stopped.ensures.stopped.1.1 in
     let ys = c.giving.invariant.given begun text xs is in (
       ys.0,
       (
         c.giving.cutter.incoming.chunks,
         (
-          stops_at _ _ text ys.0 c.giving.cutter _ begun _ ys.1 c.next_piece.new.self (item_of piece slice) _ _ gives ends fault c.stopped.ensures.stopped.0 c.stopped.result
+          stops_at _ _ text ys.0 c.giving.cutter _ begun _ ys.1 c.next_piece.new.self (piece_of piece slice) _ _ gives ends fault c.stopped.ensures.stopped.0 c.stopped.result
               c.stopped.ensures.stopped.1.0 shows,
           (ys.1.written, c.giving.invariant.same.ended),
         ),
@@ -56,21 +56,21 @@ pub giving-smaller : goal.giving-smaller
 giving-smaller g c =
     let piece = c.in-Some.cut.piece in
     let slice = c.slice-slice.result in
-    let gives : GivesCut c.giving.cutter (item_of piece slice) c.in-Some.cut.place c.in-Some.cut.mode c.next_piece.new.self =
+    let gives : GivesCut c.giving.cutter (piece_of piece slice) c.in-Some.cut.place c.in-Some.cut.mode c.next_piece.new.self =
     (rw c.in-Some.is at c.in_ok-cut.ensures.gives) slice c.slice-slice.ensures.slice in
-    less_left c.giving.cutter c.next_piece.new.self (item_of piece slice) _ _ gives
+    less_left c.giving.cutter c.next_piece.new.self (piece_of piece slice) _ _ gives
 
 pub giving-preserved : goal.giving-preserved
 giving-preserved g c =
     let piece = c.in-Some.cut.piece in
     let slice = c.slice-slice.result in
-    let item = item_of piece slice in
+    let item = piece_of piece slice in
     let place = c.in-Some.cut.place in
     let mode = c.in-Some.cut.mode in
     let i = c.giving.invariant in
-    let gives : GivesCut c.giving.cutter (item_of piece slice) c.in-Some.cut.place c.in-Some.cut.mode c.next_piece.new.self =
+    let gives : GivesCut c.giving.cutter (piece_of piece slice) c.in-Some.cut.place c.in-Some.cut.mode c.next_piece.new.self =
     (rw c.in-Some.is at c.in_ok-cut.ensures.gives) slice c.slice-slice.ensures.slice in
-    let other : goes_on c.args.sheet.now.form ≡ false → is_fault (item_of piece slice) ≡ false =
+    let other : goes_on c.args.sheet.now.form ≡ false → is_fault (piece_of piece slice) ≡ false =
     elim c.else-is_none.branch [
       | else-is_none-via-then-is_none+else-not-goes_on w ↦ (
           λ ends. absurd (cc (w.goes_on.ensures.goes, w.if-not-goes_on.false, ends))
@@ -93,13 +93,13 @@ pub returns-in_err-put_piece-clause-part : goal.returns-in_err-put_piece-clause-
 returns-in_err-put_piece-clause-part g c =
     let piece = c.in-Some.cut.piece in
     let slice = c.slice-slice.result in
-    let item = item_of piece slice in
+    let item = piece_of piece slice in
     let place = c.in-Some.cut.place in
     let mode = c.in-Some.cut.mode in
     let i = c.giving.invariant in
-    let gives : GivesCut c.giving.cutter (item_of piece slice) c.in-Some.cut.place c.in-Some.cut.mode c.next_piece.new.self =
+    let gives : GivesCut c.giving.cutter (piece_of piece slice) c.in-Some.cut.place c.in-Some.cut.mode c.next_piece.new.self =
     (rw c.in-Some.is at c.in_ok-cut.ensures.gives) slice c.slice-slice.ensures.slice in
-    let other : goes_on c.args.sheet.now.form ≡ false → is_fault (item_of piece slice) ≡ false =
+    let other : goes_on c.args.sheet.now.form ≡ false → is_fault (piece_of piece slice) ≡ false =
     elim c.else-is_none.branch [
       | else-is_none-via-then-is_none+else-not-goes_on w ↦ (
           λ ends. absurd (cc (w.goes_on.ensures.goes, w.if-not-goes_on.false, ends))

@@ -1,6 +1,6 @@
 use Rattle.std.proofs.Common.{◌≡◌, false, ℕ, List, [], ◌++◌, sym, ◌∙◌}
 use Rattle.std.proofs.lemmas.Str.{utf8_lossy-IsUtf8}
-use Rattle.bajofeki.specs.Given.{item_of}
+use Rattle.bajofeki.specs.Given.{piece_of}
 use Rattle.lalrpop_rules.proofs.Results.{handed_on}
 use Rattle.lexdfa_lib.specs.declared.error.RunError.{RunError}
 use Rattle.lexdfa_lib.specs.declared.error.RunError.TheVariants.{OutOfMemory}
@@ -15,7 +15,7 @@ pub returns-in_err-push_line-clause-part : goal.returns-in_err-push_line-clause-
 returns-in_err-push_line-clause-part g c =
     let sheet = c.args.sheet.now in
     let cut = c.args.cut.now in
-    let bytes : List ℕ = sheet.waiting.items ++ piece_shown sheet.form sheet.lexer.now.names cut.place cut.mode (item_of cut.piece c.args.slice) in
+    let bytes : List ℕ = sheet.waiting.items ++ piece_shown sheet.form sheet.lexer.now.names cut.place cut.mode (piece_of cut.piece c.args.slice) in
     handed_on (λ (error : RunError). WritesPart c.args.console.now bytes error c.args.console.now) c.from_residual.result OutOfMemory c.from_residual.ensures.1
     (writes_front c.args.console.now c.args.console.now [] bytes (writes_none c.args.console.now))
 
@@ -23,7 +23,7 @@ pub returns-in_err-text-clause-part : goal.returns-in_err-text-clause-part
 returns-in_err-text-clause-part g c =
     let sheet = c.args.sheet.now in
     let cut = c.args.cut.now in
-    let bytes : List ℕ = sheet.waiting.items ++ piece_shown sheet.form sheet.lexer.now.names cut.place cut.mode (item_of cut.piece c.args.slice) in
+    let bytes : List ℕ = sheet.waiting.items ++ piece_shown sheet.form sheet.lexer.now.names cut.place cut.mode (piece_of cut.piece c.args.slice) in
     handed_on (λ (error : RunError). WritesPart c.args.console.now bytes error c.args.console.now) c.from_residual-in_err-text.result OutOfMemory c.from_residual-in_err-text.ensures.1
     (writes_front c.args.console.now c.args.console.now [] bytes (writes_none c.args.console.now))
 

@@ -1,4 +1,4 @@
-use Rattle.std.proofs.Common.{inr, map, string_bytes}
+use Rattle.std.proofs.Common.{inr, string_bytes}
 use Rattle.bajofeki_rules.specs.Lines.{lines}
 use Rattle.lalrpop_rule_file.specs.RuleFile.{without_mark}
 use Rattle.lexdfa_lib.specs.declared.layout.LineForm.TheVariants.{Plain}
@@ -10,7 +10,7 @@ use Rattle.reports_lib.proofs.by_rules.lexer_of_bytes.Goals as goal
 pub returns-in_ok-lexer_of_rules-in-Ok-clause-lexer : goal.returns-in_ok-lexer_of_rules-in-Ok-clause-lexer
 returns-in_ok-lexer_of_rules-in-Ok-clause-lexer c =
     warned_lexer c.warned_lexer.result c.in_ok-lexer_of_rules-in-Ok.field-0 (λ w. w.lexer) (λ w. w.said) c.in_ok-said-in-Ok.said c.warned_lexer.ensures.lexer
-    (λ f. AreRulesOf c.args.bytes.now f.lexer (map string_bytes f.modes.items)) c.in_ok-lexer_of_rules-in-Ok.ensures.lexer
+    (λ f. AreRulesOf c.args.bytes.now f f.mode_names) c.in_ok-lexer_of_rules-in-Ok.ensures.lexer
 
 pub returns-in_ok-lexer_of_rules-in-Ok-clause-warned : goal.returns-in_ok-lexer_of_rules-in-Ok-clause-warned
 returns-in_ok-lexer_of_rules-in-Ok-clause-warned c =

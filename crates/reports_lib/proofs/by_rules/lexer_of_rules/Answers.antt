@@ -28,7 +28,7 @@ returns-clause-lexer c =
       rs,
       (
         subst (λ (ms : List (List ℕ)). SayRules (lines (without_mark c.args.bytes.now)) ms rs) (sym names) say,
-        subst (λ (ms : List (List ℕ)). IsSetOf rs ms f.lexer) (sym names) is,
+        subst (λ (ms : List (List ℕ)). IsSetOf rs ms f) (sym names) is,
       ),
     ))
     c.lexer_of_file.ensures.lexer c.lexer_of_file.ensures.names

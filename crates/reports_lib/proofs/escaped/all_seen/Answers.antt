@@ -3,7 +3,7 @@ use Rattle.std.specs.Str.{chars, encode_utf8_all}
 use Rattle.std.proofs.lemmas.List.{map-id}
 use Rattle.std.proofs.lemmas.Iterator.{YieldsList-from_chars}
 use Rattle.std.proofs.lemmas.Iterator.Consumers.{YieldsList-end}
-use Rattle.reports_lib.specs.ItemLines.{json_told}
+use Rattle.reports_lib.specs.PieceLines.{json_told}
 use Rattle.reports_lib.proofs.JsonLaws.{all_as_is, one_more}
 use Rattle.reports_lib.proofs.escaped.all_seen.Goals as goal
 

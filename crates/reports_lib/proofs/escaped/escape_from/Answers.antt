@@ -4,7 +4,7 @@ use Rattle.std.specs.Str.Lossy.{utf8_lossy}
 use Rattle.std.proofs.lemmas.List.{map-id, take-append-drop}
 use Rattle.std.proofs.lemmas.Iterator.{YieldsList-from_chars}
 use Rattle.std.proofs.lemmas.Iterator.Consumers.{YieldsList-end}
-use Rattle.reports_lib.specs.ItemLines.{escaped, json_told}
+use Rattle.reports_lib.specs.PieceLines.{escaped, json_told}
 use Rattle.reports_lib.proofs.JsonLaws.{rest_of}
 use Rattle.reports_lib.proofs.escaped.escape_from.Goals as goal
 

@@ -1,5 +1,5 @@
 use Rattle.std.proofs.Common.{◌≡◌, ◌++◌, take, flat_map}
-use Rattle.reports_lib.specs.ItemLines.{json_told}
+use Rattle.reports_lib.specs.PieceLines.{json_told}
 use Rattle.reports_lib.proofs.escaped.escape_from.Given as goal
 
 -- what stood before, and the characters so far

@@ -1,7 +1,7 @@
 use Rattle.std.proofs.Common.{◌≡◌, ℕ, true, List, ◌++◌, flat_map, sym, ap, ◌∙◌}
 use Rattle.std.proofs.lemmas.List.{take_all}
 use Rattle.bajofeki_rules.specs.Quoted.{is_unseen}
-use Rattle.reports_lib.specs.ItemLines.{unit_told}
+use Rattle.reports_lib.specs.PieceLines.{unit_told}
 use Rattle.reports_lib.proofs.escaped.push_told.Goals as goal
 
 pub returns : goal.returns

@@ -1,5 +1,5 @@
 use Rattle.std.proofs.Common.{◌≡◌, ◌++◌, take, flat_map}
-use Rattle.reports_lib.specs.ItemLines.{unit_told}
+use Rattle.reports_lib.specs.PieceLines.{unit_told}
 use Rattle.reports_lib.proofs.escaped.push_told.Given as goal
 
 -- the units so far

@@ -1,7 +1,7 @@
 use Rattle.std.proofs.Common.{◌++◌, ◌∙◌, flat_map, map, string_bytes, ap}
 use Rattle.lalrpop_rules.specs.ModeSet.{rules_of}
 use Rattle.lalrpop_rules.specs.RuleSet.{names_of}
-use Rattle.reports_lib.specs.ItemLines.{mode_named}
+use Rattle.reports_lib.specs.PieceLines.{mode_named}
 use Rattle.reports_lib.specs.RuleClashes.{named_line}
 use Rattle.reports_lib.proofs.ClashLineLaws.{lines_pushed}
 use Rattle.reports_lib.proofs.named_clashes.clash_lines.Goals as goal

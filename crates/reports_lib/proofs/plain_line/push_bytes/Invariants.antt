@@ -1,5 +1,5 @@
 use Rattle.std.proofs.Common.{◌≡◌, ◌++◌, codes, flat_map, string_bytes, take}
-use Rattle.reports_lib.specs.ItemLines.{byte_told}
+use Rattle.reports_lib.specs.PieceLines.{byte_told}
 use Rattle.reports_lib.proofs.plain_line.push_bytes.Given as goal
 
 -- the quote and the bytes so far

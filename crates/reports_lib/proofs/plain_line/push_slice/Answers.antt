@@ -1,6 +1,6 @@
 use Rattle.std.proofs.Common.{◌≡◌, sym, ap, ◌∙◌}
 use Rattle.bajofeki_rules.specs.Quoted.{quoted}
-use Rattle.reports_lib.specs.ItemLines.{slice_told}
+use Rattle.reports_lib.specs.PieceLines.{slice_told}
 use Rattle.reports_lib.proofs.SliceLaws.{bytes_told, text_told}
 use Rattle.reports_lib.proofs.plain_line.push_slice.Goals as goal
 

@@ -6,7 +6,7 @@ use Rattle.bajofeki_rules.specs.declared.position.Position.{Position}
 use Rattle.lalrpop_rules.specs.ModeSet.{rules_of}
 use Rattle.bajofeki_rules.specs.declared.mode_rule.ModeRule.{ModeRule}
 use Rattle.lalrpop_rules.specs.RuleSet.{names_of}
-use Rattle.reports_lib.specs.ItemLines.{name_at}
+use Rattle.reports_lib.specs.PieceLines.{name_at}
 use Rattle.reports_lib.specs.Reasons.{clash_text, mode_said}
 use Rattle.reports_lib.proofs.rule_explain.clash_explained.Goals as goal
 

@@ -2,7 +2,7 @@ use Rattle.std.proofs.Common.{◌≡◌, flat_map, take}
 use Rattle.std.proofs.lemmas.List.{take_all}
 use Rattle.bajofeki_rules.specs.Lines.{lines}
 use Rattle.lalrpop_rule_file.specs.RuleFile.{without_mark}
-use Rattle.reports_lib.specs.ItemLines.{object_line}
+use Rattle.reports_lib.specs.PieceLines.{object_line}
 use Rattle.reports_lib.specs.Warned.{warning_members}
 use Rattle.reports_lib.specs.Internal.ModePlaces.{section_at}
 use Rattle.reports_lib.proofs.ModePlaces.{sections_told}

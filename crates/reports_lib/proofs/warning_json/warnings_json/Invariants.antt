@@ -1,6 +1,6 @@
 use Rattle.std.proofs.Common.{◌≡◌, flat_map, take}
 use Rattle.bajofeki_rules.specs.Lines.{lines}
-use Rattle.reports_lib.specs.ItemLines.{object_line}
+use Rattle.reports_lib.specs.PieceLines.{object_line}
 use Rattle.reports_lib.specs.Warned.{warning_members}
 use Rattle.reports_lib.specs.Internal.ModePlaces.{section_at}
 use Rattle.reports_lib.proofs.warning_json.warnings_json.Given as goal

@@ -9,7 +9,7 @@ pub returns-in_ok-compare_with-in-Ok : goal.returns-in_ok-compare_with-in-Ok
 returns-in_ok-compare_with-in-Ok g c = record {
   answer = IfOk-weaker c.after.result _ _
       (λ answer same. by_lexer c.args.verbosity (GivesWhole (g.F.Files.gives c.args.files.now)) (λ r modes. ComparedAnswer (GivesWhole (g.F.Files.gives c.args.files.now)) c.args.verbosity c.args.rules.now r modes (other_of (map (λ name. name.now) c.args.names.now))) c.args.rules.now
-      c.in-Ok.found.lexer.lexer (map string_bytes c.in-Ok.found.lexer.modes.items) (string_bytes c.in-Ok.found.said) c.in_ok-compare_with-in-Ok.field-0 answer
+      c.in-Ok.found.lexer c.in-Ok.found.lexer.mode_names (string_bytes c.in-Ok.found.said) c.in_ok-compare_with-in-Ok.field-0 answer
       (rw c.in-Ok.is at c.in_ok-found.ensures.lexer) (rw c.other_of-other.ensures.other at c.in_ok-compare_with-in-Ok.ensures.answer) same)
       c.after.ensures.followed;
 }

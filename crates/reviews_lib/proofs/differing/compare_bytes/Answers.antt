@@ -1,4 +1,4 @@
-use Rattle.std.proofs.Common.{map, string_bytes}
+use Rattle.std.proofs.Common.{string_bytes}
 use Rattle.std.proofs.lemmas.Result.{IfOk-weaker}
 use Rattle.reviews_lib.specs.Compared.{DifferenceAnswer}
 use Rattle.reports_lib.proofs.RuleLaws.{by_rules, no_rules}
@@ -7,14 +7,14 @@ use Rattle.reviews_lib.proofs.differing.compare_bytes.Goals as goal
 pub returns-in_ok-difference_reply-in-Ok : goal.returns-in_ok-difference_reply-in-Ok
 returns-in_ok-difference_reply-in-Ok c = record {
   answer = IfOk-weaker c.after.result _ _
-      (λ answer same. by_rules c.args.verbosity (λ s others. DifferenceAnswer c.args.name.now c.args.rules.now.lexer (map string_bytes c.args.rules.now.modes.items) c.args.other.now s others) c.args.other.now
-      c.args.bytes.now c.in-Ok.found.lexer.lexer (map string_bytes c.in-Ok.found.lexer.modes.items) (string_bytes c.in-Ok.found.said) c.in_ok-difference_reply-in-Ok.field-0 answer
+      (λ answer same. by_rules c.args.verbosity (λ s others. DifferenceAnswer c.args.name.now c.args.rules.now c.args.rules.now.mode_names c.args.other.now s others) c.args.other.now
+      c.args.bytes.now c.in-Ok.found.lexer c.in-Ok.found.lexer.mode_names (string_bytes c.in-Ok.found.said) c.in_ok-difference_reply-in-Ok.field-0 answer
       (rw c.in-Ok.is at c.in_ok-found.ensures.lexer) (rw c.in-Ok.is at c.in_ok-found.ensures.warned) c.in_ok-difference_reply-in-Ok.ensures.answer same)
       c.after.ensures.followed;
 }
 
 pub returns-in-Err : goal.returns-in-Err
 returns-in-Err c = record {
-  answer = no_rules c.args.verbosity (λ s others. DifferenceAnswer c.args.name.now c.args.rules.now.lexer (map string_bytes c.args.rules.now.modes.items) c.args.other.now s others) c.args.other.now
+  answer = no_rules c.args.verbosity (λ s others. DifferenceAnswer c.args.name.now c.args.rules.now c.args.rules.now.mode_names c.args.other.now s others) c.args.other.now
       c.args.bytes.now c.in-Err.reply (rw c.in-Err.is at c.in_ok-found.ensures.refused);
 }

@@ -7,7 +7,7 @@ use Rattle.reviews_lib.proofs.pictured.labels.Goals as goal
 
 pub loop-rule-preserved : goal.loop-rule-preserved
 loop-rule-preserved c =
-    let of_rule = label c.args.rules.now.lexer (map string_bytes c.args.rules.now.modes.items) in
+    let of_rule = label c.args.rules.now c.args.rules.now.mode_names in
     let before = c.loop-rule.all.items in
     let n = c.loop-rule.rule in
     ap (map string_bytes) c.in_ok-push.ensures.items ∙ map-append string_bytes before (c.in_ok-text.text ∷ [])
@@ -20,5 +20,5 @@ returns c =
     let names = c.names-rule-end.result.now in
     let end : c.loop-rule.rule ≡ length names = omega (arith, c.loop-rule-test.false, c.loop-rule.auto.rule-end) in
     c.loop-rule.invariant
-    ∙ ap (λ (n : ℕ). map (label c.args.rules.now.lexer (map string_bytes c.args.rules.now.modes.items)) (range_with_len 0 n))
+    ∙ ap (λ (n : ℕ). map (label c.args.rules.now c.args.rules.now.mode_names) (range_with_len 0 n))
     (end ∙ sym (length-map names string_bytes) ∙ ap length c.names-rule-end.ensures.names)

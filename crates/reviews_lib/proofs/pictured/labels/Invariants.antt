@@ -4,4 +4,4 @@ use Rattle.reviews_lib.specs.Pictured.{label}
 use Rattle.reviews_lib.proofs.pictured.labels.Given as goal
 
 abbrev pub invariant-loop-rule : goal.invariant-loop-rule
-invariant-loop-rule l = map string_bytes l.all.items ≡ map (label l.rules.lexer (map string_bytes l.rules.modes.items)) (range_with_len 0 l.rule)
+invariant-loop-rule l = map string_bytes l.all.items ≡ map (label l.rules l.rules.mode_names) (range_with_len 0 l.rule)

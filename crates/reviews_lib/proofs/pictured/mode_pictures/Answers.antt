@@ -1,6 +1,6 @@
 use Rattle.std.proofs.Common.{ℕ, ◌+◌, List, ◌++◌, map, string_bytes, sym, ap, subst, ◌∙◌}
 use Rattle.std.specs.List.{range_with_len}
-use Rattle.reports_lib.specs.ItemLines.{mode_named}
+use Rattle.reports_lib.specs.PieceLines.{mode_named}
 use Rattle.lalrpop_verdicts.specs.Picture.{dot}
 use Rattle.reviews_lib.specs.Pictured.{ArePictures, IsModePicture}
 use Rattle.reviews_lib.proofs.Pictures.{pictures_more}
@@ -8,8 +8,8 @@ use Rattle.reviews_lib.proofs.pictured.mode_pictures.Goals as goal
 
 pub loop-mode-preserved : goal.loop-mode-preserved
 loop-mode-preserved c =
-    let r = c.args.rules.now.lexer in
-    let modes = map string_bytes c.args.rules.now.modes.items in
+    let r = c.args.rules.now in
+    let modes = c.args.rules.now.mode_names in
     let m = c.loop-mode.mode in
     let before = string_bytes c.loop-mode.text in
     let (least, (smallest, drawn)) = c.in_ok-one.ensures in

@@ -1,4 +1,4 @@
-use Rattle.std.proofs.Common.{map, string_bytes}
+use Rattle.std.proofs.Common.{string_bytes}
 use Rattle.std.proofs.lemmas.Result.{IfOk-weaker}
 use Rattle.std.specs.Prelude.{option_map}
 use Rattle.reviews_lib.specs.Pictured.{PictureAnswer}
@@ -9,7 +9,7 @@ pub returns-in_ok-picture_reply-in-Ok : goal.returns-in_ok-picture_reply-in-Ok
 returns-in_ok-picture_reply-in-Ok c = record {
   answer = IfOk-weaker c.after.result _ _
       (λ answer same. by_rules c.args.verbosity (PictureAnswer c.args.name.now (option_map (λ n. n.now) c.args.given)) c.args.name.now
-      c.args.bytes.now c.in-Ok.found.lexer.lexer (map string_bytes c.in-Ok.found.lexer.modes.items) (string_bytes c.in-Ok.found.said) c.in_ok-picture_reply-in-Ok.field-0 answer
+      c.args.bytes.now c.in-Ok.found.lexer c.in-Ok.found.lexer.mode_names (string_bytes c.in-Ok.found.said) c.in_ok-picture_reply-in-Ok.field-0 answer
       (rw c.in-Ok.is at c.in_ok-found.ensures.lexer) (rw c.in-Ok.is at c.in_ok-found.ensures.warned) c.in_ok-picture_reply-in-Ok.ensures.answer same)
       c.after.ensures.followed;
 }

@@ -1,11 +1,11 @@
-use Rattle.std.proofs.Common.{◌≡◌, ℕ, ◌+◌, List, [], ◌∷◌, ◌++◌, length, map, string_bytes, refl, sym, ap, subst, ◌∙◌, arith}
+use Rattle.std.proofs.Common.{◌≡◌, ℕ, ◌+◌, List, [], ◌∷◌, ◌++◌, length, string_bytes, refl, sym, ap, subst, ◌∙◌, arith}
 use Rattle.std.specs.Prelude.{None, filter, slice_get}
 use Rattle.std.specs.List.{range_with_len}
 use Rattle.std.specs.Str.{bytes_eq}
 use Rattle.std.proofs.lemmas.Option.{slice_get_read}
 use Rattle.lalrpop_hir.specs.Tree.{Tree}
 use Rattle.lalrpop_verdicts.specs.Picture.{dot}
-use Rattle.reports_lib.specs.ItemLines.{name_at}
+use Rattle.reports_lib.specs.PieceLines.{name_at}
 use Rattle.reviews_lib.specs.Pictured.{ArePictures, IsRulePicture, label}
 use Rattle.reviews_lib.proofs.Pictures.{others_more, passing_more}
 use Rattle.reviews_lib.proofs.pictured.rule_pictures.Goals as goal
@@ -13,8 +13,8 @@ use Rattle.reviews_lib.proofs.pictured.rule_pictures.Goals.{then-eq+in_ok-label+
 
 pub loop-index-preserved : goal.loop-index-preserved
 loop-index-preserved c =
-    let r = c.args.rules.now.lexer in
-    let modes = map string_bytes c.args.rules.now.modes.items in
+    let r = c.args.rules.now in
+    let modes = c.args.rules.now.mode_names in
     let name = c.args.name.now in
     let i = c.loop-index.index in
     let t = c.tree-item.result in
@@ -41,8 +41,8 @@ loop-index-preserved c =
 
 pub returns : goal.returns
 returns c =
-    let r = c.args.rules.now.lexer in
+    let r = c.args.rules.now in
     let trees = c.regexs-tree-items.result.now in
     let end : c.loop-index.index ≡ length trees = omega (arith, c.loop-index-test.false, c.loop-index.auto.index-end) in
-    subst (λ (n : ℕ). ArePictures (IsRulePicture r (map string_bytes c.args.rules.now.modes.items)) (filter (λ (i : ℕ). bytes_eq (name_at r.names i) c.args.name.now) (range_with_len 0 n))
+    subst (λ (n : ℕ). ArePictures (IsRulePicture r c.args.rules.now.mode_names) (filter (λ (i : ℕ). bytes_eq (name_at r.names i) c.args.name.now) (range_with_len 0 n))
     (string_bytes c.loop-index.text)) (end ∙ ap length c.regexs-tree-items.ensures.trees) c.loop-index.invariant

@@ -1,6 +1,6 @@
 use Rattle.std.proofs.Common.{◌≡◌, [], ◌∷◌, ◌++◌, codes, map, take}
 use Rattle.json.specs.Token.{begin_array, key, null, string}
-use Rattle.reports_lib.specs.ItemLines.{name_at}
+use Rattle.reports_lib.specs.PieceLines.{name_at}
 use Rattle.reviews_lib.proofs.review_json.write_unbounded.Given as goal
 
 -- the names so far

@@ -1,7 +1,7 @@
 use Rattle.std.proofs.Common.{List, ℕ, ◌++◌, ◌∙◌, ap, flat_map}
 use Rattle.std.specs.Prelude.{Option}
 use Rattle.lalrpop_hir.specs.Clashes.{Entry}
-use Rattle.reports_lib.specs.ItemLines.{mode_named}
+use Rattle.reports_lib.specs.PieceLines.{mode_named}
 use Rattle.reviews_lib.specs.ReviewLines.{clash_told}
 use Rattle.reviews_lib.proofs.ReviewLaws.{mapped_mode_more}
 use Rattle.reviews_lib.proofs.review_lines.clashes_told.Goals as goal

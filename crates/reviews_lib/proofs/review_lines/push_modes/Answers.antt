@@ -1,5 +1,5 @@
 use Rattle.std.proofs.Common.{◌++◌, ◌∙◌, ap}
-use Rattle.reports_lib.specs.ItemLines.{mode_named}
+use Rattle.reports_lib.specs.PieceLines.{mode_named}
 use Rattle.reviews_lib.specs.ReviewLines.{mode_told}
 use Rattle.reviews_lib.proofs.ReviewLaws.{mode_more}
 use Rattle.reviews_lib.proofs.review_lines.push_modes.Goals as goal

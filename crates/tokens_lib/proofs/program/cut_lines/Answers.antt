@@ -22,11 +22,11 @@ returns-in_err-say-in-Ok-clause-fails g c =
     rw (p.1, p.2)
     (lexer_unsaid c.args.verbosity (GivesWhole (g.F.Files.gives c.args.files.now))
     (λ r modes. FirstTextsAnswer (g.F.Files.gives c.args.files.now) c.args.input.now c.args.verbosity (PiecesAnswer r modes c.args.form c.args.recovers (nat_lt 1 (length (map text c.args.names.now)))) (PiecesPart r modes c.args.form c.args.recovers (nat_lt 1 (length (map text c.args.names.now)))) (map text c.args.names.now))
-    c.args.rules.now c.in-Ok.found.lexer.lexer (map string_bytes c.in-Ok.found.lexer.modes.items) (string_bytes c.in-Ok.found.said)
+    c.args.rules.now c.in-Ok.found.lexer c.in-Ok.found.lexer.mode_names (string_bytes c.in-Ok.found.said)
     (rw c.in-Ok.is at c.in_ok-found.ensures.lexer) c.args.console.now c.say.new.self
     (no_texts (g.F.Files.gives c.args.files.now) c.args.input.now c.args.verbosity
-    (PiecesAnswer c.in-Ok.found.lexer.lexer (map string_bytes c.in-Ok.found.lexer.modes.items) c.args.form c.args.recovers (nat_lt 1 (length (map text c.args.names.now))))
-    (PiecesPart c.in-Ok.found.lexer.lexer (map string_bytes c.in-Ok.found.lexer.modes.items) c.args.form c.args.recovers (nat_lt 1 (length (map text c.args.names.now)))) names) _
+    (PiecesAnswer c.in-Ok.found.lexer c.in-Ok.found.lexer.mode_names c.args.form c.args.recovers (nat_lt 1 (length (map text c.args.names.now))))
+    (PiecesPart c.in-Ok.found.lexer c.in-Ok.found.lexer.mode_names c.args.form c.args.recovers (nat_lt 1 (length (map text c.args.names.now)))) names) _
     (rw c.as_str.ensures.value at c.in_err-say-in-Ok.ensures.fails))
 
 pub returns-in_ok-say-in-Ok-clause-answer : goal.returns-in_ok-say-in-Ok-clause-answer
@@ -35,7 +35,7 @@ returns-in_ok-say-in-Ok-clause-answer g c =
     IfOk-weaker c.cut_all.result _ _
     (λ status. lexer_answers c.args.verbosity (GivesWhole (g.F.Files.gives c.args.files.now))
     (λ r modes. TextsAnswer (g.F.Files.gives c.args.files.now) c.args.input.now c.cut_all.new.input c.args.verbosity (PiecesAnswer r modes c.args.form c.args.recovers (nat_lt 1 (length (map text c.args.names.now)))) (PiecesPart r modes c.args.form c.args.recovers (nat_lt 1 (length (map text c.args.names.now)))) (map text c.args.names.now))
-    c.args.rules.now c.in-Ok.found.lexer.lexer (map string_bytes c.in-Ok.found.lexer.modes.items) (string_bytes c.in-Ok.found.said)
+    c.args.rules.now c.in-Ok.found.lexer c.in-Ok.found.lexer.mode_names (string_bytes c.in-Ok.found.said)
     (rw c.in-Ok.is at c.in_ok-found.ensures.lexer) c.args.console.now c.say.new.self c.cut_all.new.console status
     (rw c.as_str.ensures.value at c.in_ok-say-in-Ok.ensures.said))
     (rw c.are_several.ensures at c.cut_all.ensures.answer)
@@ -46,11 +46,11 @@ returns-in_ok-say-in-Ok-clause-fails g c =
     IfErr-weaker c.cut_all.result _ _
     (λ e. lexer_fails c.args.verbosity (GivesWhole (g.F.Files.gives c.args.files.now))
     (λ r modes. FirstTextsAnswer (g.F.Files.gives c.args.files.now) c.args.input.now c.args.verbosity (PiecesAnswer r modes c.args.form c.args.recovers (nat_lt 1 (length (map text c.args.names.now)))) (PiecesPart r modes c.args.form c.args.recovers (nat_lt 1 (length (map text c.args.names.now)))) (map text c.args.names.now))
-    c.args.rules.now c.in-Ok.found.lexer.lexer (map string_bytes c.in-Ok.found.lexer.modes.items) (string_bytes c.in-Ok.found.said)
+    c.args.rules.now c.in-Ok.found.lexer c.in-Ok.found.lexer.mode_names (string_bytes c.in-Ok.found.said)
     (rw c.in-Ok.is at c.in_ok-found.ensures.lexer) c.args.console.now c.say.new.self
     (no_texts (g.F.Files.gives c.args.files.now) c.args.input.now c.args.verbosity
-    (PiecesAnswer c.in-Ok.found.lexer.lexer (map string_bytes c.in-Ok.found.lexer.modes.items) c.args.form c.args.recovers (nat_lt 1 (length (map text c.args.names.now))))
-    (PiecesPart c.in-Ok.found.lexer.lexer (map string_bytes c.in-Ok.found.lexer.modes.items) c.args.form c.args.recovers (nat_lt 1 (length (map text c.args.names.now)))) names) c.cut_all.new.console e
+    (PiecesAnswer c.in-Ok.found.lexer c.in-Ok.found.lexer.mode_names c.args.form c.args.recovers (nat_lt 1 (length (map text c.args.names.now))))
+    (PiecesPart c.in-Ok.found.lexer c.in-Ok.found.lexer.mode_names c.args.form c.args.recovers (nat_lt 1 (length (map text c.args.names.now)))) names) c.cut_all.new.console e
     (rw c.as_str.ensures.value at c.in_ok-say-in-Ok.ensures.said))
     (rw c.are_several.ensures at c.cut_all.ensures.fails)
 

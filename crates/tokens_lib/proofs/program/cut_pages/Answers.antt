@@ -21,11 +21,11 @@ returns-in_err-say-in-Ok-clause-fails g c =
     rw (p.1, p.2)
     (lexer_unsaid c.args.verbosity (GivesWhole (g.F.Files.gives c.args.files.now))
     (λ r modes. FirstTextsAnswer (g.F.Files.gives c.args.files.now) c.args.input.now c.args.verbosity (PageAnswer r modes c.args.markup) (PagePart r modes c.args.markup) (map text c.args.names.now))
-    c.args.rules.now c.in-Ok.found.lexer.lexer (map string_bytes c.in-Ok.found.lexer.modes.items) (string_bytes c.in-Ok.found.said)
+    c.args.rules.now c.in-Ok.found.lexer c.in-Ok.found.lexer.mode_names (string_bytes c.in-Ok.found.said)
     (rw c.in-Ok.is at c.in_ok-found.ensures.lexer) c.args.console.now c.say.new.self
     (no_texts (g.F.Files.gives c.args.files.now) c.args.input.now c.args.verbosity
-    (PageAnswer c.in-Ok.found.lexer.lexer (map string_bytes c.in-Ok.found.lexer.modes.items) c.args.markup)
-    (PagePart c.in-Ok.found.lexer.lexer (map string_bytes c.in-Ok.found.lexer.modes.items) c.args.markup) names) _
+    (PageAnswer c.in-Ok.found.lexer c.in-Ok.found.lexer.mode_names c.args.markup)
+    (PagePart c.in-Ok.found.lexer c.in-Ok.found.lexer.mode_names c.args.markup) names) _
     (rw c.as_str.ensures.value at c.in_err-say-in-Ok.ensures.fails))
 
 pub returns-in_ok-say-in-Ok-clause-answer : goal.returns-in_ok-say-in-Ok-clause-answer
@@ -34,7 +34,7 @@ returns-in_ok-say-in-Ok-clause-answer g c =
     IfOk-weaker c.cut_all.result _ _
     (λ status. lexer_answers c.args.verbosity (GivesWhole (g.F.Files.gives c.args.files.now))
     (λ r modes. TextsAnswer (g.F.Files.gives c.args.files.now) c.args.input.now c.cut_all.new.input c.args.verbosity (PageAnswer r modes c.args.markup) (PagePart r modes c.args.markup) (map text c.args.names.now))
-    c.args.rules.now c.in-Ok.found.lexer.lexer (map string_bytes c.in-Ok.found.lexer.modes.items) (string_bytes c.in-Ok.found.said)
+    c.args.rules.now c.in-Ok.found.lexer c.in-Ok.found.lexer.mode_names (string_bytes c.in-Ok.found.said)
     (rw c.in-Ok.is at c.in_ok-found.ensures.lexer) c.args.console.now c.say.new.self c.cut_all.new.console status
     (rw c.as_str.ensures.value at c.in_ok-say-in-Ok.ensures.said))
     (c.cut_all.ensures.answer)
@@ -45,11 +45,11 @@ returns-in_ok-say-in-Ok-clause-fails g c =
     IfErr-weaker c.cut_all.result _ _
     (λ e. lexer_fails c.args.verbosity (GivesWhole (g.F.Files.gives c.args.files.now))
     (λ r modes. FirstTextsAnswer (g.F.Files.gives c.args.files.now) c.args.input.now c.args.verbosity (PageAnswer r modes c.args.markup) (PagePart r modes c.args.markup) (map text c.args.names.now))
-    c.args.rules.now c.in-Ok.found.lexer.lexer (map string_bytes c.in-Ok.found.lexer.modes.items) (string_bytes c.in-Ok.found.said)
+    c.args.rules.now c.in-Ok.found.lexer c.in-Ok.found.lexer.mode_names (string_bytes c.in-Ok.found.said)
     (rw c.in-Ok.is at c.in_ok-found.ensures.lexer) c.args.console.now c.say.new.self
     (no_texts (g.F.Files.gives c.args.files.now) c.args.input.now c.args.verbosity
-    (PageAnswer c.in-Ok.found.lexer.lexer (map string_bytes c.in-Ok.found.lexer.modes.items) c.args.markup)
-    (PagePart c.in-Ok.found.lexer.lexer (map string_bytes c.in-Ok.found.lexer.modes.items) c.args.markup) names) c.cut_all.new.console e
+    (PageAnswer c.in-Ok.found.lexer c.in-Ok.found.lexer.mode_names c.args.markup)
+    (PagePart c.in-Ok.found.lexer c.in-Ok.found.lexer.mode_names c.args.markup) names) c.cut_all.new.console e
     (rw c.as_str.ensures.value at c.in_ok-say-in-Ok.ensures.said))
     (c.cut_all.ensures.fails)
 

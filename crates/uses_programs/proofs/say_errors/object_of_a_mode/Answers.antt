@@ -8,7 +8,7 @@ use Rattle.lalrpop_rule_file.specs.Warnings.{ComesBefore}
 use Rattle.lalrpop_rule_file.specs.declared.file.RuleFile.{RuleFile}
 use Rattle.lalrpop_rule_file.specs.declared.warning.Warning.{Warning}
 use Rattle.lalrpop_rule_file.specs.declared.warning.Warning.TheVariants.{ModeNotEntered}
-use Rattle.tokens_lib.specs.ItemLines.{string_member, object_line}
+use Rattle.tokens_lib.specs.PieceLines.{string_member, object_line}
 use Rattle.tokens_lib.specs.ModePlace.{section_place}
 use Rattle.tokens_lib.specs.Warned.{AreWarnings, SaysWarnings, mode_name, warned_members, warning_members, warning_text}
 use Rattle.lexdfa_lib.specs.declared.layout.LineForm.TheVariants.{Json}

@@ -12,7 +12,7 @@ returns-clause-same c = λ whole items end are.
     let numbers = c.in_ok-numbers.ensures.numbers in
     let there = subst (λ (text : List ℕ). ArePiecesFrom rules text 0 start items end) (sym c.as_bytes.ensures.value) are in
     let size = c.in_ok-all.ensures.whole rules numbers items end there whole in
-    c.in_ok-all.ensures.items rules numbers items end there
+    c.in_ok-all.ensures.of_rules rules numbers items end there
     ∙ ap (λ front. map (numbered c.in_ok-numbers.numbers.kinds) front) (take_all (length c.in_ok-all.all.pieces.items) items (omega (arith, size)))
     ∙ ap (λ kinds. map (numbered kinds) items) numbers.kinds
 

@@ -2,9 +2,9 @@ use Rattle.std.proofs.Common.{refl}
 use Rattle.std.specs.Prelude.{length, string_bytes}
 use Rattle.bajofeki_rules.specs.Stack.{start}
 use Rattle.bajofeki.specs.Internal.Blocks.{pieces_in}
-use Rattle.bajofeki.specs.Internal.Items.{items_from}
+use Rattle.bajofeki.specs.Internal.KeptPieces.{items_from}
 use Rattle.bajofeki.proofs.BlockLaws.{blocks_kept}
-use Rattle.bajofeki.proofs.Items.{are_pieces}
+use Rattle.bajofeki.proofs.KeptPieces.{are_pieces}
 use Rattle.bajofeki.proofs.document.Document.pieces.Goals as goal
 
 pub returns-clause-exist : goal.returns-clause-exist

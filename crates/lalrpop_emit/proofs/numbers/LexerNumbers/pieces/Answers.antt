@@ -9,8 +9,8 @@ returns-clause-only c =
     IfOk-weaker c.all_pieces.result _ _
     (λ all are r is others is_whole too. byte_pieces-unique r n.kinds 1024 c.args.text.now is_whole all.is_whole 0 start others all.pieces.items too (are r is)) c.all_pieces.ensures.pieces
 
-pub returns-clause-items : goal.returns-clause-items
-returns-clause-items c =
+pub returns-clause-of_rules : goal.returns-clause-of_rules
+returns-clause-of_rules c =
     let n = c.args.self.now in
     IfOk-weaker c.all_pieces.result _ _
     (λ all are r is items end too.

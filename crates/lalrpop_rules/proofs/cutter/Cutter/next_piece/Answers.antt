@@ -16,8 +16,8 @@ invariant_of-self c =
     let i = c.self.inside in
     let h = c.self.invariant in
     let old = c.index_mut.result.now in
-    let new = c.next_item.new.self in
-    let x = c.in-Some.item in
+    let new = c.next_piece.new.self in
+    let x = c.in-Some.piece in
     let is : slice_get i.cuts.items i.mode ≡ Some old = slice_get_read i.cuts.items (length i.cuts.items) i.mode old refl (omega (arith, h.cuts.all, h.there)) c.index_mut.ensures.value in
     let within : i.mode < length i.cuts.items = omega (arith, h.cuts.all, h.there) in
     let piece : IsPiece (trees_in i.lexer.now i.mode) i.lexer.now.precedences i.lexer.now.skips i.text.now i.at x =
@@ -35,8 +35,8 @@ returns-in-Some-clause-cuts c =
     let i = c.self.inside in
     let h = c.self.invariant in
     let old = c.index_mut.result.now in
-    let new = c.next_item.new.self in
-    let x = c.in-Some.item in
+    let new = c.next_piece.new.self in
+    let x = c.in-Some.piece in
     let is : slice_get i.cuts.items i.mode ≡ Some old = slice_get_read i.cuts.items (length i.cuts.items) i.mode old refl (omega (arith, h.cuts.all, h.there)) c.index_mut.ensures.value in
     let within : i.mode < length i.cuts.items = omega (arith, h.cuts.all, h.there) in
     let piece : IsPiece (trees_in i.lexer.now i.mode) i.lexer.now.precedences i.lexer.now.skips i.text.now i.at x =
@@ -49,8 +49,8 @@ returns-in-Some-clause-sought c =
     let i = c.self.inside in
     let h = c.self.invariant in
     let old = c.index_mut.result.now in
-    let new = c.next_item.new.self in
-    let x = c.in-Some.item in
+    let new = c.next_piece.new.self in
+    let x = c.in-Some.piece in
     let is : slice_get i.cuts.items i.mode ≡ Some old = slice_get_read i.cuts.items (length i.cuts.items) i.mode old refl (omega (arith, h.cuts.all, h.there)) c.index_mut.ensures.value in
     let within : i.mode < length i.cuts.items = omega (arith, h.cuts.all, h.there) in
     rw c.slice.ensures.slice
@@ -63,7 +63,7 @@ returns-in-None-clause-cuts c =
     let old = c.index_mut.result.now in
     let is : slice_get i.cuts.items i.mode ≡ Some old =
     slice_get_read i.cuts.items (length i.cuts.items) i.mode old refl (omega (arith, h.cuts.all, h.there)) c.index_mut.ensures.value in
-    let same : slice_set i.cuts.items i.mode c.next_item.new.self ≡ i.cuts.items =
+    let same : slice_set i.cuts.items i.mode c.next_piece.new.self ≡ i.cuts.items =
     ap (λ d. slice_set i.cuts.items i.mode d) c.in-None.ensures.gives.0 ∙ set_same i.cuts.items i.mode old is in
     let there : Cutting = record { rules = i.lexer.now; text = i.text.now; at = i.at; mode = i.mode; memo = memo_in i.mode i.cuts.items; steps = 0 } in
     let end : drop i.at i.text.now ≡ [] = rw ((h.cuts.each i.mode old is).same_text, h.cuts.here old is) at c.in-None.ensures.gives.1 in
