@@ -1,6 +1,6 @@
 //! A lexer of rules with modes.
 
-ghost use Rattle.std.specs.Prelude.{◌≡◌, ◌<◌, ◌≤◌, ◌+◌, ◌*◌, ◌++◌, ◌↔◌, [], ℕ, List, length, option_map, slice_get, Some, Ok, map, string_bytes, false, IfOk, OnOk, IfErr, IfSome, IfNone, IsSome, IsTrue};
+ghost use Rattle.std.specs.Prelude.{◌≡◌, ◌<◌, ◌≤◌, ◌+◌, ◌*◌, ◌++◌, ◌∷◌, ◌↔◌, [], ℕ, List, codes, length, option_map, slice_get, Some, Ok, map, string_bytes, false, IfOk, OnOk, IfErr, IfSome, IfNone, IsSome, IsTrue};
 ghost use Rattle.std.specs.Str.{chars};
 ghost use Rattle.lalrpop_rules.specs.Modes.{trees_in, ArePiecesFrom, NoModeClash};
 ghost use Rattle.bajofeki_rules.specs.EnteredModes.{OneLeadsInto};
@@ -188,7 +188,7 @@ impl RuleLexer {
         })
     }
 
-    /// Builds the lexer of rules without modes: all of them are in mode 0, the only one, and have no actions.
+    /// Builds the lexer of rules without modes: all of them are in mode 0, the only one, INITIAL, and have no actions.
     ///
     /// ```
     /// use lalrpop_rules::{Rule, RuleLexer};
@@ -203,6 +203,7 @@ impl RuleLexer {
     pub fn from_rules(alloc: Global, rules: &[Rule]) -> Result<RuleLexer, RulesError>
         ensures rules { IfOk result (λ lexer. (qs : List RuleValue)
             × (AreInOneMode rules.now qs × AreModeRules qs 1 lexer)) }
+        ensures modes { IfOk result (λ lexer. lexer.mode_names ≡ codes "INITIAL" ∷ []) }
         ensures no_clash { IfOk result NoModeClash }
         ensures error { IfErr result (λ e. (qs : List RuleValue)
             × (AreInOneMode rules.now qs × IsRulesError qs 1 e)) }

@@ -1,5 +1,5 @@
 //! A text is cut by rules, with modes or without.
-ghost use Rattle.std.specs.Prelude.{◌≡◌, ◌≤◌, ◌<◌, ◌+◌, ◌*◌, ◌++◌, [], ℕ, List, Bool, length, map, Option, Some, true, IfOk, IfErr, IfSome, option_map, slice_get};
+ghost use Rattle.std.specs.Prelude.{◌≡◌, ◌≤◌, ◌<◌, ◌+◌, ◌*◌, ◌++◌, ◌∷◌, [], ℕ, List, Bool, codes, length, map, Option, Some, true, IfOk, IfErr, IfSome, option_map, slice_get};
 ghost use Rattle.std.specs.Str.{chars};
 ghost use Rattle.lalrpop_lexer.specs.Rules.{Rules};
 ghost use Rattle.bajofeki_rules.specs.EnteredModes.{OneLeadsInto};
@@ -17,14 +17,15 @@ use lalrpop_lexer::lexer::dfa::NfaIndex;
 use lalrpop_rules::{Action, ModeRule, Piece, Pieces, Rule, RuleLexer, RulesError, mode_clashes};
 use std::alloc::{AllocError, Global};
 
-// Needs lalrpop_rules::RuleLexer::from_rules: rules, no_clash, error.
-/// The lexer of rules without modes. It has one mode, and no rule clashes with another.
+// Needs lalrpop_rules::RuleLexer::from_rules: rules, modes, no_clash, error.
+/// The lexer of rules without modes. It has one mode, INITIAL, and no rule clashes with another.
 ///
 /// # Errors
 ///
 /// What is wrong with the rules.
 pub fn lexer_of(alloc: Global, rules: &[Rule]) -> Result<RuleLexer, RulesError>
     ensures mode { IfOk result (λ lexer. lexer.modes ≡ 1) }
+    ensures modes { IfOk result (λ lexer. lexer.mode_names ≡ codes "INITIAL" ∷ []) }
     ensures names { IfOk result (λ lexer. lexer.names ≡ names_of rules.now) }
     ensures no_clash { IfOk result NoModeClash }
     ensures error { IfErr result (λ e. (qs : List RuleValue)
