@@ -26,8 +26,8 @@ pub enum FileError {
     /// A line, a part or an action of the file is wrong, or memory was refused: the error says where, and why.
     #[error("{0}")]
     File(RuleFileError),
-    /// The rules make no lexer: the error says why, and `place` where the text of its `rule` begins; of a clash, that of the
-    /// later rule. It is `None` if the error names no rule, as one for memory does.
+    /// The rules make no lexer: the error says why, and `place` where the text of its `rule` begins, in a clash the later of the
+    /// two. It is `None` if the error names no rule, as one for memory does.
     #[error("{error}")]
     Rules {
         place: Option<Position>,
